@@ -1,4 +1,4 @@
--- Exits that leave no lock held need no actuals.
+-- Exits without held locks need no actuals.
 use Rattle.std.proofs.Common.{◌≡◌, ◌∙◌, ℕ, false, List, [], ◌∷◌, Option, length, refl, ap, arith, ltb-false}
 use Rattle.std.specs.Prelude.{option_map, option_and_then}
 use Rattle.std.specs.List.{list_any}

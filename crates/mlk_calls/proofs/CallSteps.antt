@@ -1,4 +1,4 @@
--- The call of what has a certificate.
+-- The call of a callee with a certificate.
 use Rattle.std.proofs.Common.{◌≡◌, List, length, Some, ap, subst, ◌∙◌}
 use Rattle.std.specs.Prelude.{Err}
 use Rattle.mlk_text.specs.declared.failure.Failure.{Failure}
@@ -13,7 +13,7 @@ use Rattle.mlk_walk_state.specs.States.{last_captured, without_last}
 use Rattle.mlk_walk_state.specs.Scope.{Scope}
 use Rattle.mlk_calls.specs.Calls.{Called, called, changed_by_call, call_changing, call_known, at_call}
 
--- what is wrong with it
+-- the fault of the call
 pub at_refused : (sc : Scope) (how : Calling) (callee : Callee) (given : List ActualTree) (s : State) (target : Called) (failure : Failure Code) (code : Code)
     → called sc callee ≡ Some target
     → FailsAs failure (call_changing sc how target (changed_by_call target.summary given) (last_captured (length given) s) (without_last (length given) s))

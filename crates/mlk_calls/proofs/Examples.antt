@@ -1,4 +1,4 @@
--- Worked examples: what is asked of one state, by computation.
+-- Worked examples: calls in one state, shown by computation.
 use Rattle.std.proofs.Common.{◌≡◌, ℕ, List, [], ◌∷◌, refl}
 use Rattle.std.specs.Prelude.{codes, Option, Some, None, Bool, true, false, Result, Ok, Err}
 use Rattle.std.specs.Fmt.{digits}
@@ -133,7 +133,7 @@ all_are_released : release_all (scope [] None true) (state (of_x ∷ []) [] []) 
 unfolding have is_among spares same_term byte_text digits
 all_are_released = refl
 
--- calls of `F(Y)` that needs `^X(Y)`, and of one that takes it
+-- calls of an `F(Y)` that needs `^X(Y)`, and of one that acquires it
 abbrev exit : List LockTerm → ExitCase
 exit held = record { test = Any; held = held; kept = [] }
 

@@ -1,4 +1,4 @@
--- What a change of locals makes of a state. Standard: SET, KILL, READ, FOR, MERGE; that no held lock's name may change,
+-- The effect of a change of locals on a state. Standard: SET, KILL, READ, FOR, MERGE; that no name in a held lock may change,
 -- and which names a summary lists, are this project's own choice.
 use Rattle.std.specs.Prelude.{not, if◌then◌else◌, List, map, filter, Option, Some, None, Result, Ok, Err}
 use Rattle.std.specs.List.{list_all}
@@ -13,14 +13,14 @@ use Rattle.mlk_walk_state.specs.Names.{have, may_change, without}
 use Rattle.mlk_walk_state.specs.Terms.{mention}
 use Rattle.mlk_walk_state.specs.Scope.{Scope}
 
--- a captured symbol that mentions a changed name is unknown from then on
+-- a captured symbol that mentions a changed name becomes unknown
 abbrev pub marked : List NameSet → Sym → Sym
 marked changed (Const value) = Const value
 marked changed (Local name) = if have changed name then Unknown else Local name
 marked changed Job = Job
 marked changed Unknown = Unknown
 
--- the changed names lose the values of the call's begin
+-- the changed names are no longer kept
 abbrev pub without_kept : List NameSet → Case → Case
 without_kept changed c = record c { kept = without changed c.kept }
 
@@ -29,8 +29,7 @@ abbrev pub changed_state : List NameSet → State → State
 changed_state changed s =
     record { case = without_kept changed s.case; captured = map (marked changed) s.captured }
 
--- What is wrong with a change of names: 705 where a held term mentions one, 712 where some of them are neither own nor
--- listed.
+-- The fault of a change of names: 705 if a held term mentions one, 712 if some of them are neither own nor listed.
 abbrev pub change_fault : Scope → List NameSet → State → Option Code
 change_fault sc changed s =
     if mention changed s.case.held then Some Pinned
@@ -44,6 +43,6 @@ unless (Some code) after = Err code
 abbrev pub change : Scope → List NameSet → State → Result State Code
 change sc changed s = unless (change_fault sc changed s) (Ok (changed_state changed s))
 
--- the names that the walked entry's summary lacks for a change: those that are neither own nor listed
+-- the names that the walked entry's summary would have to list for a change: those that are neither own nor listed
 abbrev pub short_names : Scope → List NameSet → State → List NameSet
 short_names sc changed s = filter (λ n. not (may_change s.case.own sc.summary.mods n)) changed

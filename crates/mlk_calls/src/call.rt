@@ -1,4 +1,4 @@
-// Calls: the callee's summary, with the actuals put in, stands for all that it does.
+// Calls: the callee's summary, translated by the actuals, describes everything that the callee does.
 
 ghost use Rattle.std.specs.Prelude.{◌≡◌, ◌++◌, ◌-◌, IfOk, OnOk, Some, map, flat_map, length, take, option_map, option_copied};
 ghost use Rattle.mlk_text.specs.Failures.{Answers};
@@ -31,7 +31,7 @@ use std::alloc::{AllocError, Global};
 /// How a callee is called.
 #[derive(Clone, Copy, Debug, Drop, PartialEq, Eq)]
 pub enum Calling {
-    /// by DO, which leaves `$TEST` as the callee does
+    /// by DO, which takes over the callee's `$TEST`
     ByDo,
     /// as a function, which keeps `$TEST`
     Extrinsic,
@@ -56,7 +56,7 @@ fn formals_of<'a>(line: Option<&'a Line>) -> &'a [Name]
     }
 }
 
-// What is known of a callee that has a certificate.
+// What is known of a callee, or `None` if it is not certified.
 pub(crate) fn called<'a>(scope: &Scope<'a>, callee: &Callee) -> Option<KnownCallee<'a>>
     ensures { option_map called_of result ≡ called (scope_of scope.now) callee.now }
 {
@@ -66,7 +66,7 @@ pub(crate) fn called<'a>(scope: &Scope<'a>, callee: &Callee) -> Option<KnownCall
     Some(KnownCallee { formals, summary })
 }
 
-// The name that an actual passes by reference.
+// Adds the name that an actual passes by reference.
 fn add_lent(names: &mut Vec<NameSet>, actual: &Actual) -> Result<(), AllocError>
     ensures { OnOk result (names.new.items ≡ names.old.items ++ lent_set (actual_of actual.now)) }
 {
@@ -125,7 +125,7 @@ fn put_term(
     Ok(found)
 }
 
-// The callee's terms as its caller has them.
+// Translates the callee's terms for its caller.
 pub(crate) fn put_terms(
     alloc: Global,
     formals: &[Name],
@@ -156,14 +156,14 @@ fn ranks_below(low: Option<u32>, rank: Option<u32>) -> bool
     }
 }
 
-// Whether each term has a rank below this one.
+// Whether each of `terms` has a rank below `low`.
 fn all_below(rules: &Rules, low: Option<u32>, terms: &[LockTerm]) -> bool
     ensures { result ≡ all_below rules.now.families low terms.now }
 {
     terms.iter().all(|term| ranks_below(low, rank(rules, term)))
 }
 
-// What is wrong with the callee's claims and its release of all locks.
+// The fault of the callee's claims and of its release of all locks, or `None`.
 fn ranks_fault(scope: &Scope, summary: &Summary, aside: &[LockTerm]) -> Option<Code>
     ensures { result ≡ ranks_fault (scope_of scope.now) summary.now aside.now }
 {
@@ -197,7 +197,7 @@ fn call_fault(
     }
 }
 
-// What is held but for the callee's needs.
+// The held terms without the callee's needs.
 fn set_aside(
     alloc: Global,
     target: &KnownCallee,
@@ -229,7 +229,7 @@ fn test_after(how: Calling, before: Test, after: Test) -> Test
     }
 }
 
-// The terms set aside and these.
+// The terms set aside together with `terms`.
 fn held_after(
     alloc: Global,
     aside: &Shared<LockTerm>,
@@ -293,7 +293,7 @@ fn leave_all(
     Ok(Some(found))
 }
 
-// The state after a change, without the last so many captured symbols.
+// The state after a change, without the last `count` captured symbols.
 fn changed_before(
     alloc: Global,
     names: &[NameSet],
@@ -322,7 +322,7 @@ fn some_hold(exits: &[ExitCase]) -> bool
     exits.iter().any(|exit| holds_some(exit))
 }
 
-// The actuals as they are at the call's end, for the terms of these exits. Mostly there are no terms, and then none is needed.
+// The actuals at the end of the call, for the terms of `exits`. Usually there are no terms, and then none is needed.
 fn given_at_end(
     alloc: Global,
     names: &[NameSet],
@@ -369,7 +369,7 @@ fn after_call(
     Ok(states)
 }
 
-// The call of a certified entry that may change these names.
+// Calls a certified entry that may change `names`.
 fn call_changing(
     alloc: Global,
     scope: &Scope,
@@ -391,7 +391,7 @@ fn call_changing(
     Ok(states)
 }
 
-// The call of a certified entry with this list of actuals.
+// Calls a certified entry with the given actual list.
 fn call_target(
     alloc: Global,
     scope: &Scope,
@@ -417,18 +417,18 @@ fn call_target(
     Ok(states)
 }
 
-/// What a call with this list of actuals, whose symbols were captured last, makes of a state: one state for each exit of
-/// the callee. An actual whose symbol was not captured is unknown. A DO takes the exit's `$TEST`, a function keeps it;
-/// new names and saved tests stay.
+/// The effect on a state of a call with the actual list `given`, whose symbols were captured last: one state for each exit of the
+/// callee. An actual whose symbol was not captured is unknown. A DO takes over the exit's `$TEST`, a function keeps it; own names
+/// and saved tests are kept.
 ///
-/// The callee's needs are taken from what is held, and the rest is set aside. What it may change, by its summary or by
-/// reference, is asked of all that is held, and of the walked entry's summary; its claims rank above what is set aside.
-/// Captured symbols that mention what it may change are unknown then, the actuals too.
+/// The callee's needs are taken from the held terms, and the rest is set aside. The names that it may change, by its summary or
+/// by reference, are checked against all held terms and against the walked entry's summary; its claims must rank above the terms
+/// set aside. Captured symbols that mention a name that it may change become unknown, those of the actuals too.
 ///
-/// Refused by the first of: no certificate (713); a need that would have an unknown subscript (715) or is not held (711);
-/// a change of what a held name mentions (705) or that is not listed (712); the order of ranks (708) or a least rank that
-/// is not listed (712); a release of all locks where some are set aside (719) or that is not listed (712); an exit that
-/// would have an unknown subscript (715). One refused exit refuses all.
+/// Refused by the first of: no certificate (713); a need that would have an unknown subscript (715) or is not held (711); a
+/// change of a name that a held term mentions (705) or that is not listed (712); the order of ranks (708) or a least rank that is
+/// not listed (712); a release of all locks while some are set aside (719) or that is not listed (712); an exit that would have
+/// an unknown subscript (715). One refused exit refuses all.
 pub fn at_call(
     alloc: Global,
     scope: &Scope,
@@ -453,8 +453,8 @@ pub fn at_call(
     }
 }
 
-/// What JOB with this list of actuals, whose symbols were captured last, makes of a state. It is refused where the entry
-/// is not declared (713).
+/// The effect on a state of JOB with the actual list `given`, whose symbols were captured last. Refused if the entry is not
+/// declared (713).
 pub fn at_job(
     scope: &Scope,
     callee: &Callee,

@@ -24,7 +24,7 @@ fn mark(changed: &[NameSet], symbol: &Sym) -> Result<Sym, AllocError>
     copy_of(symbol)
 }
 
-/// The symbols, of which those that mention a changed name are unknown.
+/// The symbols, in which those that mention a changed name are replaced by unknown.
 pub(crate) fn mark_all(
     alloc: Global,
     changed: &[NameSet],
@@ -39,7 +39,7 @@ pub(crate) fn mark_all(
     Ok(found)
 }
 
-/// The case after a change of names: they lose the values of the call's begin.
+/// The case after a change of names, which are then not kept.
 #[inline(always)]
 pub(crate) fn changed_case(
     alloc: Global,
@@ -52,8 +52,8 @@ pub(crate) fn changed_case(
     Ok(case)
 }
 
-/// The state after a change of names: they lose the values of the call's begin, and captured symbols that mention them
-/// are unknown. It asks nothing: [`change`] does.
+/// The state after a change of names: they are not kept, and captured symbols that mention them are unknown. It checks nothing:
+/// [`change`] does.
 #[inline(always)]
 pub fn changed(alloc: Global, names: &[NameSet], state: State) -> Result<State, AllocError>
     ensures { IfOk result (λ s. s ≡ changed_state names.now state) }
@@ -73,7 +73,7 @@ fn all_may_change(scope: &Scope, state: &State, names: &[NameSet]) -> bool
     names.iter().all(|set| may_change(own, mods, set))
 }
 
-/// What is wrong with a change of names. It takes no memory.
+/// The fault of a change of names, or `None`. Allocates nothing.
 pub(crate) fn change_fault(scope: &Scope, names: &[NameSet], state: &State) -> Option<Code>
     ensures { result ≡ change_fault (scope_of scope.now) names.now state.now }
 {
@@ -86,14 +86,14 @@ pub(crate) fn change_fault(scope: &Scope, names: &[NameSet], state: &State) -> O
     None
 }
 
-/// Whether names may change in a state, so that [`change`] is not refused. It takes no memory.
+/// Whether `names` may change in a state, so that [`change`] is not refused. Allocates nothing.
 pub fn is_allowed(scope: &Scope, names: &[NameSet], state: &State) -> bool
     ensures { result ≡ is_none (change_fault (scope_of scope.now) names.now state.now) }
 {
     change_fault(scope, names, state).is_none()
 }
 
-/// The same as [`changed`], in place.
+/// [`changed`], in place.
 pub fn change_in_place(
     alloc: Global,
     names: &[NameSet],
@@ -110,8 +110,8 @@ pub fn change_in_place(
     Ok(())
 }
 
-/// What a change of names makes of a state. It is refused by the first of: a held term mentions one of them (705); one is
-/// neither new since the call began nor in the walked entry's summary (712).
+/// The effect of a change of names on a state. Refused by the first of: a held term mentions one of them (705); one is neither
+/// own nor in the walked entry's summary (712).
 pub fn change(
     alloc: Global,
     scope: &Scope,
@@ -126,8 +126,8 @@ pub fn change(
     Ok(changed(alloc, names, state)?)
 }
 
-/// Those of the names whose change the walked entry's summary would have to list, since they are neither listed there nor
-/// new since the call began: what a 712 of a change wants.
+/// Those of `names` that the walked entry's summary would have to list as changed, since they are neither listed there nor own:
+/// the correction for a 712 of a change.
 pub fn short_names(
     alloc: Global,
     scope: &Scope,

@@ -13,7 +13,7 @@ use mlk_text::{Code, Failure};
 use mlk_walk_state::{RefusedState, Scope, State, copies, is_within, put_all, rank, take_one};
 use std::alloc::{AllocError, Global};
 
-/// Whether the second of two least ranks is not below the first; none is above every rank.
+/// Whether the least rank `other` is not below `low`; `None` is above every rank.
 pub(crate) fn is_low_enough(low: Option<u32>, other: Option<u32>) -> bool
     ensures { result ≡ is_low_enough low other }
 {
@@ -24,14 +24,14 @@ pub(crate) fn is_low_enough(low: Option<u32>, other: Option<u32>) -> bool
     }
 }
 
-// What the ranks of terms come to.
+// The highest rank of terms.
 #[derive(Clone, Copy, Drop)]
 enum Highest {
-    // there is no term
+    // there are no terms
     Nothing,
-    // each has a rank, and this is the greatest
+    // each has a rank, and this is the highest
     Ranked(u32),
-    // one has none
+    // one has no rank
     Unranked,
 }
 
@@ -60,7 +60,7 @@ fn highest_of(rules: &Rules, held: &[LockTerm]) -> Highest
     highest
 }
 
-// Whether a rank is above all.
+// Whether `rank` is above all ranks of the terms.
 fn is_above(highest: Highest, rank: u32) -> bool
     ensures { result ≡ is_above highest rank }
 {
@@ -115,11 +115,12 @@ fn claim_fault(
     }
 }
 
-/// Whether a state may claim these terms at once, for so long at most or until they are granted; else which of them,
-/// counted from 0, is the first that is refused, and why. It takes no memory.
+/// Checks whether a state may claim `terms` at once, with a timeout if `timed`. The error is the index of the first that is
+/// refused, and why. Allocates nothing.
 ///
-/// Each is refused by the first of: no family has it, timed or not (707); and where it is not timed and not at or below a
-/// held one: a held term has no rank or none below its own (708), the walked entry's least rank is above its own (712).
+/// A term is refused by the first of: it is in no family, timed or not (707); and if the claim is not timed and no held term is
+/// at or above it: a held term has no rank, or one that is not below its own (708), or the walked entry's least rank is above its
+/// own (712).
 pub fn may_take(
     scope: &Scope,
     state: &State,
@@ -143,8 +144,8 @@ pub fn may_take(
     Ok(())
 }
 
-/// The state once these terms are granted: they are held too. It asks nothing: [`may_take`] does. It takes time for each
-/// pair of terms, so a caller that wants no state with more than so many held terms compares the lengths first.
+/// The state once `terms` are granted: they are held too. It checks nothing: [`may_take`] does. Its time grows with the number
+/// of pairs of terms, so a caller that limits the number of held terms compares the lengths first.
 pub fn claimed(alloc: Global, terms: &[LockTerm], state: State) -> Result<State, AllocError>
     ensures { IfOk result (λ s. s ≡ held_too terms.now state) }
 {
@@ -152,7 +153,7 @@ pub fn claimed(alloc: Global, terms: &[LockTerm], state: State) -> Result<State,
     Ok(state.holding(Shared::new(alloc, held)?))
 }
 
-/// The release of all locks. It is refused where the walked entry's summary does not say that it may drop them (712).
+/// Releases all locks. Refused if the walked entry's summary does not say that it may drop them (712).
 pub fn release_all(
     alloc: Global,
     scope: &Scope,
@@ -169,7 +170,7 @@ pub fn release_all(
     Ok(state.holding(Shared::new(alloc, Vec::new(alloc))?))
 }
 
-/// The release of a term: it is held once less. It is refused where it is not held (706).
+/// Releases `term` once. Refused if it is not held (706).
 pub fn release_one(
     alloc: Global,
     term: &LockTerm,

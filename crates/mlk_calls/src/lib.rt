@@ -1,4 +1,4 @@
-//! What is asked of one state of a walk where names change, locks are claimed or released, and calls are made.
+//! Changes of names, claims, releases and calls, on one state of a walk.
 #![tactic(auto)]
 
 mod call;

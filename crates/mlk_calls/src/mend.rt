@@ -1,4 +1,4 @@
-// What would mend a refused call.
+// Corrections for a refused call.
 
 ghost use Rattle.std.specs.Prelude.{◌≡◌, IfOk, Some, option_copied};
 ghost use Rattle.mlk_syntax.specs.ExprTrees.{actual_trees};
@@ -12,8 +12,8 @@ use mlk_syntax::{Actual, Callee};
 use mlk_walk_state::{Scope, State, copies, first_missing, last_of};
 use std::alloc::{AllocError, Global};
 
-/// The summary of what is called, where it has a certificate: its least rank, and whether it may release all locks, are
-/// what a 712 of a call wants. It takes no memory.
+/// The summary of the callee, or `None` without a certificate. Its least rank, and whether it may release all locks, are the
+/// correction for a 712 of a call. Allocates nothing.
 pub fn callee_summary<'a>(scope: &Scope<'a>, callee: &Callee) -> Option<&'a Summary>
     ensures { option_copied result ≡ callee_summary (scope_of scope.now) callee.now }
 {
@@ -21,7 +21,7 @@ pub fn callee_summary<'a>(scope: &Scope<'a>, callee: &Callee) -> Option<&'a Summ
     Some(target.summary)
 }
 
-/// The names that a call with this list of actuals may change, by the callee's summary or by reference; none without a
+/// The names that a call with the actual list `given` may change, by the callee's summary or by reference; empty without a
 /// certificate.
 pub fn call_changes(
     alloc: Global,
@@ -54,8 +54,8 @@ fn missing_of(
     }
 }
 
-/// The first of a callee's needs, with these actuals, that a state does not hold: what a 711 wants. None where a need
-/// would have an unknown subscript.
+/// The first of a callee's needs, translated by the actuals, that a state does not hold: the correction for a 711. `None` if a
+/// need would have an unknown subscript.
 pub fn missing_need(
     alloc: Global,
     scope: &Scope,

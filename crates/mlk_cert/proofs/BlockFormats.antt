@@ -109,7 +109,7 @@ summary-back s ys is none =
 pub summary-format : Format summary_text IsSummary NoExit summary_at
 summary-format = record { sound = summary-is; complete = summary-back }
 
--- places
+-- points
 pub place-is : (p : ℕ × ℕ) (xs ys : List ℕ) → place_at xs ≡ Some (p, ys) → (xs ≡ place_text p.0 p.1 ++ ys) × (1 ≤ p.0) × (p.0 ≤ 65535) × (p.1 ≤ 255)
 unfolding place_at
 place-is p xs ys h =
@@ -211,7 +211,7 @@ at-no-exit : (m : List ℕ) → NoExit (codes "at " ++ m)
 unfolding word_at
 at-no-exit m = refl
 
--- lines of points are no lines of exits
+-- lines of points are not lines of exits
 pub lines-no-exit : {A : Type 0} (text : A → List ℕ) (items : List A) (ys : List ℕ) → NoExit ys → NoExit (flat (λ a. codes "at " ++ text a) items ++ ys)
 lines-no-exit text [] ys none = none
 lines-no-exit text (a ∷ items) ys none = at-no-exit _
@@ -219,7 +219,7 @@ lines-no-exit text (a ∷ items) ys none = at-no-exit _
 pub points-no-exit : (ps : List Point) (ys : List ℕ) → ArePoints ps → NoExit ys → NoExit (flat point_text ps ++ ys)
 points-no-exit ps ys is none = ap (λ z. word_at (codes "exit ") (z ++ ys)) (sym (points-text ps)) ∙ lines-no-exit (λ l. listed_text l ++ 10 ∷ []) (lines_of ps) ys none
 
--- a block whose points are such
+-- a block with such points
 pub record IsBlockWith (Is : List Point → Type 0) (b : EntryCert) : Type 0 where
   pub entry : IsEntryText b.entry
   pub summary : IsSummary b.summary
@@ -261,7 +261,7 @@ module _ (point : Point → List ℕ) (Is : List Point → Type 0) (points : Rea
     pub block-format : Format (body_text point) (IsBlockWith Is) EndsBlock (block_at points)
     block-format = record { sound = block-is; complete = block-back }
 
--- points that are read leave no more than there was
+-- reading points leaves no more bytes than before
 abbrev pub Shortens : ReadsPoints → Type 0
 Shortens points = (ps : List Point) (xs ys : List ℕ) → points xs ≡ Some (ps, ys) → length ys ≤ length xs
 

@@ -20,7 +20,7 @@ use Rattle.mlk_cert.proofs.Loops.{put-nil}
 use Rattle.mlk_cert.proofs.BlockFormats.{Shortens, block-room}
 use Rattle.mlk_cert.proofs.LineFormats.{fit-is}
 
--- the texts that a set holds
+-- the texts that a set contains
 pub seen-text : (ks : List (Vec ℕ Global)) (v : Vec ℕ Global) → list_any (λ k. pointwise nat_eq v.items k.items) ks ≡ has_text (map (λ k. k.items) ks) v.items
 seen-text [] v = refl
 seen-text (k ∷ ks) v = ap (λ b. pointwise nat_eq v.items k.items || b) (seen-text ks v)
@@ -36,7 +36,7 @@ new-some points texts xs b ys h =
     let p = with_some (block_of e.0.0 s.0.0) (points s.0.1) b ys s.2 in
     (rw (r.1 ∙ ap (λ z. Some z) f.0) e.2, ap (λ z. not (has_text texts z.entry)) p.2 ∙ f.1)
 
--- where there is no new block, there is none, or its entry is not new
+-- without a new block there is no block, or its entry is not new
 pub new-none : (points : ReadsPoints) (texts : List (List ℕ)) (xs : List ℕ) → new_block_at points texts xs ≡ None → (block_at points xs ≡ None) ⊎ ((b : EntryCert) × (ys : List ℕ) × (block_at points xs ≡ Some (b, ys)) × (not (has_text texts b.entry) ≡ false))
 unfolding new_block_at new_entry_at block_at
 new-none points texts xs h = go (rest_at entry_at fits xs) h
@@ -60,7 +60,7 @@ new-none points texts xs h = go (rest_at entry_at fits xs) h
       | inr old ↦ stale e.0 e.1 old (summary_at e.1 >>= λ s. with (block_of e.0 s.0) (points s.1)) refl
     ]
 
--- texts of which none stands twice, and one more
+-- texts without duplicates, and one more
 or_assoc : (a b c : Bool) → (a || (b || c)) ≡ ((a || b) || c)
 or_assoc true b c = refl
 or_assoc false b c = refl

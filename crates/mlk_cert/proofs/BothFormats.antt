@@ -59,7 +59,7 @@ named-back : (texts : List (List ℕ)) (cases : List Case) → Each (IsOneOf tex
 named-back texts [] is = refl
 named-back texts (c ∷ cases) is = both_back _ _ (has-among texts (case_text c) is.0) (named-back texts cases is.1)
 
--- what is among the cases of all blocks, is so in each
+-- what is among the cases of all blocks is among those of each
 blocks-split : (texts : List (List ℕ)) (bs : List EntryCert) → Each (IsBlockWith (ArePointsAmong texts)) bs → Each IsBlock bs × Each (IsOneOf texts) (cases_of_blocks bs)
 blocks-split texts [] is = (tt, tt)
 blocks-split texts (b ∷ bs) is =
@@ -102,7 +102,7 @@ cases-found bs (t ∷ texts) is named =
     let rest = cases-found bs texts is named.1 in
     (one.0 ∷ rest.0, (one.1, rest.1), ap (λ z. z ∷ map case_text rest.0) one.2 ∙ ap (λ z. t ∷ z) rest.2)
 
--- as many texts as a text of them has bytes
+-- there are no more texts than bytes in their text
 numbered-room : (n : ℕ) (texts : List (List ℕ)) → length texts ≤ length (numbered n texts)
 numbered-room n [] = omega arith
 numbered-room n (t ∷ texts) =
@@ -123,7 +123,7 @@ unfolding word_at
 blocks-no-case texts [] = refl
 blocks-no-case texts (b ∷ bs) = refl
 
--- what stands behind the second head line
+-- what follows the second head line
 second-is : (bs : List EntryCert) (xs : List ℕ) → length xs ≤ longest → second_body_at xs ≡ Some bs → IsCertificate bs × IsSecondText bs (second_head ++ xs)
 unfolding second_body_at
 second-is bs xs short h =
@@ -173,7 +173,7 @@ second-back bs texts is are few = let c = cases-found bs texts is.each are.named
         let P : List (List ℕ) → Type 0 = λ z. second_body_at (numbered 1 z ++ (flat (block_with (point_line z)) bs ++ end_line)) ≡ Some bs in
         subst P same (back cases good (subst (λ z. AreCases bs z) (sym same) are) (subst (λ z. length z ≤ greatest) (sym same) few))
 
--- what stands behind the head line of either format
+-- what follows the head line of either format
 pub body-in-is : (format : CertFormat) (bs : List EntryCert) (text rest : List ℕ) → head_at text ≡ Some (format, rest) → body_in format rest ≡ Some bs → length text ≤ longest → Spells bs text
 body-in-is First bs text rest head read short =
     let s = body-is bs rest read in
@@ -193,7 +193,7 @@ read-of Second bs text is (texts, are, at) short =
     let k = ap length at in
     (r, ap head_at at ∙ head-back r Second, second-back bs texts is are (omega arith))
 
--- whatever a text is read as, is what it spells
+-- what a text is read as is what it spells
 pub text-read : (format : CertFormat) (bs : List EntryCert) (text rest : List ℕ) → head_at text ≡ Some (format, rest) → Spells bs text → body_in format rest ≡ Some bs
 text-read format bs text rest head s =
     let r = read-of s.format bs text s.is s.text s.short in
@@ -215,7 +215,7 @@ head-refused bs text none s =
 pub too-long : (bs : List EntryCert) (text : List ℕ) → longest < length text → Spells bs text → ⊥
 too-long bs text h s = let short = s.short in absurd (omega arith)
 
--- what is told of blocks whose text is not read
+-- what is reported of blocks whose text is not read
 pub unspelled : (blocks : List EntryCert) (text : List ℕ) (e : Failure CertFault) → text ≡ certificate_text blocks → IsReading text (Err e) → IsPlaced text e → IsUnspelled blocks e
 unspelled blocks text OutOfMemory is back placed = tt
 unspelled blocks text (Refused fault) is back placed =

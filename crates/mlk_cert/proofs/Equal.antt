@@ -1,4 +1,4 @@
--- Parts of certificates are equal where each of their parts is.
+-- Parts of certificates are equal if all their parts are.
 use Rattle.std.proofs.Common.{◌≡◌, List, refl, ap, ◌∙◌}
 use Rattle.std.specs.Prelude.{ℕ, Decides, Option, Some, None, nat_eq}
 use Rattle.std.specs.Cmp.{booleans_Decides}

@@ -1,4 +1,4 @@
--- What is read and passes its tests keeps to the limits, and what keeps to them passes.
+-- What is read and passes its tests is within the limits, and what is within them passes.
 use Rattle.std.proofs.Common.{◌≡◌, ◌≤◌, ℕ, ◌++◌, List, [], ◌∷◌, length, map, Bool, true, false, not, refl, sym, ◌∙◌, arith}
 use Rattle.std.specs.Prelude.{◌&&◌, ◌||◌, nat_le, bytes_eq}
 use Rattle.std.proofs.lemmas.Bool.{leb-true, le-leb}
@@ -94,7 +94,7 @@ exit-good e is h = let t = both_true (fit_terms e.held) (fit_kept e.kept) h in r
 exit-has : (e : ExitCase) → IsExit e → HasExit e × (fits_exit e ≡ true)
 exit-has e a = (record { held = a.held.each; kept = a.kept.each }, both_back _ _ (terms-fit e.held a.held) (kept-fit e.kept a.kept))
 
--- exits with what they have and pass
+-- exits whose parts were read and that pass their tests
 abbrev pub GoodExit : ExitCase → Type 0
 GoodExit e = HasExit e × (fits_exit e ≡ true)
 

@@ -13,7 +13,7 @@ use Rattle.mlk_cert_parts.specs.Limits.{cases_below, points_below}
 use Rattle.mlk_cert_parts.specs.Checks.{fit_cases, each_fits, fit_points}
 use Rattle.mlk_cert.specs.Blocks.{Listed, point_of, with_case, add_case, grouped}
 
--- a list that ascends has fronts that ascend
+-- the front of a list that ascends also ascends
 pub ascends-front : {A : Type 0} (before : A → A → Bool) (xs ys : List A) → ascends before (xs ++ ys) ≡ true → ascends before xs ≡ true
 ascends-front before [] ys h = refl
 ascends-front before (x ∷ []) ys h = refl
@@ -22,7 +22,7 @@ ascends-front before (x ∷ y ∷ xs) ys h = let t = both_true (before x y) (asc
 pub short-front : {A : Type 0} (most : ℕ) (xs ys : List A) → nat_le (length (xs ++ ys)) most ≡ true → nat_le (length xs) most ≡ true
 short-front most xs ys h = let l = leb-true _ _ h in le-leb _ _ (omega (arith, length-append xs ys))
 
--- the cases of a point, each with the place
+-- the cases of a point, each with its line and round
 abbrev pub listed_at_place : Point → Case → Listed
 listed_at_place p c = (p.line, p.round, c)
 
@@ -33,7 +33,7 @@ abbrev pub lines_of : List Point → List Listed
 lines_of [] = []
 lines_of (p ∷ points) = cases_of p ++ lines_of points
 
--- what an `at` line says after its word
+-- the text of an `at` line after its word
 abbrev pub listed_text : Listed → List ℕ
 listed_text l = place_text l.0 l.1 ++ 32 ∷ case_text l.2
 
@@ -87,7 +87,7 @@ pub grouped-cases : (points : List Point) (ls : List Listed) → Each HasCases p
 grouped-cases points [] has = has
 grouped-cases points (l ∷ ls) has = grouped-cases (add_case points l) ls (add-cases points l has)
 
--- the last point alone changes
+-- only the last point changes
 pub add-last : (front : List Point) (p : Point) (l : Listed) → add_case (front ++ p ∷ []) l ≡ front ++ add_case (p ∷ []) l
 add-last [] p l = refl
 add-last (x ∷ []) p l = refl
@@ -111,7 +111,7 @@ group-cases front p (c ∷ cs) ls =
 other-place : (a b l k : ℕ) → (nat_lt a l || ((a == l) && nat_lt b k)) ≡ true → ((a == l) && (b == k)) ≡ false
 other-place a b l k h = grind (arith, nat_tests)
 
--- points after one that stands
+-- points after an existing one
 group-more : (front : List Point) (p : Point) (points : List Point) → Each HasCases points → ascends points_below (p ∷ points) ≡ true → grouped (front ++ p ∷ []) (lines_of points) ≡ front ++ p ∷ points
 group-more front p [] has up = refl
 group-more front p (q ∷ points) has up =
@@ -147,7 +147,7 @@ grouped-back (p ∷ points) has up = go p.cases refl has.0
         ∙ ap (λ z. grouped (z ∷ []) (lines_of points)) full
         ∙ group-more [] p points has.1 up
 
--- what fits after one more line fitted before it
+-- if the points are in order after one more line, they were in order before it
 below-same : (p : Point) (points : List Point) (l : Listed) (q : Point) → ascends points_below (p ∷ add_case (q ∷ points) l) ≡ true → points_below p q ≡ true
 below-same p [] l q h = elim (cases_Bool ((q.line == l.0) && (q.round == l.1))) [
   | inl e ↦ (both_true _ _ (rw e at h)).0

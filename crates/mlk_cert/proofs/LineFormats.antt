@@ -136,7 +136,7 @@ low-back (Some r) ys is e =
 pub low-format : Format low_text IsLow EndsLow low_at
 low-format = record { sound = low-is; complete = low-back }
 
--- either is one
+-- both values are allowed
 abbrev pub IsDrops : Bool → Type 0
 IsDrops d = Unit {0}
 

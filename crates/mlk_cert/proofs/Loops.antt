@@ -25,7 +25,7 @@ pub put-nil : {A : Type 0} (o : Option (List A × List ℕ)) → put [] o ≡ o
 put-nil None = refl
 put-nil (Some r) = refl
 
--- the same of what was read of the line's end
+-- the same for the reading of the line's end
 abbrev ended_by : {A : Type 0} → A → Bool → Option (ℕ × List ℕ) → Option (A × List ℕ)
 ended_by a p None = None
 ended_by a p (Some e) = if p then Some (a, e.1) else None
@@ -92,12 +92,12 @@ module _ {A : Type 0} (item : List ℕ → Option (A × List ℕ)) (test step : 
       let same = ended-value r.0.0 a (test r.0.0) r.0.1 ys e.0 in
       (rw r.1 e.0, ap step (sym same) ∙ e.1)
 
--- the loop stops: nothing more stands there
+-- the loop stops: nothing more is there
 pub checked_stops : {A B : Type 0} (head : List ℕ → Option (B × List ℕ)) (item : B → List ℕ → Option (A × List ℕ)) (front : List A) (n : ℕ) (xs : List ℕ) (whole : Option (List A × List ℕ))
     → head xs ≡ None → length xs < n → put front (many head item n xs) ≡ put [] whole → whole ≡ Some (front, xs)
 checked_stops head item front n xs whole is less h = sym (put-nil whole) ∙ many_stops head item front n xs (put [] whole) is less h
 
--- what fails at the items, or later, or at the test of all
+-- it fails at the items, after them, or at the test of all
 fails-late : {A : Type 0} (T : List A → Bool) → ((xs ys : List A) → T (xs ++ ys) ≡ true → T xs ≡ true) → (front : List A) (o : Option (List A × List ℕ)) → T front ≡ false → (put front o >>= fit T) ≡ None
 fails-late T closed front None bad = refl
 fails-late T closed front (Some r) bad = elim (cases_Bool (T (front ++ r.0))) [
@@ -160,7 +160,7 @@ exits-step xs a h =
     let long : length (xs ++ a ∷ []) ≡ suc (length xs) = omega (arith, length-append xs (a ∷ [])) in
     ap (λ b. b && ascends exits_below (xs ++ a ∷ [])) (room-same 16 (length xs) (length (xs ++ a ∷ [])) long) ∙ ap (λ b. nat_lt (length xs) 16 && b) (ascends-next exit_text xs a t.1)
 
--- what a line is read as, from the parts of its reading
+-- what a line is read as, from the readings of its parts
 pub after-is : {A : Type 0} (item : List ℕ → Option (A × List ℕ)) (test step : A → Bool) (xs rest : List ℕ) (a : A) (both p q : Bool) → item xs ≡ Some (a, rest) → both ≡ (p && q) → p ≡ test a → q ≡ step a
     → after_at item test step xs ≡ ended a both rest
 unfolding after_at

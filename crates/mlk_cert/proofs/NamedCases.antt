@@ -79,7 +79,7 @@ got-among [] i c h = cc h
 got-among (d ∷ cases) zero c h = inl (ap case_text (same_Some d c h))
 got-among (d ∷ cases) (suc i) c h = inr (got-among cases i c h)
 
--- the case at a place, where there is one, is named from now on, and no other
+-- the case at an index, if there is one, is named from now on, and no other
 mark-step : (cases : List Case) (i : ℕ) (texts : List (List ℕ)) → ascends below (map case_text cases) ≡ true
     → slice_set (marks_by texts cases) i true ≡ marks_by (texts ++ map case_text (option_to_list (slice_get cases i))) cases
 mark-step [] i texts up = refl

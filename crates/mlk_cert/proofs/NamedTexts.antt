@@ -1,4 +1,4 @@
--- Texts that were noted.
+-- Texts that are already noted.
 use Rattle.std.proofs.Common.{◌≡◌, ℕ, ◌++◌, List, [], ◌∷◌, Bool, true, false, refl, sym, ap, ◌∙◌, inl, inr, nat_eq, Global}
 use Rattle.std.specs.Prelude.{◌⊎◌, ◌||◌, if◌then◌else◌, bytes_eq, Vec}
 use Rattle.std.specs.Cmp.Lexicographic.{pointwise}

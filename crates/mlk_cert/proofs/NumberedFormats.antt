@@ -1,4 +1,4 @@
--- The lines that the second format alone has, and their readers.
+-- The lines that occur only in the second format, and their readers.
 use Rattle.std.proofs.Common.{◌≡◌, ◌<◌, ◌≤◌, ◌+◌, ◌^◌, ℕ, suc, ◌++◌, List, [], ◌∷◌, length, map, Some, None, true, refl, sym, ap, ◌∙◌, arith, subst, append_assoc, lit<}
 use Rattle.std.specs.Prelude.{◌==◌, ◌&&◌, codes}
 use Rattle.std.specs.Fmt.{decimal}

@@ -1,4 +1,4 @@
--- Loops over the lines that the second format alone has.
+-- Loops over the lines that occur only in the second format.
 use Rattle.std.proofs.Common.{◌≡◌, ℕ, suc, ◌++◌, List, [], ◌∷◌, length, Some, None, Bool, true, false, refl, sym, ap, ◌∙◌, arith, inl, inr}
 use Rattle.std.specs.Prelude.{Option, ◌==◌, ◌&&◌, ◌+◌, option_map}
 use Rattle.std.proofs.lemmas.Bool.{cases_Bool}
@@ -45,7 +45,7 @@ pub lines-step : (cases : List Case) (ps : List NumberedPoint) (points : List Po
     → fit_lines cases (ps ++ p ∷ []) ≡ next_place_fits (last_of points) p.0 p.1
 lines-step cases ps points p is up = ap fit_places (points-push cases ps p ∙ ap (λ z. z ++ point_by cases p ∷ []) (sym is)) ∙ places-step points (point_by cases p) up
 
--- what fails as lines fails as points
+-- if lines fail, so do their points
 pub lines-refused : {R : Type 0} (cases : List Case) (o : Option (List NumberedPoint × List ℕ)) (e : Failure R) → FailsOn e (o >>= fit (fit_lines cases)) → FailsOn e (with (points_by cases) o >>= fit fit_places)
 lines-refused cases o OutOfMemory h = tt
 lines-refused cases None (Refused r) h = refl

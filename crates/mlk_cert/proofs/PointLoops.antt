@@ -103,7 +103,7 @@ lines-step ls points l is h =
 pub grouped-push : (ls : List Listed) (points : List Point) (l : Listed) → points ≡ grouped [] ls → add_case points l ≡ grouped [] (ls ++ l ∷ [])
 grouped-push ls points l is = ap (λ z. add_case z l) is ∙ sym (grouped-more [] ls (l ∷ []))
 
--- the text of the last case is that of the one that was added
+-- the text of the last case is that of the added one
 case-last : (p : Point) (l : Listed) → last_case_text (add_case (p ∷ []) l) ≡ Some (case_text l.2)
 case-last p l = elim (cases_Bool ((p.line == l.0) && (p.round == l.1))) [
   | inl e ↦ rw e (ap (option_map case_text) (last-push p.cases l.2))
@@ -155,7 +155,7 @@ pub listed-read : (line round : ℕ) (xs m n rest : List ℕ) (c : Case) → pla
 unfolding listed_case_at
 listed-read line round xs m n rest c a b d = rw a (rw b (rw d refl))
 
--- what fails as lines fails as points
+-- if lines fail, so do their points
 pub points-refused : {R : Type 0} (o : Option (List Listed × List ℕ)) (e : Failure R) → FailsOn e (o >>= fit fit_lines) → FailsOn e (with (grouped []) o >>= fit fit_points)
 points-refused o OutOfMemory h = tt
 points-refused None (Refused r) h = refl

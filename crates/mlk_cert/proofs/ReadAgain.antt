@@ -1,4 +1,4 @@
--- What is read again from its own text keeps to all limits, and what keeps to them is read again.
+-- What is read again from its own text is within all limits, and what is within them is read again.
 use Rattle.std.proofs.Common.{◌≡◌, ◌↔◌, ◌++◌, ℕ, List, [], ◌∷◌, Some, None, Bool, false, IsTrue, refl, sym, ap, ◌∙◌, subst, append-nil}
 use Rattle.std.specs.Prelude.{Option, ◌&&◌}
 use Rattle.std.proofs.lemmas.Option.{same_Some}

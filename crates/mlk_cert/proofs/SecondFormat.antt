@@ -1,4 +1,4 @@
--- The second format whole, and its reader.
+-- The second format as a whole, and its reader.
 use Rattle.std.proofs.Common.{◌≡◌, ◌≤◌, ℕ, suc, ◌++◌, List, [], ◌∷◌, length, map, Some, None, true, refl, sym, ap, ◌∙◌, arith, subst}
 use Rattle.std.specs.Prelude.{Option, nat_lt, nat_le, codes}
 use Rattle.std.specs.Fmt.{decimal}
@@ -143,7 +143,7 @@ module _ (cases : List Case) (good : Each IsCase cases) (up : ascends below (map
   pub second-points-format : length cases ≤ greatest → Format (flat (point_line texts)) (ArePointsAmong texts) NoPoint (listed_points_at (Some cases))
   second-points-format few = record { sound = second-points-is; complete = second-points-back few }
 
--- lines of points leave no more than there was
+-- reading lines of points leaves no more bytes than before
 numbered-room : (cases : List Case) → Shortens (numbered_points_at cases)
 unfolding numbered_points_at
 numbered-room cases ps xs ys h =

@@ -88,7 +88,7 @@ number-within (x ∷ texts) t among = elim (cases_Bool (bytes_eq x t)) [
 pub number-own : (texts : List (List ℕ)) (t : List ℕ) → number_of_text (t ∷ texts) t ≡ 1
 number-own texts t = rw (bytes-same t) refl
 
--- a case of a table is that of its number
+-- a case of a table is the one with its number
 pub record IsAt (cases : List Case) (n : ℕ) (c : Case) : Type 0 where
   pub got : slice_get cases (n - 1) ≡ Some c
   pub number : number_of_text (map case_text cases) (case_text c) ≡ n
@@ -125,7 +125,7 @@ case-by-number (d ∷ cases) c is js among = elim (cases_Bool (bytes_eq (case_te
     next : (n : ℕ) → 1 ≤ n → slice_get cases (n - 1) ≡ Some c → slice_get (d ∷ cases) (suc n - 1) ≡ Some c
     next n from h = let e : suc n - 1 ≡ suc (n - 1) = omega arith in ap (slice_get (d ∷ cases)) e ∙ h
 
--- numbers ascend as texts do
+-- numbers ascend like their texts
 pub number-order : (texts : List (List ℕ)) (t u : List ℕ) → ascends below texts ≡ true → IsOneOf texts t → IsOneOf texts u → nat_lt (number_of_text texts t) (number_of_text texts u) ≡ below t u
 number-order [] t u up a b = absurd a
 number-order (x ∷ texts) t u up a b = elim (cases_Bool (bytes_eq x t)) [
@@ -210,7 +210,7 @@ numbers-within texts (c ∷ found) among =
     within : (n most : ℕ) → n ≤ most → nat_le n most ≡ true
     within n most h = grind (arith, nat_tests)
 
--- what all of some texts are, one of them is
+-- what holds of all texts holds of one of them
 pub of-among : (P : List ℕ → Type 0) (texts : List (List ℕ)) (t : List ℕ) → Each P texts → IsOneOf texts t → P t
 of-among P [] t is among = absurd among
 of-among P (x ∷ texts) t is among = elim among [ inl e ↦ subst P e is.0 | inr e ↦ of-among P texts t is.1 e ]
@@ -219,7 +219,7 @@ pub through : (us ts vs : List (List ℕ)) → Each (IsOneOf vs) us → Each (Is
 through us [] vs a b = tt
 through us (t ∷ ts) vs a b = (of-among (IsOneOf vs) us t a b.0, through us ts vs a b.1)
 
--- texts that ascend, and are the same, stand in the same order
+-- two lists of texts that ascend, with the same texts, are equal
 apart-rest : (t : List ℕ) (ts us : List (List ℕ)) → ((v : List ℕ) → IsOneOf ts v → t ≡ v → ⊥) → Each (IsOneOf (t ∷ us)) ts → Each (IsOneOf us) ts
 apart-rest t [] us other is = tt
 apart-rest t (v ∷ ts) us other is = (elim is.0 [ inl e ↦ absurd (other v (inl refl) e) | inr e ↦ e ], apart-rest t ts us (λ w a. other w (inr a)) is.1)

@@ -27,7 +27,7 @@ use Rattle.mlk_cert.proofs.LineFormats.{fit-is, worded-is, worded-back}
 use Rattle.mlk_cert.proofs.Goods.{distinct-good, distinct-back}
 use Rattle.mlk_cert.proofs.BlockFormats.{ArePoints, NoPoint, NoExit, points-format, points-no-exit, body_text, IsBlockWith, EndsBlock, block-format}
 
--- blocks whose points are such, no entry's text twice
+-- blocks with such points, without two entries of one text
 abbrev pub AreBlocks : (List Point → Type 0) → List EntryCert → Type 0
 AreBlocks Is bs = Each (IsBlockWith Is) bs × TextsDiffer (map (λ b. b.entry) bs)
 
@@ -52,7 +52,7 @@ module _ (point : Point → List ℕ) (Is : List Point → Type 0) (points : Rea
   abbrev worded_text : EntryCert → List ℕ
   worded_text b = codes "entry " ++ body_text point b
 
-  -- a block's text, its word apart
+  -- a block's text, split after its word
   block-worded : (b : EntryCert) → worded_text b ≡ block_with point b
   block-worded b = sym (append_assoc (codes "entry ") (b.entry ++ 10 ∷ []) (summary_text b.summary ++ flat point b.points))
 
@@ -90,7 +90,7 @@ module _ (point : Point → List ℕ) (Is : List Point → Type 0) (points : Rea
   unfolding body_at
   body-with-back bs xs text is = ap (body_at points) text ∙ (rw (blocks-back bs is) (rw (word-back end_line []) refl))
 
--- blocks whose points have their cases in full
+-- blocks whose points list their cases in full
 first-format : Format (flat point_text) ArePoints NoPoint (listed_points_at None)
 first-format = record { sound = points-format.sound; complete = points-format.complete }
 
@@ -147,7 +147,7 @@ pub head-back : (rest : List ℕ) (format : CertFormat) → head_at (head_of for
 head-back rest First = rw (word-back head_line rest) refl
 head-back rest Second = rw (second-no-first rest) (rw (word-back second_head rest) refl)
 
--- the head line is one more
+-- the head line is one line
 lines-head : (format : CertFormat) (rest : List ℕ) → lines_in (head_of format ++ rest) ≡ suc (lines_in rest)
 lines-head First rest = refl
 lines-head Second rest = refl

@@ -1,4 +1,4 @@
--- Texts of cases in their order, their numbers, and what is written of them.
+-- Texts of cases in their order, their numbers, and the written text.
 use Rattle.std.proofs.Common.{◌≡◌, ◌<◌, ◌≤◌, ◌+◌, ℕ, zero, suc, ◌++◌, List, [], ◌∷◌, length, drop, get_or, Some, None, Bool, true, false, refl, sym, ap, ◌∙◌, arith, inl, inr, append_assoc, nat_eq, Global}
 use Rattle.std.specs.Prelude.{Option, ◌==◌, not, nat_lt, cond, bytes_eq, Vec, slice_get, position, Result, Ok, Err, OnOk, IfErr, codes, IsSorted}
 use Rattle.std.specs.Fmt.{decimal}
@@ -29,7 +29,7 @@ use Rattle.mlk_cert_lexemes.proofs.Formats.{both_back}
 use Rattle.mlk_cert.proofs.BlockLoops.{seen-text, bytes-turned}
 use Rattle.mlk_cert.proofs.BothFormats.{among-has, has-among, text-room}
 
--- the number of a text, by its place
+-- the number of a text, from its index
 prefix-number : (ks : List (Vec ℕ Global)) (text : List ℕ) → suc (prefix_len (λ k. not (pointwise nat_eq text k.items)) ks) ≡ number_of_text (texts_in ks) text
 prefix-number [] text = refl
 prefix-number (k ∷ ks) text =
@@ -188,7 +188,7 @@ module _ (ks ns : List (Vec ℕ Global)) (same : (q : Vec ℕ Global) → list_a
     named = each-of (IsOneOf (cases_of_blocks bs)) (texts_in ns) (λ t a. among-has (cases_of_blocks bs) t (sym (has t) ∙ has-among (texts_in ks) t (back t a)));
   }
 
--- what is written
+-- the written text
 pub written : {A E : Type 0} (r : Result A E) (format : CertFormat) (blocks : List EntryCert) (old new : Option (List ℕ)) (text : List ℕ) → IsTextIn format blocks text → OnOk r (Appends old new text) → OnOk r (length text ≤ longest) → OnOk r (IsWritten format blocks old new)
 written (Ok a) format blocks old new text is added short = record { text = text; is = is; short = short; added = added }
 written (Err e) format blocks old new text is added short = tt

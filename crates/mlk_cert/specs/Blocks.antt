@@ -1,4 +1,4 @@
--- Reading lines, blocks and a whole certificate, as functions on lists. For private clauses alone, as `Reading`.
+-- Reading lines, blocks and a whole certificate, as functions on lists. For private clauses only, like `Reading`.
 use Rattle.std.specs.Prelude.{ℕ, suc, ◌==◌, ◌&&◌, ◌||◌, not, nat_lt, if◌then◌else◌, Bool, true, false, List, ◌∷◌, ◌++◌, length, Option, Some, None, codes, option_map, option_and_then, []}
 use Rattle.mlk_text.specs.Reading.{◌>>=◌, with, many}
 use Rattle.mlk_text.specs.Lexemes.{byte_at}
@@ -15,11 +15,11 @@ use Rattle.mlk_cert_parts.specs.Checks.{fit_terms, fit_mods, fits_case, fits_exi
 use Rattle.mlk_cert_lexemes.specs.Reading.{word_at, number_at, counted_at, listed_at, term_at, part_at, entry_at}
 use Rattle.mlk_cert_parts.specs.Reading.{names_at, exit_at, case_at}
 
--- what was read, where it passes a test
+-- what was read, if it passes a test
 abbrev pub fit : {A : Type 0} → (A → Bool) → A × List ℕ → Option (A × List ℕ)
 fit test r = if test r.0 then Some r else None
 
--- the line's end, after what passes
+-- the line's end, after a value that passes
 abbrev pub ended : {A : Type 0} → A → Bool → List ℕ → Option (A × List ℕ)
 ended a passes xs = byte_at 10 xs >>= λ end. if passes then Some (a, end.1) else None
 
@@ -27,7 +27,7 @@ ended a passes xs = byte_at 10 xs >>= λ end. if passes then Some (a, end.1) els
 unfoldable pub rest_at : {A : Type 0} → (List ℕ → Option (A × List ℕ)) → (A → Bool) → List ℕ → Option (A × List ℕ)
 rest_at item test xs = item xs >>= λ r. ended r.0 (test r.0) r.1
 
--- as many items as words stand before them
+-- as many items as there are words before them
 unfoldable pub worded_at : {A : Type 0} → List ℕ → (List ℕ → Option (A × List ℕ)) → List ℕ → Option (List A × List ℕ)
 worded_at word item xs = many (word_at word) (λ w. item) (suc (length xs)) xs
 
@@ -54,7 +54,7 @@ exits_at xs = worded_at (codes "exit ") (rest_at exit_at fits_exit) xs >>= fit f
 abbrev pub summary_of : List LockTerm → Option ℕ → Bool → List NameSet → List ExitCase → Summary
 summary_of need low drops mods exits = record { need = need; exits = exits; mods = mods; low = low; drops = drops }
 
--- what is said of an entry as a whole
+-- the summary of an entry
 unfoldable pub summary_at : List ℕ → Option (Summary × List ℕ)
 summary_at xs =
     part_at (codes "need ") (rest_at (listed_at term_at) fit_terms) xs >>= λ need.
@@ -90,7 +90,7 @@ point_of l = record { line = l.0; round = l.1; cases = l.2 ∷ [] }
 abbrev pub with_case : Point → Case → Point
 with_case p c = record { line = p.line; round = p.round; cases = p.cases ++ c ∷ [] }
 
--- one more case: at the last point, where it is at its place, else at a new one
+-- one more case: at the last point if it is at the same place, otherwise at a new one
 abbrev pub add_case : List Point → Listed → List Point
 add_case [] l = point_of l ∷ []
 add_case (p ∷ []) l = if (p.line == l.0) && (p.round == l.1) then with_case p l.2 ∷ [] else p ∷ point_of l ∷ []
@@ -126,26 +126,26 @@ abbrev pub finished : List EntryCert → List ℕ → Option (List EntryCert)
 finished blocks [] = Some blocks
 finished blocks (b ∷ xs) = None
 
--- the blocks up to the end
+-- the blocks and the end line
 unfoldable pub body_at : ReadsPoints → List ℕ → Option (List EntryCert)
 body_at points xs = blocks_at points xs >>= λ blocks. word_at end_line blocks.1 >>= λ end. finished blocks.0 end.1
 
--- the text stands above the last, where there is one
+-- the text is above the last one, if there is one
 abbrev pub above_last : Option (List ℕ) → List ℕ → Bool
 above_last None text = true
 above_last (Some last) text = below last text
 
--- one more exit, after so many of which the last has this text
+-- one more exit, after `count` others, the last of which has the text `last`
 abbrev pub next_exit_fits : ℕ → Option (List ℕ) → ExitCase → Bool
 next_exit_fits count last e = nat_lt count 16 && above_last last (exit_text e)
 
--- one more case of this text at a place, after this point whose last case has that text
+-- one more case with the text `text` at a place, after a given point, whose last case has the text `last`
 abbrev pub next_case_fits : Option Point → Option (List ℕ) → ℕ → ℕ → List ℕ → Bool
 next_case_fits None last line round text = true
 next_case_fits (Some p) last line round text =
     if (p.line == line) && (p.round == round) then nat_lt (length p.cases) 16 && above_last last text else (nat_lt p.line line || ((p.line == line) && nat_lt p.round round))
 
--- the rest of a line, which passes a test and may stand after what stands in front
+-- the rest of a line, which passes a test and may follow what precedes it
 unfoldable pub after_at : {A : Type 0} → (List ℕ → Option (A × List ℕ)) → (A → Bool) → (A → Bool) → List ℕ → Option (A × List ℕ)
 after_at item test step xs = item xs >>= λ r. ended r.0 (test r.0 && step r.0) r.1
 

@@ -1,5 +1,4 @@
--- Where a text is refused behind its head line. For private clauses alone: what public calls promise stands in
--- `Refusals`.
+-- Where a text is refused after its head line. For private clauses only: the contracts of public calls use `Refusals`.
 use Rattle.std.specs.Prelude.{ℕ, ◌≡◌, ◌≤◌, ◌+◌, ◌==◌, ◌||◌, ◌&&◌, nat_le, Bool, true, false, List, [], ◌∷◌}
 use Rattle.mlk_text.specs.Codes.{number_of}
 use Rattle.mlk_text.specs.declared.code.Code.{Code}
@@ -7,7 +6,7 @@ use Rattle.mlk_text.specs.declared.code.Code.TheVariants.{NoEnd}
 use Rattle.mlk_cert.specs.declared.read.fault.CertFault.{CertFault}
 use Rattle.mlk_cert.specs.Refusals.{lines_in}
 
--- the codes of certificates without that of the head line
+-- the codes of certificates except that of the head line
 abbrev pub is_later : Code → Bool
 is_later code = nat_le 602 (number_of code) && nat_le (number_of code) 607
 
@@ -20,7 +19,7 @@ has_line (b ∷ xs) = (b == 10) || has_line xs
 abbrev pub at_first : Code → CertFault
 at_first code = record { code = code; line = 1 }
 
--- a fault behind the head line, on its line of the whole text
+-- a fault after the head line, with its line in the whole text
 pub record IsLater (rest : List ℕ) (fault : CertFault) : Type 0 where
   pub code : is_later fault.code ≡ true
   pub from_one : 1 ≤ fault.line

@@ -1,4 +1,4 @@
--- Whether what was read keeps to limits and orders. For private clauses alone.
+-- Whether a part respects its limits and orders. For private clauses only.
 use Rattle.std.specs.Prelude.{Bool, true, false}
 use Rattle.mlk_cert.specs.declared.read.fit.Fit.{Fit}
 use Rattle.mlk_cert.specs.declared.read.fit.Fit.TheVariants.{Yes, Limit, Order}

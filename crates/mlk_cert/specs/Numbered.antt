@@ -1,4 +1,4 @@
--- Reading the lines that the second format alone has, as functions on lists. For private clauses alone, as `Reading`.
+-- Reading the lines that only the second format has, as functions on lists. For private clauses only, like `Reading`.
 use Rattle.std.specs.Prelude.{ℕ, suc, ◌-◌, ◌==◌, ◌&&◌, ◌||◌, nat_lt, nat_le, if◌then◌else◌, Bool, true, List, [], ◌∷◌, ◌++◌, map, length, slice_get, option_to_list, Option, Some, None, codes}
 use Rattle.mlk_text.specs.Reading.{◌>>=◌, with}
 use Rattle.mlk_text.specs.Lexemes.{byte_at}
@@ -16,7 +16,7 @@ use Rattle.mlk_cert.specs.Second.{cases_of_blocks, second_head}
 use Rattle.mlk_cert.specs.declared.format.CertFormat.{CertFormat}
 use Rattle.mlk_cert.specs.declared.format.CertFormat.TheVariants.{First, Second}
 
--- no number of a case is above the number of bytes of a text
+-- no number of a case exceeds the number of bytes of a text
 abbrev pub greatest : ℕ
 greatest = 67108864
 
@@ -33,7 +33,7 @@ numbered_case_at xs = counted_at greatest xs >>= λ n. byte_at 32 n.1 >>= λ spa
 abbrev pub fits_numbered : NumberedCase → Bool
 fits_numbered l = fits_case l.1
 
--- whether the numbers rise by one from this number on
+-- whether the numbers increase by one from n on
 abbrev pub counts_from : ℕ → List NumberedCase → Bool
 counts_from n [] = true
 counts_from n (l ∷ ls) = (l.0 == n) && counts_from (suc n) ls
@@ -51,16 +51,16 @@ cases_in ls = map (λ l. l.1) ls
 unfoldable pub cases_at : List ℕ → Option (List NumberedCase × List ℕ)
 cases_at xs = worded_at (codes "case ") (rest_at numbered_case_at fits_numbered) xs >>= fit fit_numbered
 
--- one more case, after so many of which the last has this text
+-- one more case, after `count` others, the last of which has the text `last`
 abbrev pub next_numbered_fits : ℕ → Option (List ℕ) → NumberedCase → Bool
 next_numbered_fits count last l = (l.0 == suc count) && above_last last (case_text l.1)
 
--- whether there are so many cases
+-- whether no number exceeds the number of cases
 abbrev pub are_upto : ℕ → List ℕ → Bool
 are_upto most [] = true
 are_upto most (n ∷ ns) = nat_le n most && are_upto most ns
 
--- the numbers of a point, of so many cases
+-- the numbers of a point in a certificate with `most` cases
 unfoldable pub numbers_at : ℕ → List ℕ → Option (List ℕ × List ℕ)
 numbers_at most xs = list_at (counted_at greatest) 59 xs >>= fit (are_upto most)
 
@@ -94,11 +94,11 @@ points_by cases ps = map (point_by cases) ps
 abbrev pub fit_places : List Point → Bool
 fit_places points = ascends points_below points
 
--- the lines of points that name these cases
+-- the lines of points that refer to these cases
 unfoldable pub numbered_points_at : List Case → List ℕ → Option (List Point × List ℕ)
 numbered_points_at cases xs = with (points_by cases) (worded_at (codes "at ") (rest_at (numbered_point_at (length cases)) fits_numbered_point) xs) >>= fit fit_places
 
--- one more point at a place, after this one
+-- one more point at a place, after a given one
 abbrev pub next_place_fits : Option Point → ℕ → ℕ → Bool
 next_place_fits None line round = true
 next_place_fits (Some q) line round = nat_lt q.line line || ((q.line == line) && nat_lt q.round round)
@@ -108,7 +108,7 @@ abbrev pub listed_points_at : Option (List Case) → List ℕ → Option (List P
 listed_points_at None xs = points_at xs
 listed_points_at (Some cases) xs = numbered_points_at cases xs
 
--- whether each of the cases stands at a point
+-- whether each of the cases is at a point
 abbrev pub are_named : List (List ℕ) → List Case → Bool
 are_named texts [] = true
 are_named texts (c ∷ cases) = has_text texts (case_text c) && are_named texts cases
@@ -116,7 +116,7 @@ are_named texts (c ∷ cases) = has_text texts (case_text c) && are_named texts 
 abbrev pub all_named : List Case → List EntryCert → Option (List EntryCert)
 all_named cases blocks = if are_named (cases_of_blocks blocks) cases then Some blocks else None
 
--- what stands behind the second head line
+-- the text after the second head line
 unfoldable pub second_body_at : List ℕ → Option (List EntryCert)
 second_body_at xs = with cases_in (cases_at xs) >>= λ cases. body_at (listed_points_at (Some cases.0)) cases.1 >>= all_named cases.0
 
@@ -124,7 +124,7 @@ abbrev pub body_in : CertFormat → List ℕ → Option (List EntryCert)
 body_in First xs = body_at (listed_points_at None) xs
 body_in Second xs = second_body_at xs
 
--- the format that a head line tells, and what stands behind that line
+-- the format of a head line, and the rest after that line
 abbrev pub head_by : List ℕ → Option (List ℕ × List ℕ) → Option (CertFormat × List ℕ)
 head_by xs (Some head) = Some (First, head.1)
 head_by xs None = word_at second_head xs >>= λ head. Some (Second, head.1)

@@ -1,5 +1,5 @@
--- The second text of a certificate: its cases stand in front, each once and with a number, and points name them by their
--- numbers. This project's own format; what both formats write alike stands in `Texts`.
+-- The second text of a certificate: its cases are at the front, each once and with a number, and points refer to them by
+-- number. This project's own format; the parts that both formats share are in `Texts`.
 use Rattle.std.specs.Prelude.{ℕ, suc, ◌≡◌, ◌⊎◌, if◌then◌else◌, true, List, [], ◌∷◌, ◌++◌, map, codes, bytes_eq}
 use Rattle.std.specs.Fmt.{decimal}
 use Rattle.mlk_cert_parts.specs.declared.case.Case.{Case}
@@ -34,7 +34,7 @@ pub record AreCases (blocks : List EntryCert) (texts : List (List ℕ)) : Type 0
   pub all : Each (IsOneOf texts) (cases_of_blocks blocks)
   pub named : Each (IsOneOf (cases_of_blocks blocks)) texts
 
--- the lines of cases, numbered from this number on
+-- the lines of cases, numbered from n on
 abbrev pub numbered : ℕ → List (List ℕ) → List ℕ
 numbered n [] = []
 numbered n (t ∷ texts) = line (codes "case ") (decimal n ++ 32 ∷ t) ++ numbered (suc n) texts
@@ -56,7 +56,7 @@ point_line texts p = line (codes "at ") (place_text p.line p.round ++ 32 ∷ joi
 abbrev pub second_head : List ℕ
 second_head = line [] (codes "mlock-cert 2")
 
--- the text with these cases in front
+-- the text with these cases at the front
 abbrev pub numbered_text : List (List ℕ) → List EntryCert → List ℕ
 numbered_text texts blocks = second_head ++ (numbered 1 texts ++ (flat (block_with (point_line texts)) blocks ++ end_line))
 

@@ -1,4 +1,4 @@
--- What is promised of reading and writing certificates.
+-- The contracts of reading and writing certificates.
 use Rattle.std.specs.Prelude.{ℕ, ◌≡◌, ◌≤◌, List, Result, Ok, Err, length}
 use Rattle.mlk_text.specs.declared.failure.Failure.{Failure}
 use Rattle.mlk_text.specs.declared.failure.Failure.TheVariants.{OutOfMemory, Refused}
@@ -22,28 +22,28 @@ pub record Spells (blocks : List EntryCert) (bytes : List ℕ) : Type 0 where
   pub text : IsTextIn format blocks bytes
   pub short : length bytes ≤ longest
 
--- A text in the first format is that of one certificate at most.
+-- A text in the first format is that of at most one certificate.
 abbrev pub OneCertificate : Type 0
 OneCertificate = (blocks others : List EntryCert) → IsCertificate blocks → IsCertificate others → certificate_text blocks ≡ certificate_text others → blocks ≡ others
 
--- A text that is short enough is that of one certificate at most, whatever its format.
+-- A text that is short enough is that of at most one certificate, in either format.
 abbrev pub OneReading : Type 0
 OneReading = (blocks others : List EntryCert) (text : List ℕ) → Spells blocks text → Spells others text → blocks ≡ others
 
--- A certificate has one text at most in each format.
+-- A certificate has at most one text in each format.
 abbrev pub OneText : Type 0
 OneText = (format : CertFormat) (blocks : List EntryCert) (text other : List ℕ) → IsTextIn format blocks text → IsTextIn format blocks other → text ≡ other
 
--- these blocks are answered; want of memory says nothing
+-- these blocks are returned; out of memory says nothing
 abbrev pub ComesBack : List EntryCert → Result (List EntryCert) (Failure CertFault) → Type 0
 ComesBack blocks (Ok found) = found ≡ blocks
 ComesBack blocks (Err OutOfMemory) = Unit {0}
 ComesBack blocks (Err (Refused fault)) = ⊥
 
--- what reading promises of a text: a certificate that has it is answered
+-- the promise of reading a text: a certificate that has it is returned
 abbrev pub IsReading : List ℕ → Result (List EntryCert) (Failure CertFault) → Type 0
 IsReading text answer = (blocks : List EntryCert) → Spells blocks text → ComesBack blocks answer
 
--- A text of a certificate in either format, where it is short enough to be written, is read as that certificate.
+-- A text of a certificate in either format, if it is short enough to be written, is read as that certificate.
 abbrev pub ReadBack : Type 0
 ReadBack = (format : CertFormat) (blocks : List EntryCert) (text : List ℕ) (answer : Result (List EntryCert) (Failure CertFault)) → IsCertificate blocks → IsTextIn format blocks text → length text ≤ longest → IsReading text answer → ComesBack blocks answer

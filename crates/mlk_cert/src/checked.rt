@@ -1,5 +1,4 @@
-// Certificates and their parts, made of what someone gives: they keep to all limits and orders where they are read back
-// from their texts.
+// Certificates and their parts that were constructed instead of read: they are checked by reading their texts back.
 
 ghost use Rattle.std.specs.Prelude.{◌≡◌, ◌↔◌, ◌≤◌, IsTrue, IfOk, IfErr, length};
 ghost use Rattle.mlk_cert_parts.specs.Limits.{IsCase, IsPoint, IsBlock, IsCertificate};
@@ -56,7 +55,7 @@ fn are_certificate(alloc: Global, made: &[EntryCert]) -> Result<bool, AllocError
     }
 }
 
-/// The case that someone made, where it keeps to all limits and orders. Else it is given back.
+/// Checks that `made` respects all limits and orders; otherwise `Refused` returns it.
 pub fn case_of(alloc: Global, made: Case) -> Result<Case, Failure<Case>>
     ensures made { IfOk result (Made IsCase made) }
     ensures refused { IfErr result (GivesBack IsCase made) }
@@ -68,7 +67,7 @@ pub fn case_of(alloc: Global, made: Case) -> Result<Case, Failure<Case>>
     }
 }
 
-/// The point that someone made, where it keeps to all limits and orders, with its cases. Else it is given back.
+/// Checks that `made` and its cases respect all limits and orders; otherwise `Refused` returns it.
 pub fn point_of(alloc: Global, made: Point) -> Result<Point, Failure<Point>>
     ensures made { IfOk result (Made IsPoint made) }
     ensures refused { IfErr result (GivesBack IsPoint made) }
@@ -80,7 +79,7 @@ pub fn point_of(alloc: Global, made: Point) -> Result<Point, Failure<Point>>
     }
 }
 
-/// The block that someone made, where it keeps to all limits and orders, with all that it says. Else it is given back.
+/// Checks that `made` and all its parts respect all limits and orders; otherwise `Refused` returns it.
 pub fn block_of(alloc: Global, made: EntryCert) -> Result<EntryCert, Failure<EntryCert>>
     ensures made { IfOk result (Made IsBlock made) }
     ensures refused { IfErr result (GivesBack IsBlock made) }
@@ -92,7 +91,7 @@ pub fn block_of(alloc: Global, made: EntryCert) -> Result<EntryCert, Failure<Ent
     }
 }
 
-/// The certificate of blocks that someone made, where they keep to all limits and orders. Else they are given back.
+/// Checks that the blocks `made` respect all limits and orders; otherwise `Refused` returns them.
 pub fn certificate_of(
     alloc: Global,
     made: Vec<EntryCert>,
@@ -107,7 +106,7 @@ pub fn certificate_of(
     }
 }
 
-// How many cases stand before the first whose text is not below this text.
+// The number of cases before the first whose text is not below `text`.
 fn place_of(alloc: Global, cases: &[Case], text: &[u8]) -> Result<usize, AllocError>
     ensures place { IfOk result (λ n. n ≡ before cases.now text.now) }
     ensures within { IfOk result (λ n. n ≤ length cases.now) }
@@ -125,8 +124,8 @@ fn place_of(alloc: Global, cases: &[Case], text: &[u8]) -> Result<usize, AllocEr
     Ok(place)
 }
 
-/// The point with one more case, which stands among the others by its text. Where it then breaks a limit, or has a case
-/// twice, it is given back with all of them.
+/// Inserts `more` into `point`, ordered by the texts of cases. If the result breaks a limit, or has a case twice, `Refused`
+/// returns it with all its cases.
 pub fn with_case(alloc: Global, point: Point, more: Case) -> Result<Point, Failure<Point>>
     ensures made { IfOk result (Made IsPoint (with_more point more)) }
     ensures refused { IfErr result (GivesBack IsPoint (with_more point more)) }

@@ -5,6 +5,6 @@
 pub enum CertFormat {
     /// Each point has its cases in full.
     First,
-    /// The cases stand in front, each once, and points have their numbers.
+    /// The cases are at the front, each once, and points refer to them by number.
     Second,
 }

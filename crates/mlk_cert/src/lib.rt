@@ -1,4 +1,4 @@
-//! Certificates: what is said of jobs at each point of a routine, and the text that says it, in two formats.
+//! Certificates: what is known of jobs at each point of a routine, and their texts in two formats.
 #![tactic(auto)]
 
 mod checked;

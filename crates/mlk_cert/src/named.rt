@@ -1,4 +1,4 @@
-// The texts of cases that stand at points.
+// The texts of the cases at points.
 
 ghost use Rattle.std.specs.Prelude.{◌≡◌, ◌∷◌, [], IfOk, OnOk, map};
 ghost use Rattle.mlk_cert_parts.specs.Texts.{case_text};
@@ -19,7 +19,7 @@ pub(crate) fn text_of(alloc: Global, case: &Case) -> Result<WrittenText, AllocEr
     Ok(text)
 }
 
-// Notes the text of a case.
+// Adds the text of `case` to `texts`.
 fn note_case(alloc: Global, texts: &mut IndexSet<Vec<u8>>, case: &Case) -> Result<(), AllocError>
     ensures { OnOk result (Adds (texts_in texts.old.keys) (texts_in texts.new.keys) (case_text case.now ∷ [])) }
 {
@@ -28,7 +28,7 @@ fn note_case(alloc: Global, texts: &mut IndexSet<Vec<u8>>, case: &Case) -> Resul
     Ok(())
 }
 
-// Notes the texts of cases.
+// Adds the texts of `cases` to `texts`.
 fn note_cases(
     alloc: Global,
     texts: &mut IndexSet<Vec<u8>>,
@@ -44,7 +44,7 @@ fn note_cases(
     Ok(())
 }
 
-// Notes the texts of the cases of points.
+// Adds the texts of the cases of `points` to `texts`.
 fn note_points(
     alloc: Global,
     texts: &mut IndexSet<Vec<u8>>,
@@ -60,7 +60,7 @@ fn note_points(
     Ok(())
 }
 
-/// The texts of the cases that blocks have at their points, each once.
+/// The texts of the cases at the points of `blocks`, each once.
 pub(crate) fn named(alloc: Global, blocks: &[EntryCert]) -> Result<IndexSet<Vec<u8>>, AllocError>
     ensures { IfOk result (λ s. Has (texts_in s.keys) (cases_of_blocks blocks.now)) }
 {

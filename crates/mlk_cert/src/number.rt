@@ -8,7 +8,7 @@ use mlk_text::{Failure, NotThere};
 use std::alloc::{AllocError, Global};
 use std::marker::Model;
 
-/// The number of a case in front of blocks, counted from 1.
+/// The number of a case before the blocks, counted from 1.
 #[derive(Clone, Copy, Debug, Drop)]
 pub(crate) struct CaseNumber {
     number: u32,
@@ -25,7 +25,7 @@ impl Model for CaseNumber {
 }
 
 impl CaseNumber {
-    /// The case with this number.
+    /// The case number `number`.
     pub fn new(number: u32) -> CaseNumber
         ensures { result ≡ number }
     {
@@ -39,7 +39,7 @@ impl CaseNumber {
         self.number
     }
 
-    /// How many cases stand before it.
+    /// The index of the case.
     pub fn place(self) -> usize
         ensures { result ≡ self - 1 }
     {

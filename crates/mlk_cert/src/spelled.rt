@@ -18,14 +18,14 @@ pub struct Spelled {
     pub text: Vec<u8>,
 }
 
-/// The text of blocks that someone made, and the certificate that is read of it, where they keep to all limits and orders
-/// and it is not too long.
+/// Writes the text of the blocks `made`, and reads the certificate from it. `Refused` if they break a limit or an order, or
+/// if the text is too long.
 pub fn spell(alloc: Global, made: Vec<EntryCert>) -> Result<Spelled, Failure<CertFault>>
-    // It is the one text of the certificate,
+    // The text is the one text of the certificate,
     ensures spells { IfOk result (λ s. Spells s.certificate s.text.items) }
     // and of the blocks.
     ensures text { IfOk result (λ s. s.text.items ≡ certificate_text made.items) }
-    // Where blocks are refused, they are no certificate, or their text is too long.
+    // If the blocks are refused, they are not a certificate, or their text is too long.
     ensures refused { IfErr result (IsUnspelled made.items) }
 {
     let text = certificate_text(alloc, made.as_slice())?.into_bytes();

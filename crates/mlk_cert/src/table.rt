@@ -1,4 +1,4 @@
-// The cases of blocks in their order, and the numbers of cases among them.
+// The cases of blocks in order, and the numbers of cases.
 
 ghost use Rattle.std.specs.Prelude.{◌≡◌, ◌++◌, ◌≤◌, ◌∷◌, IfOk, OnOk, length, codes};
 ghost use Rattle.std.specs.Fmt.{decimal};
@@ -16,7 +16,7 @@ use mlk_cert_lexemes::{WrittenText, push_joined};
 use mlk_cert_parts::{Case, EntryCert, Point, push_front, push_place};
 use std::alloc::{AllocError, Global};
 
-/// The texts of the cases that blocks have at their points, each once, in their order.
+/// The texts of the cases at the points of `blocks`, each once, in order.
 pub(crate) fn case_texts(
     alloc: Global,
     blocks: &[EntryCert],
@@ -38,7 +38,7 @@ fn number_of(texts: &IndexSet<Vec<u8>>, text: &[u8]) -> CaseNumber
     }
 }
 
-// The numbers of cases.
+// The numbers of `cases`.
 fn numbers_of(
     alloc: Global,
     texts: &IndexSet<Vec<u8>>,
@@ -127,7 +127,7 @@ fn push_cases(text: &mut WrittenText, texts: &IndexSet<Vec<u8>>) -> Result<(), A
     Ok(())
 }
 
-/// The text with these cases in front.
+/// The text of `blocks` in the second format, with the cases `texts` at the front.
 pub(crate) fn numbered_text(
     alloc: Global,
     texts: &IndexSet<Vec<u8>>,

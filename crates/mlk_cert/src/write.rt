@@ -22,15 +22,15 @@ use thiserror::Error;
 /// Why a certificate was not written.
 #[derive(Debug, Drop, Error)]
 pub enum WriteFault {
-    /// The text would have more than 64 MiB; nothing of it was written.
+    /// The text has more than 64 MiB; nothing was written.
     #[error("{0}")]
     TooLong(CertFault),
-    /// The writer's fault.
+    /// The error of the writer.
     #[error("{0}")]
     Io(io::Error),
 }
 
-/// The text of blocks.
+/// The text of `blocks` in the first format.
 pub(crate) fn certificate_text(
     alloc: Global,
     blocks: &[EntryCert],
@@ -44,7 +44,7 @@ pub(crate) fn certificate_text(
     Ok(text)
 }
 
-// Writes a text, all of it or nothing of it where it is too long.
+// Writes all of `text`, or nothing if it is too long.
 fn write_text<W: Write>(text: &[u8], writer: &mut W) -> Result<(), Failure<WriteFault>>
     ensures written { OnOk result (Appends (W.contents writer.old) (W.contents writer.new) text.now) }
     ensures short { OnOk result (length text.now ≤ longest) }
@@ -59,30 +59,30 @@ fn write_text<W: Write>(text: &[u8], writer: &mut W) -> Result<(), Failure<Write
     }
 }
 
-/// Writes the text of a certificate in the first format, all of it or nothing of it where that is too long.
+/// Writes the text of a certificate in the first format; if it is too long, nothing is written.
 pub fn write_cert<W: Write>(
     alloc: Global,
     certificate: &Certificate,
     writer: &mut W,
 ) -> Result<(), Failure<WriteFault>>
-    // What is written without a fault is the text.
+    // Without an error, exactly the text is written.
     ensures written { OnOk result (IsWritten First certificate.now (W.contents writer.old) (W.contents writer.new)) }
-    // A text that is too long is a fault at its first line, and nothing of it was written.
+    // A text that is too long is refused at its first line, and nothing is written.
     ensures refused { IfErr result (IsUnwritten First certificate.now writer.old writer.new) }
 {
     let text = certificate_text(alloc, certificate.blocks())?;
     write_text(text.as_bytes(), writer)
 }
 
-/// Writes the text of a certificate in the second format, all of it or nothing of it where that is too long.
+/// Writes the text of a certificate in the second format; if it is too long, nothing is written.
 pub fn write_cert2<W: Write>(
     alloc: Global,
     certificate: &Certificate,
     writer: &mut W,
 ) -> Result<(), Failure<WriteFault>>
-    // What is written without a fault is the text.
+    // Without an error, exactly the text is written.
     ensures written { OnOk result (IsWritten Second certificate.now (W.contents writer.old) (W.contents writer.new)) }
-    // A text that is too long is a fault at its first line, and nothing of it was written.
+    // A text that is too long is refused at its first line, and nothing is written.
     ensures refused { IfErr result (IsUnwritten Second certificate.now writer.old writer.new) }
 {
     let texts = case_texts(alloc, certificate.blocks())?;

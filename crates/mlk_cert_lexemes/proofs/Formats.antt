@@ -1,4 +1,4 @@
--- Texts and their readers: what is read is the text, and a text is read where what follows does not go on with it.
+-- Texts and their readers: what is read is the text, and a text is read if what follows does not continue it.
 use Rattle.std.proofs.Common.{◌≡◌, ◌<◌, ℕ, zero, suc, ◌++◌, List, ◌∷◌, length, Some, None, true, refl, sym, ap, ◌∙◌, arith, subst, inl, inr, append_assoc, length-append, []}
 use Rattle.std.specs.Prelude.{Option, Bool, false, ◌==◌, ◌&&◌, option_map}
 use Rattle.std.proofs.lemmas.Bool.{cases_Bool, eqb-true, eq-eqb}
@@ -145,7 +145,7 @@ module _ {A : Type 0} (text : A → List ℕ) (Is : A → Type 0) (Stops : List 
           rw (append_assoc (text a) (more 59 text items) ys)
           (rw (nodash a (more 59 text items ++ ys) is) (list-back 59 s a items ys is others e.0 e.1))
 
-  -- items one after another, as far as they go
+  -- items one after another, to the last one
   pub flat-is : (k : ℕ) (items : List A) (xs ys : List ℕ) → many read keep k xs ≡ Some (items, ys) → (xs ≡ flat text items ++ ys) × Each Is items
   unfolding many
   flat-is zero items xs ys h = cc h

@@ -19,7 +19,7 @@ name-is text (b ∷ xs) ys h = elim (cases_Bool ((is_letter b || (b == 37)) && n
       sym (ap (λ l. b ∷ l) (take-append-drop (name_bytes xs) xs)) ∙ ap (λ l. l ++ drop (name_bytes xs) xs) p.0 ∙ ap (λ l. text ++ l) p.1
 ]
 
--- the name ends where no byte of a name stands
+-- the name ends where no byte of a name follows
 bytes-front : (xs zs : List ℕ) → name_bytes zs ≡ 0 → name_bytes (take (name_bytes xs) xs ++ zs) ≡ name_bytes xs
 bytes-front [] zs none = none
 bytes-front (b ∷ xs) zs none = elim (cases_Bool (is_name_byte b)) [
@@ -27,7 +27,7 @@ bytes-front (b ∷ xs) zs none = elim (cases_Bool (is_name_byte b)) [
   | inr e ↦ rw e none
 ]
 
--- the name taken again leaves nothing
+-- the name, taken again, leaves nothing
 name-rest : (b : ℕ) (xs : List ℕ) → ◌≡◌ {A = Option (List ℕ × List ℕ)} (Some (b ∷ take (name_bytes xs) (take (name_bytes xs) xs), drop (name_bytes xs) (take (name_bytes xs) xs))) (Some (b ∷ take (name_bytes xs) xs, []))
 name-rest b xs =
     let short : length (take (name_bytes xs) xs) ≤ name_bytes xs = omega (arith, length-take (name_bytes xs) xs) in
@@ -56,7 +56,7 @@ bytes-within (b ∷ xs) = elim (cases_Bool (is_name_byte b)) [
   | inr e ↦ rw e (omega arith)
 ]
 
--- a front of its length
+-- a front of its own length
 pub take-own : (n : ℕ) (m zs : List ℕ) → length m ≡ n → take n (m ++ zs) ≡ m
 take-own n m zs e = ap (λ k. take k (m ++ zs)) (sym e) ∙ take-append_seam m zs
 

@@ -1,4 +1,4 @@
--- What is read takes room, so what is left is shorter; what stands before the rest is the text.
+-- What is read has a byte, so what is left is shorter; what precedes the rest is the text.
 use Rattle.std.proofs.Common.{◌≡◌, ◌<◌, ◌≤◌, ◌-◌, ◌+◌, ℕ, ◌++◌, List, ◌∷◌, length, take, drop, Some, None, Bool, true, false, refl, ap, ◌∙◌, arith, inl, inr, length-append, nat_eq, Bor, []}
 use Rattle.std.specs.Prelude.{Option, Result, Ok, Err, IfOk, MatchOption, option_map, ◌==◌, ◌&&◌}
 use Rattle.std.specs.Cmp.Lexicographic.{pointwise}
@@ -60,7 +60,7 @@ ascends-push before (x ∷ y ∷ xs) l a = rw (ascends-push before (y ∷ xs) l 
     and_assoc true b c = refl
     and_assoc false b c = refl
 
--- what a reader of the code gives stands at the front
+-- what a reader of the code returns is at the front
 pub gives-text : {A : Type 0} (text : A → List ℕ) (Is : A → Type 0) (Stops : List ℕ → Type 0) (read : List ℕ → Option (A × List ℕ)) → Format text Is Stops read
     → (xs : List ℕ) (r : Result (A × Bor (List ℕ)) (Failure NotThere)) → Reads (λ x. (x.0, x.1.now)) r (read xs) → IfOk r (λ x. xs ≡ text x.0 ++ x.1.now)
 gives-text text Is Stops read f xs (Ok x) h = (f.sound x.0 xs x.1.now h).0

@@ -1,4 +1,4 @@
--- Words that stand at the front of bytes, and are taken off.
+-- Words at the front of bytes, which are removed.
 use Rattle.std.proofs.Common.{◌≡◌, ◌∷◌, ◌&&◌, ◌==◌, [], ℕ, List, Some, None, true, false, length, take, drop, refl, ⊎_elim}
 use Rattle.std.specs.Cmp.Lexicographic.{pointwise}
 use Rattle.std.proofs.lemmas.Bool.{cases_Bool}

@@ -1,4 +1,4 @@
--- What names, values, subscripts, terms and texts of entries are. Names and labels are those of ISO/IEC 11756.
+-- Names, values, subscripts, terms and texts of entries. Names and labels are those of ISO/IEC 11756.
 use Rattle.std.specs.Prelude.{ℕ, ◌≡◌, ◌⊎◌, ◌<◌, Bool, true, List, ◌∷◌, ◌++◌, Some, []}
 use Rattle.mlk_text.specs.Lexemes.{name_at, are_digits}
 use Rattle.mlk_text.specs.declared.root.Root.{Root}
@@ -29,7 +29,7 @@ IsNamedRoot (root.Local name) = ReadsAsName name
 abbrev pub IsTerm : LockTerm → Type 0
 IsTerm t = IsNamedRoot t.root × Each IsSymbol t.subs
 
--- terms stand in the order of their texts, and may repeat
+-- terms are in the order of their texts, and may repeat
 abbrev pub terms_upto : LockTerm → LockTerm → Bool
 terms_upto t u = upto (term_text t) (term_text u)
 

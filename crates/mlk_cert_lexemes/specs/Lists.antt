@@ -1,12 +1,12 @@
--- Words on lists. This project's own.
+-- Definitions on lists. This project's own.
 use Rattle.std.specs.Prelude.{ℕ, ◌&&◌, ◌==◌, not, nat_lt, if◌then◌else◌, Bool, true, false, List, ◌∷◌, ◌++◌, Option, Some, None, []}
 
--- all items are such
+-- all items have the property
 abbrev pub Each : {A : Type 0} → (A → Type 0) → List A → Type 0
 Each Is [] = Unit {0}
 Each Is (a ∷ items) = Is a × Each Is items
 
--- each item of one list and that at its place in the other are such, and there are as many
+-- the items at the same index of two lists of the same length have the property
 abbrev pub EachPair : {A B : Type 0} → (A → B → Type 0) → List A → List B → Type 0
 EachPair Is [] [] = Unit {0}
 EachPair Is [] (b ∷ others) = ⊥
@@ -18,12 +18,12 @@ abbrev pub flat : {A : Type 0} → (A → List ℕ) → List A → List ℕ
 flat text [] = []
 flat text (a ∷ items) = text a ++ flat text items
 
--- the texts of items, each after this byte
+-- the texts of items, each after a given byte
 abbrev pub more : {A : Type 0} → ℕ → (A → List ℕ) → List A → List ℕ
 more between text [] = []
 more between text (a ∷ items) = between ∷ (text a ++ more between text items)
 
--- the texts of items with this byte between them
+-- the texts of items, separated by a given byte
 abbrev pub joined : {A : Type 0} → ℕ → (A → List ℕ) → List A → List ℕ
 joined between text [] = []
 joined between text (a ∷ items) = text a ++ more between text items
@@ -34,7 +34,7 @@ last_of [] = None
 last_of (a ∷ []) = Some a
 last_of (a ∷ b ∷ items) = last_of (b ∷ items)
 
--- each item stands before the next
+-- each item is before the next
 abbrev pub ascends : {A : Type 0} → (A → A → Bool) → List A → Bool
 ascends before [] = true
 ascends before (a ∷ []) = true

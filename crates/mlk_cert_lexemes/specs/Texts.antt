@@ -1,4 +1,4 @@
--- The texts of lexemes, terms and lists in certificates and files of events, part joined to part: each has one text. This
+-- The texts of lexemes, terms and lists in certificates and files of events, as joined parts: each has one text. This
 -- project's own format; names are those of ISO/IEC 11756.
 use Rattle.std.specs.Prelude.{ℕ, ◌+◌, ◌/◌, ◌%◌, ◌==◌, ◌&&◌, not, nat_lt, nat_le, if◌then◌else◌, Bool, List, ◌∷◌, ◌++◌, codes, []}
 use Rattle.mlk_text.specs.declared.root.Root.{Root}
@@ -8,7 +8,7 @@ use Rattle.mlk_names.specs.declared.known_symbol.KnownSym.TheVariants as known
 use Rattle.mlk_names.specs.declared.term.LockTerm.{LockTerm}
 use Rattle.mlk_cert_lexemes.specs.Lists.{flat, more}
 
--- a list on a line: `-` where it is empty, else its items with `;` between them
+-- the list of a line: `-` if it is empty, otherwise its items separated by `;`
 abbrev pub listed : {A : Type 0} → (A → List ℕ) → List A → List ℕ
 listed text [] = codes "-"
 listed text (a ∷ items) = text a ++ more 59 text items
@@ -17,11 +17,11 @@ listed text (a ∷ items) = text a ++ more 59 text items
 abbrev pub hex : ℕ → ℕ
 hex d = if nat_lt d 10 then d + 48 else d + 87
 
--- a byte that stands for itself: 32 to 126, but no quote and no `\`
+-- a byte that is written as itself: 32 to 126, except a quote and `\`
 abbrev pub is_plain : ℕ → Bool
 is_plain b = nat_le 32 b && nat_le b 126 && not (b == 34) && not (b == 92)
 
--- a byte of a constant: itself, a quote twice, or `\` and two hexadecimal digits
+-- a byte of a constant: itself, a doubled quote, or `\` and two hexadecimal digits
 unfoldable pub byte_text : ℕ → List ℕ
 byte_text b = if is_plain b then b ∷ [] else (if b == 34 then 34 ∷ 34 ∷ [] else 92 ∷ hex (b / 16) ∷ hex (b % 16) ∷ [])
 
@@ -35,7 +35,7 @@ symbol_text (known.Const value) = constant_text value
 symbol_text (known.Local name) = name
 symbol_text known.Job = codes "$J"
 
--- subscripts: none, or in parentheses with commas between them
+-- subscripts: none, or in parentheses, separated by commas
 abbrev pub subs_text : List KnownSym → List ℕ
 subs_text [] = []
 subs_text (s ∷ subs) = 40 ∷ (symbol_text s ++ (more 44 symbol_text subs ++ 41 ∷ []))
@@ -53,6 +53,6 @@ term_text t = root_text t.root ++ subs_text t.subs
 abbrev pub name_text : List ℕ → List ℕ
 name_text name = name
 
--- a line: a word, what it says, and the line's end
+-- a line: a word, its contents, and the line's end
 abbrev pub line : List ℕ → List ℕ → List ℕ
 line word text = word ++ (text ++ 10 ∷ [])

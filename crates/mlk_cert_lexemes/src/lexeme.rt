@@ -18,7 +18,7 @@ fn stripped<'a>(word: &[u8], bytes: &'a [u8]) -> Option<&'a [u8]>
     bytes.strip_prefix(word)
 }
 
-/// What is left after this word, where it stands at the front.
+/// The rest of `bytes` after `word`, or `None` if they do not begin with it.
 #[tactic(auto, unfolding(crate::specs::Reading::word_at))]
 pub fn word_of<'a>(word: &[u8], bytes: &'a [u8]) -> Option<&'a [u8]>
     ensures { option_map (λ x. (word.now, x.now)) result ≡ word_at word.now bytes.now }
@@ -29,21 +29,21 @@ pub fn word_of<'a>(word: &[u8], bytes: &'a [u8]) -> Option<&'a [u8]>
     }
 }
 
-/// Whether the first text is not above the second.
+/// Whether `x` is not above `y`.
 pub fn is_upto(x: &[u8], y: &[u8]) -> bool
     ensures { result ≡ upto x.now y.now }
 {
     x <= y
 }
 
-/// Whether the first text is below the second.
+/// Whether `x` is below `y`.
 pub fn is_below(x: &[u8], y: &[u8]) -> bool
     ensures { result ≡ below x.now y.now }
 {
     !is_upto(y, x)
 }
 
-/// What stands before the rest.
+/// The bytes before `rest`, which is the end of `bytes`.
 pub fn front_of<'a>(bytes: &'a [u8], rest: &[u8]) -> &'a [u8]
     ensures { result.now ≡ take (length bytes.now - length rest.now) bytes.now }
 {
@@ -73,7 +73,7 @@ fn leads_zero(text: &[u8]) -> bool
     }
 }
 
-/// The number up to a limit at the front, and what is left after it.
+/// Reads the number at the front, up to `limit`: the number, and the rest; otherwise `None`.
 #[tactic(auto, unfolding(crate::specs::Reading::number_at, mlk_text::specs::Lexemes::digits_at))]
 pub fn number(limit: u32, bytes: &[u8]) -> Option<(u32, &[u8])>
     ensures { option_map (λ x. (x.0, x.1.now)) result ≡ number_at limit bytes.now }
@@ -92,7 +92,7 @@ pub fn number(limit: u32, bytes: &[u8]) -> Option<(u32, &[u8])>
     Some((value, rest))
 }
 
-/// The same, from 1.
+/// `number`, from 1.
 pub fn counted(limit: u32, bytes: &[u8]) -> Option<(u32, &[u8])>
     ensures { option_map (λ x. (x.0, x.1.now)) result ≡ counted_at limit bytes.now }
 {
@@ -105,7 +105,7 @@ pub fn counted(limit: u32, bytes: &[u8]) -> Option<(u32, &[u8])>
     Some((value, rest))
 }
 
-/// Whether a byte of a constant stands for itself.
+/// Whether a byte is written as itself in a constant.
 pub(crate) fn is_plain(b: u8) -> bool
     ensures { result ≡ is_plain b }
 {
@@ -178,7 +178,7 @@ fn value_bytes(alloc: Global, bytes: &[u8]) -> Result<(Vec<u8>, &[u8]), Failure<
     Ok((value, rest))
 }
 
-/// The constant at the front, and what is left after it.
+/// Reads the constant at the front: its value, and the rest. `NotThere` if there is none.
 #[tactic(auto, unfolding(crate::specs::Reading::constant_at))]
 pub fn constant(alloc: Global, bytes: &[u8]) -> Result<(Value, &[u8]), Failure<NotThere>>
     ensures { Reads (λ x. (x.0, x.1.now)) result (constant_at bytes.now) }
@@ -193,7 +193,7 @@ pub fn constant(alloc: Global, bytes: &[u8]) -> Result<(Value, &[u8]), Failure<N
     Ok((Value::of(alloc, value.as_slice())?, rest))
 }
 
-/// The text of an entry at the front, and what is left after it.
+/// Reads the text of an entry at the front: the text, and the rest. `NotThere` if there is none.
 #[tactic(auto, unfolding(crate::specs::Reading::entry_at))]
 pub fn entry(alloc: Global, bytes: &[u8]) -> Result<(Value, &[u8]), Failure<NotThere>>
     ensures { Reads (λ x. (x.0, x.1.now)) result (entry_at bytes.now) }

@@ -1,4 +1,4 @@
-//! Lexemes and lists of certificates and files of events: each part, read and written.
+//! Lexemes and lists of certificates and files of events: their readers and writers.
 #![tactic(auto)]
 
 mod lexeme;

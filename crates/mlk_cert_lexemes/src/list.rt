@@ -1,4 +1,4 @@
-// Lists of items, read.
+// The readers of lists.
 
 ghost use Rattle.std.specs.Prelude.{◌≡◌, ◌++◌, ◌∷◌, [], ℕ, List, Option, Bool, suc, length, IfOk, ◌&&◌};
 ghost use Rattle.mlk_text.specs.Reading.{many, put};
@@ -13,18 +13,18 @@ use mlk_text::lexeme::byte_of;
 use mlk_text::{Failure, NotThere, likely_length};
 use std::alloc::Global;
 
-/// What can be an item of a list.
+/// An item of a list.
 pub trait Item: Written + Drop + Sized {
     ghost reads: { List ℕ → Option (Self × List ℕ) };
 
     ghost before: { Self → Self → Bool };
 
-    /// The item at the front, and what is left after it.
+    /// Reads the item at the front: the item, and the rest.
     fn read(alloc: Global, bytes: &[u8]) -> Result<(Self, &[u8]), Failure<NotThere>>
         ensures read { Reads (λ x. (x.0, x.1.now)) result (reads bytes.now) }
         ensures text { IfOk result (λ x. bytes.now ≡ Self.written x.0 ++ x.1.now) };
 
-    /// Whether the next item may stand after this one, both with their texts.
+    /// Whether `next` may follow `self` in a list; `text` and `next_text` are their texts.
     fn is_before(&self, text: &[u8], next: &Self, next_text: &[u8]) -> bool
         requires text { text.now ≡ Self.written self.now }
         requires next_text { next_text.now ≡ Self.written next.now }
@@ -43,7 +43,7 @@ fn end_of(between: u8) -> u8 {
     if between == b';' { b' ' } else { b')' }
 }
 
-// The items after the first, and whether all stand in order.
+// Reads the items after the first, and returns whether all are in order.
 fn more_items<'a, T: Item>(
     alloc: Global,
     between: u8,
@@ -74,7 +74,7 @@ fn more_items<'a, T: Item>(
     Ok((found, ordered, rest))
 }
 
-/// One or more items with this byte between them, whether they stand in order, and what is left after them.
+/// Reads one or more items separated by `between`: the items, whether they are in order, and the rest.
 #[tactic(auto, unfolding(crate::specs::Reading::list_at))]
 pub fn items<T: Item>(
     alloc: Global,
@@ -90,7 +90,7 @@ pub fn items<T: Item>(
     Ok((found, ordered, rest))
 }
 
-/// None for a dash, else one or more items with `;` between them.
+/// Reads the list of a line: empty for a dash, otherwise one or more items separated by `;`.
 #[tactic(auto, unfolding(crate::specs::Reading::listed_at))]
 pub fn listed<T: Item>(
     alloc: Global,

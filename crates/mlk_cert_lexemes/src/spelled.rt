@@ -1,4 +1,4 @@
-// Values, names, subscripts, roots and terms, written.
+// The writers of values, names, subscripts, roots and terms.
 
 ghost use Rattle.std.specs.Prelude.{◌≡◌, ◌++◌, ◌<◌, OnOk};
 ghost use Rattle.mlk_cert_lexemes.specs.Texts.{hex, byte_text, constant_text, subs_text};

@@ -1,4 +1,4 @@
-// Subscripts and terms, read.
+// The readers of subscripts and terms.
 
 ghost use Rattle.std.specs.Prelude.{◌≡◌, IfOk, true};
 ghost use Rattle.mlk_text.specs.Failures.{Reads};

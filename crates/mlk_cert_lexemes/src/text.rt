@@ -1,4 +1,4 @@
-// A text that is put together piece by piece.
+// A text that is built piece by piece.
 
 ghost use Rattle.std.specs.Prelude.{◌≡◌, ◌<◌, ◌++◌, ◌∷◌, [], OnOk, decimal};
 ghost use Rattle.std.specs.Vec.{vec_len, vec_capacity};
@@ -6,13 +6,13 @@ ghost use Rattle.std.specs.Vec.{vec_len, vec_capacity};
 use std::alloc::{AllocError, Global};
 use std::marker::Model;
 
-/// A text that is put together piece by piece.
+/// A text that is built piece by piece.
 #[derive(Drop)]
 pub struct WrittenText {
     bytes: Vec<u8>,
 }
 
-// Room for one more byte.
+// Makes room for one more byte.
 fn make_room(bytes: &mut Vec<u8>) -> Result<(), AllocError>
     ensures items { bytes.new.items ≡ bytes.old.items }
     ensures room { OnOk result (vec_len bytes.new < vec_capacity bytes.new) }
@@ -32,7 +32,7 @@ impl Model for WrittenText {
 }
 
 impl WrittenText {
-    /// A text without a byte.
+    /// An empty text.
     pub fn new(alloc: Global) -> WrittenText
         ensures { result ≡ [] }
     {
@@ -41,14 +41,14 @@ impl WrittenText {
         }
     }
 
-    /// Its bytes.
+    /// The bytes of the text.
     pub fn as_bytes(&self) -> &[u8]
         ensures { result.now ≡ self.now }
     {
         self.bytes.as_slice()
     }
 
-    /// One more byte at its end.
+    /// Appends `byte`.
     pub fn push_byte(&mut self, byte: u8) -> Result<(), AllocError>
         ensures { OnOk result (self.new ≡ self.old ++ byte ∷ []) }
     {
@@ -57,7 +57,7 @@ impl WrittenText {
         Ok(())
     }
 
-    /// More bytes at its end.
+    /// Appends `piece`.
     pub fn push(&mut self, piece: &[u8]) -> Result<(), AllocError>
         ensures { OnOk result (self.new ≡ self.old ++ piece.now) }
     {
@@ -67,7 +67,7 @@ impl WrittenText {
         Ok(())
     }
 
-    /// The digits of a number at its end.
+    /// Appends the decimal digits of `number`.
     #[tactic(auto, using(crate::proofs::NumberFormats::one_digit, crate::proofs::NumberFormats::last_digit))]
     pub fn push_number(&mut self, number: u32) -> Result<(), AllocError>
         ensures { OnOk result (self.new ≡ self.old ++ decimal number) }
@@ -79,7 +79,7 @@ impl WrittenText {
         self.push_byte(b'0' + (number % 10) as u8)
     }
 
-    /// Its bytes, as a vector.
+    /// The bytes of the text, as a vector.
     pub fn into_bytes(self) -> Vec<u8>
         ensures { result.items ≡ self }
     {

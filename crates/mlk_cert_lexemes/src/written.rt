@@ -1,4 +1,4 @@
-// Lists of items, written.
+// The writers of lists.
 
 ghost use Rattle.std.specs.Prelude.{◌≡◌, ◌++◌, OnOk, ℕ, List};
 ghost use Rattle.mlk_cert_lexemes.specs.Lists.{flat, more, joined};
@@ -7,16 +7,16 @@ ghost use Rattle.mlk_cert_lexemes.specs.Texts.{listed};
 use crate::text::WrittenText;
 use std::alloc::AllocError;
 
-/// What has one text.
+/// A value that has one text.
 pub trait Written {
     ghost written: { Self → List ℕ };
 
-    /// The text at the end of another.
+    /// Appends the value's text to `text`.
     fn push_to(&self, text: &mut WrittenText) -> Result<(), AllocError>
         ensures { OnOk result (text.new ≡ text.old ++ written self.now) };
 }
 
-/// Items, each after this byte.
+/// Appends `items`, each after the byte `between`.
 pub fn push_more<T: Written>(
     text: &mut WrittenText,
     between: u8,
@@ -31,7 +31,7 @@ pub fn push_more<T: Written>(
     Ok(())
 }
 
-/// Items with this byte between them.
+/// Appends `items`, separated by the byte `between`.
 pub fn push_joined<T: Written>(
     text: &mut WrittenText,
     between: u8,
@@ -47,7 +47,7 @@ pub fn push_joined<T: Written>(
     Ok(())
 }
 
-/// A list on a line: items with `;` between them, or `-` where there are none.
+/// Appends the list of a line: `items` separated by `;`, or `-` if there are none.
 pub fn push_listed<T: Written>(text: &mut WrittenText, items: &[T]) -> Result<(), AllocError>
     ensures { OnOk result (text.new ≡ text.old ++ listed T.written items.now) }
 {
@@ -60,7 +60,7 @@ pub fn push_listed<T: Written>(text: &mut WrittenText, items: &[T]) -> Result<()
     Ok(())
 }
 
-/// Items, one after another.
+/// Appends `items`, one after another.
 pub fn push_flat<T: Written>(text: &mut WrittenText, items: &[T]) -> Result<(), AllocError>
     ensures { OnOk result (text.new ≡ text.old ++ flat T.written items.now) }
 {

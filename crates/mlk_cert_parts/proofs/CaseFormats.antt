@@ -24,7 +24,7 @@ use Rattle.mlk_cert_lexemes.proofs.NumberFormats.{number-format, decimal-no-dash
 use Rattle.mlk_cert_lexemes.proofs.NameFormats.{NoName, name-format, name-first}
 use Rattle.mlk_cert_lexemes.proofs.TermFormats.{EndsTerms, EndsNames, terms-format, kept-format}
 
--- names that are names, in any order
+-- names that are spelled as names, in any order
 abbrev pub HasNames : NameSet → Type 0
 HasNames (Only name) = ReadsAsName name
 HasNames (AllBut names) = Each ReadsAsName names
@@ -195,7 +195,7 @@ saved-back (t ∷ tests) ys is none =
 pub saved-format : Format saved_text (Each IsSign) NoSign saved_at
 saved-format = record { sound = saved-is; complete = saved-back }
 
--- a case whose parts are such, in any order
+-- a case with such parts, in any order
 pub record HasCase (c : Case) : Type 0 where
   pub held : Each IsTerm c.held
   pub own : Each HasOwn c.own

@@ -1,4 +1,4 @@
--- Cases are equal where each of their parts is.
+-- Cases are equal if all their parts are.
 use Rattle.std.proofs.Common.{◌≡◌, List, Bool, refl, ap, ◌∙◌, rules}
 use Rattle.std.specs.Prelude.{Decides}
 use Rattle.std.specs.Cmp.Lexicographic.{pointwise}

@@ -74,7 +74,7 @@ none-written : certificate_text [] ≡ codes "mlock-cert 1" ++ line_end ++ codes
 unfolding line_end
 none-written = refl
 
--- orders: by bytes, so `^A(..` stands before `^AB`, and a name before all that begin with it
+-- orders: by bytes, so `^A(..` comes before `^AB`, and a name before all that begin with it
 terms-in-order : terms_upto (record { root = root.Global (codes "A"); subs = known.Local (codes "Z") ∷ [] }) (record { root = root.Global (codes "AB"); subs = [] }) ≡ true
 terms-in-order = refl
 
@@ -87,6 +87,6 @@ names-not-with-itself = refl
 names-before-all-but : names_below (Only (codes "z")) (AllBut []) ≡ true
 names-before-all-but = refl
 
--- levels come first, as numbers
+-- levels are compared first, as numbers
 levels-first : own_below (record { level = 2; names = AllBut [] }) (own 10 (codes "A")) ≡ true
 levels-first = refl

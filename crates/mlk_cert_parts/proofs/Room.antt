@@ -1,4 +1,4 @@
--- A sign takes room; new names stand in the order of their texts at one level.
+-- A sign has a byte; at one level, new names are in the order of their texts.
 use Rattle.std.proofs.Common.{◌≡◌, ◌<◌, ℕ, ◌++◌, List, ◌∷◌, length, Some, Bool, true, false, sym, ap, ◌∙◌, arith}
 use Rattle.std.specs.Prelude.{◌==◌, ◌&&◌, ◌||◌, not, nat_lt}
 use Rattle.std.specs.Fmt.{decimal}

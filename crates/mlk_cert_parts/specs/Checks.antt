@@ -1,5 +1,5 @@
--- Tests on lists that are in order and not too long, as functions. For private clauses alone: the limits that public
--- calls promise stand in `Limits`.
+-- Tests that lists are in order and not too long, as functions. For private clauses only: the contracts of public calls use
+-- `Limits`.
 use Rattle.std.specs.Prelude.{ℕ, ◌&&◌, ◌||◌, not, nat_le, Bool, true, false, List, [], ◌∷◌, length, map, bytes_eq}
 use Rattle.mlk_names.specs.declared.term.LockTerm.{LockTerm}
 use Rattle.mlk_cert_parts.specs.declared.case.Case.{Case}
@@ -57,12 +57,12 @@ each_fits (p ∷ points) = fit_cases p.cases && each_fits points
 abbrev pub fit_points : List Point → Bool
 fit_points points = each_fits points && ascends points_below points
 
--- whether this is among the texts
+-- whether a text is among the texts
 abbrev pub has_text : List (List ℕ) → List ℕ → Bool
 has_text [] text = false
 has_text (t ∷ texts) text = bytes_eq text t || has_text texts text
 
--- whether no text stands twice
+-- whether no text occurs twice
 abbrev pub are_distinct : List (List ℕ) → Bool
 are_distinct [] = true
 are_distinct (t ∷ texts) = not (has_text texts t) && are_distinct texts
@@ -73,6 +73,6 @@ entries blocks = map (λ b. b.entry) blocks
 abbrev pub fit_blocks : List EntryCert → Bool
 fit_blocks blocks = are_distinct (entries blocks)
 
--- without a further test
+-- no further test
 abbrev pub fits : {A : Type 0} → A → Bool
 fits a = true

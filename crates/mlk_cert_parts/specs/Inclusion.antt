@@ -1,4 +1,4 @@
--- When one case says no more than another. This project's own choice.
+-- Inclusion of cases. This project's own choice.
 use Rattle.std.specs.Prelude.{◌≡◌, ◌⊎◌, Contains}
 use Rattle.mlk_cert_parts.specs.declared.case.Case.{Case}
 use Rattle.mlk_cert_parts.specs.declared.case.Test.{Test}
@@ -9,7 +9,7 @@ use Rattle.mlk_cert_lexemes.specs.Lists.{Each, EachPair}
 abbrev pub Covers : Test → Test → Type 0
 Covers s t = (t ≡ Any) ⊎ (t ≡ s)
 
--- The second case is included in the first: it says no more, so it holds wherever the first does.
+-- The first case is included in the second, which says no more, so it holds whenever the first does.
 pub record Included (a b : Case) : Type 0 where
   pub test : Covers a.test b.test
   pub held : b.held ≡ a.held

@@ -1,5 +1,5 @@
--- What every certificate keeps to: names are names, numbers are in range, lists are in order and not too long. The
--- limits are this project's own choice; names and labels are those of ISO/IEC 11756.
+-- The limits of every certificate: names are names, numbers are in range, lists are in order and not too long. The limits are
+-- this project's own choice; names and labels are those of ISO/IEC 11756.
 use Rattle.std.specs.Prelude.{ℕ, ◌≡◌, ◌≤◌, ◌==◌, ◌&&◌, ◌||◌, nat_lt, Bool, true, List, ◌∷◌, length, map, Option, Some, None, []}
 use Rattle.mlk_names.specs.declared.term.LockTerm.{LockTerm}
 use Rattle.mlk_cert_parts.specs.declared.case.Case.{Case}
@@ -18,11 +18,11 @@ use Rattle.mlk_cert_parts.specs.Texts.{names_text, case_text, exit_text}
 abbrev pub longest : ℕ
 longest = 67108864
 
--- sets of names stand in the order of their texts
+-- sets of names are in the order of their texts
 abbrev pub names_below : NameSet → NameSet → Bool
 names_below n m = below (names_text n) (names_text m)
 
--- new names stand in the order of their levels, at one level in that of their texts
+-- own names are in the order of their levels, and on one level in that of their texts
 abbrev pub own_below : Own → Own → Bool
 own_below o p = nat_lt o.level p.level || ((o.level == p.level) && names_below o.names p.names)
 
@@ -32,28 +32,28 @@ pub record AreTerms (terms : List LockTerm) : Type 0 where
   pub few : length terms ≤ 16
   pub order : ascends terms_upto terms ≡ true
 
--- the names inside parentheses: they ascend and don't repeat
+-- the names inside parentheses: they ascend without duplicates
 abbrev pub IsNameSet : NameSet → Type 0
 IsNameSet (Only name) = ReadsAsName name
 IsNameSet (AllBut names) = Each ReadsAsName names × (ascends below names ≡ true)
 
--- names that may change: at most 1,024, ascending, none twice
+-- names that may change: at most 1,024, ascending without duplicates
 pub record AreMods (mods : List NameSet) : Type 0 where
   pub each : Each IsNameSet mods
   pub few : length mods ≤ 1024
   pub order : ascends names_below mods ≡ true
 
--- new names, at levels from 1 to 15
+-- own names, at levels from 1 to 15
 abbrev pub IsOwn : Own → Type 0
 IsOwn o = (1 ≤ o.level) × (o.level ≤ 15) × IsNameSet o.names
 
--- at most 64, ascending, none twice
+-- at most 64, ascending without duplicates
 pub record AreOwn (own : List Own) : Type 0 where
   pub each : Each IsOwn own
   pub few : length own ≤ 64
   pub order : ascends own_below own ≡ true
 
--- kept names: at most 64, ascending, none twice
+-- kept names: at most 64, ascending without duplicates
 pub record AreKept (kept : List (List ℕ)) : Type 0 where
   pub each : Each ReadsAsName kept
   pub few : length kept ≤ 64
@@ -68,7 +68,7 @@ pub record IsExit (e : ExitCase) : Type 0 where
   pub held : AreTerms e.held
   pub kept : AreKept e.kept
 
--- cases stand in the order of their texts, and don't repeat
+-- cases are in the order of their texts, without duplicates
 abbrev pub cases_below : Case → Case → Bool
 cases_below c d = below (case_text c) (case_text d)
 
@@ -80,7 +80,7 @@ abbrev pub IsLow : Option ℕ → Type 0
 IsLow None = Unit {0}
 IsLow (Some rank) = rank ≤ 999999
 
--- at most 16 exits, ascending, none twice
+-- at most 16 exits, ascending without duplicates
 pub record IsSummary (s : Summary) : Type 0 where
   pub need : AreTerms s.need
   pub low : IsLow s.low
@@ -89,7 +89,7 @@ pub record IsSummary (s : Summary) : Type 0 where
   pub few_exits : length s.exits ≤ 16
   pub exit_order : ascends exits_below s.exits ≡ true
 
--- a point: a line from 1 to 65,535, a round from 0 to 255, and from 1 to 16 cases, ascending, none twice
+-- a point: a line from 1 to 65,535, a round from 0 to 255, and from 1 to 16 cases, ascending without duplicates
 pub record IsPoint (p : Point) : Type 0 where
   pub from_one : 1 ≤ p.line
   pub line : p.line ≤ 65535
@@ -99,7 +99,7 @@ pub record IsPoint (p : Point) : Type 0 where
   pub few : length p.cases ≤ 16
   pub order : ascends cases_below p.cases ≡ true
 
--- points stand in the order of their lines, on one line in that of their rounds
+-- points are in the order of their lines, and on one line in that of their rounds
 abbrev pub points_below : Point → Point → Bool
 points_below p q = nat_lt p.line q.line || ((p.line == q.line) && nat_lt p.round q.round)
 
@@ -109,12 +109,12 @@ pub record IsBlock (b : EntryCert) : Type 0 where
   pub each_point : Each IsPoint b.points
   pub order : ascends points_below b.points ≡ true
 
--- no text stands twice
+-- no text occurs twice
 abbrev pub TextsDiffer : List (List ℕ) → Type 0
 TextsDiffer [] = Unit {0}
 TextsDiffer (t ∷ texts) = Each (λ u. u ≡ t → ⊥) texts × TextsDiffer texts
 
--- What is a certificate: blocks of entries, no entry's text twice.
+-- A certificate: blocks of entries, no two with the same entry text.
 pub record IsCertificate (blocks : List EntryCert) : Type 0 where
   pub each : Each IsBlock blocks
   pub distinct : TextsDiffer (map (λ b. b.entry) blocks)

@@ -1,5 +1,5 @@
--- Reading the parts of a certificate, as functions on lists: what is read, and what is left after it. For private
--- clauses alone: what public calls promise stands in `Texts`, `Limits` and `Theorem`, and proofs tie the two.
+-- Reading the parts of a certificate, as functions on lists: what is read, and the rest. For private clauses only: the contracts
+-- of public calls use `Texts`, `Limits` and `Theorem`, and proofs connect the two.
 use Rattle.std.specs.Prelude.{ℕ, suc, ◌==◌, if◌then◌else◌, List, ◌∷◌, length, Option, Some, None, codes, []}
 use Rattle.mlk_text.specs.Reading.{◌>>=◌, with, put, many}
 use Rattle.mlk_text.specs.Lexemes.{byte_at, name_at}
@@ -29,11 +29,11 @@ names_at xs = names_by xs (byte_at 126 xs)
 abbrev pub own_of : ℕ → NameSet → Own
 own_of level names = record { level = level; names = names }
 
--- new names
+-- own names
 unfoldable pub own_at : List ℕ → Option (Own × List ℕ)
 own_at xs = counted_at 15 xs >>= λ level. byte_at 58 level.1 >>= λ colon. with (own_of level.0) (names_at colon.1)
 
--- what is said of `$TEST`
+-- what is known of `$TEST`
 abbrev pub sign_at : List ℕ → Option (Test × List ℕ)
 sign_at [] = None
 sign_at (b ∷ xs) = if b == 42 then Some (Any, xs) else (if b == 48 then Some (Zero, xs) else (if b == 49 then Some (One, xs) else None))
@@ -43,7 +43,7 @@ abbrev pub signs_by : List ℕ → Option (Test × List ℕ) → Option (List Te
 signs_by xs None = None
 signs_by xs (Some first) = put (first.0 ∷ []) (many sign_at keep (suc (length first.1)) first.1)
 
--- the signs of open blocks: none for a dash, else one or more
+-- the signs of open blocks: none for a dash, otherwise one or more
 abbrev pub saved_by : List ℕ → Option (ℕ × List ℕ) → Option (List Test × List ℕ)
 saved_by xs (Some dash) = Some ([], dash.1)
 saved_by xs None = signs_by xs (sign_at xs)

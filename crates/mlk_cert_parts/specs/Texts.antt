@@ -1,5 +1,5 @@
--- Certificates and their texts, part joined to part: each certificate has one text. This project's own format; names
--- are those of ISO/IEC 11756.
+-- Certificates and their texts, as joined parts: each certificate has one text. This project's own format; names are those of
+-- ISO/IEC 11756.
 use Rattle.std.specs.Prelude.{ℕ, Bool, true, false, List, ◌∷◌, ◌++◌, Option, Some, None, codes, []}
 use Rattle.std.specs.Fmt.{decimal}
 use Rattle.mlk_cert_parts.specs.declared.case.Test.{Test}
@@ -20,11 +20,11 @@ abbrev pub names_text : NameSet → List ℕ
 names_text (Only name) = name
 names_text (AllBut names) = codes "~(" ++ (joined 44 name_text names ++ codes ")")
 
--- names that are new at a level
+-- names that are own at a level
 abbrev pub own_text : Own → List ℕ
 own_text o = decimal o.level ++ 58 ∷ names_text o.names
 
--- what is said of `$TEST`
+-- what is known of `$TEST`
 abbrev pub sign : Test → ℕ
 sign Any = 42
 sign Zero = 48
@@ -33,7 +33,7 @@ sign One = 49
 abbrev pub sign_text : Test → List ℕ
 sign_text t = sign t ∷ []
 
--- what is said of the `$TEST` of open blocks: one sign after another, the outermost first, or `-`
+-- what is known of the `$TEST` of open blocks: one sign after another, the outermost first, or `-`
 abbrev pub saved_text : List Test → List ℕ
 saved_text [] = codes "-"
 saved_text (t ∷ tests) = sign t ∷ flat sign_text tests
@@ -51,7 +51,7 @@ exit_text e = codes "T=" ++ (sign e.test ∷ (codes " H=" ++ (listed term_text e
 abbrev pub exit_line : ExitCase → List ℕ
 exit_line e = line (codes "exit ") (exit_text e)
 
--- a point: which line, and which round of it
+-- a point: the number of a line, and that of a round
 abbrev pub place_text : ℕ → ℕ → List ℕ
 place_text number round = decimal number ++ 46 ∷ decimal round
 
@@ -73,13 +73,13 @@ abbrev pub drops_text : Bool → List ℕ
 drops_text false = codes "0"
 drops_text true = codes "1"
 
--- what is said of an entry as a whole: four lines, and a line for each exit
+-- the summary of an entry: four lines, and a line for each exit
 abbrev pub summary_text : Summary → List ℕ
 summary_text s =
     line (codes "need ") (listed term_text s.need)
     ++ (line (codes "low ") (low_text s.low) ++ (line (codes "drops ") (drops_text s.drops) ++ (line (codes "mods ") (listed names_text s.mods) ++ flat exit_line s.exits)))
 
--- the block of an entry, its points with these texts
+-- the block of an entry, given the texts of its points
 abbrev pub block_with : (Point → List ℕ) → EntryCert → List ℕ
 block_with point b = line (codes "entry ") b.entry ++ (summary_text b.summary ++ flat point b.points)
 

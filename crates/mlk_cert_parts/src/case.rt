@@ -1,4 +1,4 @@
-// Cases: what is said of a job.
+// Cases: what is known of a job.
 
 ghost use Rattle.std.specs.Prelude.{◌≡◌, IfOk};
 
@@ -8,7 +8,7 @@ use mlk_names::LockTerm;
 use mlk_text::Name;
 use std::alloc::AllocError;
 
-/// What is said of `$TEST`.
+/// What is known of `$TEST`.
 #[derive(Clone, Copy, Debug, PartialEq, Eq)]
 pub enum Test {
     /// `*`: either value
@@ -19,31 +19,31 @@ pub enum Test {
     One,
 }
 
-/// What is said of a job at the start of a line, or of a round of a FOR.
+/// What is known of a job at the start of a line or of a round of a FOR.
 #[derive(Drop, PartialEq, Eq)]
 pub struct Case {
     pub test: Test,
-    /// What is said of the `$TEST` of each open block, the outermost first.
+    /// What is known of the saved `$TEST` of each open block, the outermost first.
     pub saved: Shared<Test>,
-    /// The locks that this call holds, each as often as it holds them.
+    /// The locks that this call holds, each as often as it holds it.
     pub held: Shared<LockTerm>,
-    /// The names that were made new since the call began, and still are.
+    /// The names that NEW or the formal list created since the call began, and that still exist.
     pub own: Shared<Own>,
-    /// The names that have the values of the call's begin.
+    /// The names that still have the values that they had when the call began.
     pub kept: Shared<Name>,
 }
 
-/// What is said of a job at the end of a call.
+/// What is known of a job when a call ends.
 #[derive(Drop, PartialEq, Eq)]
 pub struct ExitCase {
     pub test: Test,
     /// The locks that the call leaves held.
     pub held: Shared<LockTerm>,
-    /// The names that have the values of the call's begin.
+    /// The names that still have the values that they had when the call began.
     pub kept: Shared<Name>,
 }
 
-/// A case that is equal to this one, and shares its lists.
+/// Copies `case`; the copy shares its lists.
 #[inline(always)]
 pub fn copy_case(case: &Case) -> Result<Case, AllocError>
     ensures { IfOk result (λ c. c ≡ case.now) }

@@ -7,8 +7,8 @@ use crate::block::EntryCert;
 use mlk_text::List;
 use std::marker::Model;
 
-/// A certificate: it keeps to all limits and orders, no entry's text stands twice, and no point is without a case. A
-/// contract sees the list of its blocks.
+/// A certificate: it respects all limits and orders, no two blocks have the same entry text, and no point is without a case.
+/// A contract sees the list of its blocks.
 #[derive(Drop)]
 pub struct Certificate {
     blocks: List<EntryCert>,
@@ -28,7 +28,7 @@ impl Model for Certificate {
 }
 
 impl Certificate {
-    /// The certificate of blocks that keep to all limits.
+    /// The certificate of `blocks`, which respect all limits and orders.
     pub fn of(blocks: Vec<EntryCert>) -> Certificate
         requires { IsCertificate blocks.items }
         ensures { result ≡ blocks.items }
@@ -38,7 +38,7 @@ impl Certificate {
         }
     }
 
-    /// The blocks, in their order.
+    /// The blocks, in order.
     pub fn blocks(&self) -> &[EntryCert]
         ensures blocks { result.now ≡ self.now }
         ensures limits { IsCertificate self.now }

@@ -1,4 +1,4 @@
-// When one case says no more than another.
+// Inclusion of cases.
 
 ghost use Rattle.std.specs.Prelude.{◌≡◌, ◌↔◌, IsTrue, Contains, Decides, bytes_eq};
 ghost use Rattle.std.specs.Cmp.Lexicographic.{pointwise};
@@ -8,14 +8,14 @@ ghost use Rattle.mlk_cert_parts.specs.Inclusion.{Covers, Included};
 use crate::case::{Case, Test};
 use mlk_text::{Name, are_equal};
 
-// Whether the second says no more of `$TEST` than the first.
+// Whether `second` says no more about `$TEST` than `first`.
 fn covers(first: Test, second: Test) -> bool
     ensures { IsTrue result ↔ Covers first second }
 {
     second == Test::Any || second == first
 }
 
-// Whether the second list is the first, sign by sign, or says less.
+// Whether `second` says no more than `first`, test by test.
 fn cover_all(first: &[Test], second: &[Test]) -> bool
     ensures { IsTrue result ↔ EachPair Covers first.now second.now }
 {
@@ -33,7 +33,7 @@ fn cover_all(first: &[Test], second: &[Test]) -> bool
     firsts.is_empty() && seconds.is_empty()
 }
 
-// Whether each of these names is among those, whatever their order.
+// Whether each of `names` is among `all`, in any order.
 fn each_is_among(names: &[Name], all: &[Name]) -> bool
     ensures { IsTrue result ↔ Each (Contains all.now) names.now }
 {
@@ -47,7 +47,7 @@ fn each_is_among(names: &[Name], all: &[Name]) -> bool
     true
 }
 
-// Whether the names are the same, in the same order.
+// Whether `names` and `others` are equal, in the same order.
 #[inline(always)]
 fn are_same(names: &[Name], others: &[Name]) -> bool
     ensures { result ≡ pointwise bytes_eq names.now others.now }
@@ -67,14 +67,14 @@ fn are_same(names: &[Name], others: &[Name]) -> bool
     left_others.is_empty()
 }
 
-// Whether each of these names is among those. Mostly the lists are the same.
+// Whether each of `names` is among `all`. Usually the two lists are equal.
 fn are_among(names: &[Name], all: &[Name]) -> bool
     ensures { IsTrue result ↔ Each (Contains all.now) names.now }
 {
     are_same(names, all) || each_is_among(names, all)
 }
 
-/// Whether the lists are equal.
+/// Whether the two lists are equal.
 pub fn same<T: PartialEq>(first: &[T], second: &[T]) -> bool
     requires { (x y : T) → Decides (T.eq x y) (x ≡ y) }
     ensures { IsTrue result ↔ (second.now ≡ first.now) }
@@ -82,8 +82,7 @@ pub fn same<T: PartialEq>(first: &[T], second: &[T]) -> bool
     are_equal(second, first)
 }
 
-/// Whether the second case is included in the first: it says no more than the first, so it holds wherever the first
-/// does. It takes no memory.
+/// Whether `second` includes `first`: it says no more than `first`, so it holds whenever `first` does. Allocates nothing.
 pub fn included(first: &Case, second: &Case) -> bool
     ensures { IsTrue result ↔ Included first.now second.now }
 {

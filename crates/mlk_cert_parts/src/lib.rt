@@ -1,4 +1,4 @@
-//! What certificates are made of: cases, points and summaries, their limits and texts, and which case includes which.
+//! The parts of certificates: cases, points and summaries, their limits and texts, and inclusion of cases.
 #![tactic(auto)]
 
 mod block;

@@ -1,4 +1,4 @@
-// Names that may change, and names that are new.
+// Names that may change, and names that are own.
 
 use mlk_text::{List, Name};
 
@@ -7,14 +7,14 @@ use mlk_text::{List, Name};
 pub enum NameSet {
     /// This name.
     Only(Name),
-    /// Every name but these.
+    /// Every name except these.
     AllBut(List<Name>),
 }
 
-/// Names that were made new at a level of the routine, and still are.
+/// Names that were created at a level of the routine, and still exist.
 #[derive(Clone, Drop, Debug, PartialEq, Eq)]
 pub struct Own {
-    /// The level of the lines that made them new, from 1.
+    /// The level of the lines that created them, from 1.
     pub level: u32,
     pub names: NameSet,
 }

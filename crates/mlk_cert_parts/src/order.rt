@@ -16,8 +16,8 @@ fn text_of(alloc: Global, term: &LockTerm) -> Result<WrittenText, AllocError>
     Ok(text)
 }
 
-/// The place of a term among others that stand in the order of their texts: how many of them stand before the first
-/// whose text is not below its own.
+/// The index at which `term` belongs among `terms`, which are ordered by their texts: the number of terms before the first
+/// whose text is not below that of `term`.
 pub fn place_of_term(
     alloc: Global,
     terms: &[LockTerm],

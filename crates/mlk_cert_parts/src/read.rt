@@ -1,4 +1,4 @@
-// Sets of names and new names, read.
+// The readers of sets of names and of own names.
 
 ghost use Rattle.std.specs.Prelude.{◌≡◌, ◌∷◌, IfOk};
 ghost use Rattle.mlk_text.specs.Failures.{Reads};
@@ -15,7 +15,7 @@ use mlk_text::spelling::name;
 use mlk_text::{Failure, List, Name, NotThere};
 use std::alloc::Global;
 
-// All names but those inside the parentheses.
+// Reads the names inside the parentheses, as the set of all others.
 fn all_but(alloc: Global, bytes: &[u8]) -> Result<(NameSet, &[u8]), Failure<NotThere>>
     ensures { Reads (λ x. (x.0, x.1.now)) result (inside_by bytes.now (byte_at 41 bytes.now)) }
 {
@@ -95,7 +95,7 @@ impl Item for Own {
     }
 }
 
-// Whether names ascend and none stands twice.
+// Whether `names` ascend without duplicates.
 fn names_ascend(names: &[Name]) -> bool
     ensures { result ≡ ascends below names.now }
 {
@@ -121,7 +121,7 @@ fn ascends_inside(names: &NameSet) -> bool
     }
 }
 
-/// Whether the names inside each set ascend.
+/// Whether the names in each set ascend.
 pub fn ascend_inside(sets: &[NameSet]) -> bool
     ensures { result ≡ ascend_inside sets.now }
 {
@@ -133,7 +133,7 @@ pub fn ascend_inside(sets: &[NameSet]) -> bool
     true
 }
 
-/// Whether the names inside each item of new names ascend.
+/// Whether the names in each item of own names ascend.
 pub fn ascend_inside_own(own: &[Own]) -> bool
     ensures { result ≡ ascend_inside_own own.now }
 {

@@ -1,4 +1,4 @@
-// Lists that stand at many places and are kept once.
+// Lists that occur at many places and are stored once.
 
 ghost use Rattle.std.specs.Prelude.{◌≡◌, IfOk};
 
@@ -7,7 +7,7 @@ use std::alloc::{AllocError, Global};
 use std::marker::Model;
 use std::sync::Arc;
 
-/// A list that several owners may share; it never changes. A contract sees the list of its elements.
+/// An immutable list that several owners may share. A contract sees the list of its elements.
 #[derive(Drop)]
 pub struct Shared<T> {
     list: Arc<List<T>>,
@@ -25,7 +25,7 @@ impl<T> Model for Shared<T> {
 }
 
 impl<T: Drop> Shared<T> {
-    /// The elements of a vector, with one owner, in as much memory as they need.
+    /// A list of `items` with one owner, in as little memory as they need.
     pub fn new(alloc: Global, mut items: Vec<T>) -> Result<Shared<T>, AllocError>
         ensures { IfOk result (λ s. s ≡ items.items) }
     {

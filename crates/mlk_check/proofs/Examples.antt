@@ -1,5 +1,5 @@
--- The theorem speaks of real programs: of four worked programs all that it asks for is shown, so every run of theirs keeps the
--- rules. And what it says of one given run, in which two jobs of one program want the same lock.
+-- The theorem applies to real programs: for four worked programs all its premises are shown, so each of their runs keeps the
+-- rules. And what it implies for one given run, in which two jobs of one program claim the same lock.
 use Rattle.std.proofs.Common.{◌≡◌, refl, sym, ap, ◌∙◌, subst, ℕ, zero, suc, true, false, List, [], ◌∷◌, arith, ⊎_elim, inl, inr, length, eqb-true}
 use Rattle.std.specs.Prelude.{◌==◌, ◌++◌, Option, Some, None, Ok, Err, codes}
 use Rattle.std.proofs.lemmas.Bool.{cases_Bool, and_parts}
@@ -91,7 +91,7 @@ sound : (entries : List (List ℕ)) → IsSound (base_rules entries)
 sound entries = record { formed = refl; apart = apart entries }
 
 -- DEP(ID,AMT) LOCK +^ACCT(ID) SET ^ACCT(ID,"bal")=$GET(^ACCT(ID,"bal"))+AMT LOCK -^ACCT(ID) QUIT
--- One entry that takes its lock, reads and writes what the lock covers, and gives the lock back.
+-- One entry that acquires its lock, reads and writes what the lock covers, and releases the lock.
 abbrev deposit_rules : RuleLists
 deposit_rules = base_rules (codes "DEP^BANK" ∷ [])
 
@@ -107,7 +107,7 @@ deposit_keeps_rules = keeps_rules deposit-yes-routines deposit_rules deposit-yes
 
 -- USE(ID) DO GRAB(ID) SET ^ACCT(ID)=1 LOCK -^ACCT(ID) QUIT
 -- GRAB(K) LOCK +^ACCT(K) QUIT
--- The lock is taken by another entry than the one that writes and gives it back.
+-- The entry that acquires the lock is not the one that writes and releases it.
 wrapper_formed : AreFormed wrapper-takes-lock-routines
 wrapper_formed = formed_by wrapper-takes-lock-routines refl
 
@@ -121,7 +121,7 @@ wrapper_keeps_rules =
 
 -- L LOCK +^LOG FOR I=1:1:3 SET ^LOG(I)=I
 --  LOCK -^LOG QUIT
--- A FOR whose rounds write under a lock that the line before them takes.
+-- A FOR whose rounds write under a lock that the line before them acquires.
 loop_formed : AreFormed loop-under-lock-routines
 loop_formed = formed_by loop-under-lock-routines refl
 
@@ -137,7 +137,7 @@ loop_keeps_rules =
 --  . IF 0
 --  ELSE  QUIT
 --  SET ^ACCT(ID)=1 LOCK -^ACCT(ID) QUIT
--- Whether a LOCK with a timeout was granted stands in `$TEST`, and the end of the block puts that back.
+-- `$TEST` says whether a LOCK with a timeout was granted, and the end of the block restores it.
 timed_formed : AreFormed timed-lock-block-keeps-test-routines
 timed_formed = formed_by timed-lock-block-keeps-test-routines refl
 
@@ -149,15 +149,15 @@ pub timed_keeps_rules : KeepsRules timed-lock-block-keeps-test-routines (base_ru
 timed_keeps_rules =
     keeps_rules timed-lock-block-keeps-test-routines (base_rules (codes "T^BLOCK" ∷ [])) timed-lock-block-keeps-test-blocks (sound _) timed_certificate timed_formed timed-lock-block-keeps-test
 
--- One run of DEP^BANK. Two jobs deposit into account 7: the first one 5, the second one 9. Both go up to their claim of
--- ^ACCT(7). The first one gets it, reads a balance of 100, and goes up to its write.
+-- One run of DEP^BANK. Two jobs deposit into account 7: the first one 5, the second one 9. Both run up to their claim of
+-- ^ACCT(7). The first one acquires it, reads a balance of 100, and runs up to its write.
 abbrev deposit_entry : EntryId
 deposit_entry = record { routine = 0; line = 0 }
 
 abbrev bank : Machine Job Choice EntryId
 bank = machine deposit-yes-routines (is_declared deposit-yes-routines deposit_rules.entries)
 
--- so many steps that ask for nothing
+-- `n` steps without a choice
 abbrev steps : ℕ → List (Act Choice EntryId)
 steps zero = []
 steps (suc n) = Go choice.None ∷ steps n
@@ -175,7 +175,7 @@ events =
     deposits 1 (codes "5") ∷ deposits 2 (codes "9") ∷ events_of 1 (steps 4) ++ events_of 2 (steps 4)
     ++ events_of 1 (steps 14 ++ Go (choice.Value (codes "100")) ∷ steps 5)
 
--- What each job is, by itself: at its begin, and after these acts of its own.
+-- Each job by itself: at its begin, and after these acts of its own.
 abbrev pub job_of : Stepped → Job
 job_of (Ok j) = j
 job_of (Err why) = blank 0 false []
@@ -211,7 +211,7 @@ pub first_holds : count_of first.held account ≡ 1
 unfolding digits fold_between whole same_name is_above
 first_holds = refl
 
--- The second job stands at LOCK +^ACCT(7). It can't go on, whatever is chosen: it waits for the first one.
+-- The second job is at LOCK +^ACCT(7). It cannot continue, whatever is chosen: it waits for the first one.
 pub second_claims : next_claim second.tasks ≡ Some (record { names = account ∷ []; timed = false })
 second_claims = refl
 
@@ -225,7 +225,7 @@ pub second_waits_for_first : waits (seen second) (seen first) ≡ true
 unfolding digits fold_between whole same_name is_above in_conflict
 second_waits_for_first = refl
 
--- What the theorem says of this moment: the jobs don't clash, they don't wait for each other in a ring, and the first one
+-- What the theorem implies at this moment: the jobs do not clash, they do not wait for each other in a ring, and the first one
 -- holds what covers the node that it is about to write.
 pub both_are_safe : AreSafe deposit_rules (first ∷ second ∷ [])
 both_are_safe = deposit_keeps_rules.all_jobs events (first ∷ second ∷ []) both_jobs
@@ -280,8 +280,8 @@ holds_above c =
 pub holds_its_cover : (n : LockName) × Holds (seen first) n × IsAbove n account
 holds_its_cover = holds_above write_is_covered
 
--- The first job goes on to its end, while the second one waits: the write, LOCK -^ACCT(7), QUIT. It has ended by itself, and so,
--- says the theorem, holds nothing. Now the second one is granted its claim.
+-- The first job runs to its end, while the second one waits: the write, LOCK -^ACCT(7), QUIT. It has ended by itself, and so,
+-- by the theorem, holds nothing. Now the second one is granted its claim.
 abbrev to_the_end : List (Act Choice EntryId)
 to_the_end = steps 11
 
@@ -307,8 +307,8 @@ pub second_is_granted : happens bank (ended ∷ second ∷ []) 2 (Go choice.None
 unfolding digits fold_between whole same_name is_above in_conflict
 second_is_granted = refl
 
--- L^LOOP before SET, in its first round. What the theorem says of this moment: the job is on the line of the FOR, and the walk of
--- its rounds comes to a state whose case describes the job.
+-- L^LOOP before SET, in its first round. What the theorem implies at this moment: the job is on the line of the FOR, and the walk
+-- of its rounds reaches a state whose case describes the job.
 abbrev loop_entry : EntryId
 loop_entry = record { routine = 0; line = 0 }
 
@@ -327,7 +327,7 @@ loop_begun = job_of (begun loop-under-lock-routines loop_entry 1 false [])
 abbrev before_set : Job
 before_set = job_of (lone_run looping up_to_set loop_begun)
 
--- what is left of the line, and behind it
+-- what is left of the line, and after it
 abbrev left_in : List Task → CommandTrees
 left_in (RunCommands left here ∷ ts) = left
 left_in ts = finished

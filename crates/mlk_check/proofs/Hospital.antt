@@ -1,5 +1,5 @@
--- The hospital of examples/: all that the theorem asks of it is shown, so every run of its five routines keeps the rules. And
--- what the theorem says of one given run, in which a patient is admitted to a ward while another is moved there.
+-- The hospital of examples/: all premises of the theorem are shown for it, so every run of its five routines keeps the rules. And
+-- what the theorem implies for one given run, in which a patient is admitted to a ward while another is moved there.
 use Rattle.std.proofs.Common.{◌≡◌, refl, sym, ◌∙◌, ℕ, zero, suc, true, false, List, [], ◌∷◌, arith, inl, inr}
 use Rattle.std.specs.Prelude.{◌++◌, bytes_eq, Some, None, Ok, Err, codes}
 use Rattle.std.specs.Fmt.{digits}
@@ -423,7 +423,7 @@ pub hospital-yes : report hospital_routines hospital_rules hospital_blocks ≡ [
 unfolding report entry_faults fault_cmp answer same_term same_case includes leaves_by same_state too_many few certified declared fold_between fold_before byte_text digits entry_of label_at name_at digits_at is_among have spares whole
 hospital-yes = refl
 
--- No family is another, or above it: their names differ.
+-- No family is equal to another, or above it: their names differ.
 other : (m n : List ℕ) → bytes_eq m n ≡ false → m ≡ n → ⊥
 other m n h e = false≢true (sym h ∙ (bytes_eq-Decides m n).1 e)
 
@@ -467,7 +467,7 @@ admit = record { routine = 0; line = 0 }
 abbrev move : EntryId
 move = record { routine = 4; line = 0 }
 
--- what a job does by itself, at most so many steps, and what it does with these choices in between
+-- the silent steps of a job, at most `n`; and its acts with these choices in between
 abbrev quiet_from : (Job → List (Act Choice EntryId)) → Stepped → List (Act Choice EntryId)
 quiet_from more (Ok i) = Go choice.None ∷ more i
 quiet_from more (Err why) = []
@@ -488,12 +488,12 @@ first_begun = job_of (begun hospital_routines admit 1 false (Some (codes "17") �
 abbrev second_begun : Job
 second_begun = job_of (begun hospital_routines move 2 false (Some (codes "18") ∷ Some (codes "C1") ∷ []))
 
--- Both claims are granted; the next bed is 1, which is not the end; nobody lies there; so a bed was found.
+-- Both claims are granted; the next bed is 1, which is not the end; nobody is in it; so a bed was found.
 abbrev admission : List (Act Choice EntryId)
 admission =
     played (choice.None ∷ choice.None ∷ choice.Value (codes "1") ∷ choice.Value (codes "0") ∷ choice.Value (codes "0") ∷ choice.Value (codes "1") ∷ []) first_begun
 
--- The claim of the patient is granted, and the patient lies in ward B2.
+-- The claim of the patient is granted, and the patient is in ward B2.
 abbrev removal : List (Act Choice EntryId)
 removal = played (choice.None ∷ choice.Value (codes "B2") ∷ []) second_begun
 
@@ -531,8 +531,8 @@ pub second_waits_for_first : waits (seen second) (seen first) ≡ true
 unfolding digits fold_between fold_before whole same_name is_above in_conflict
 second_waits_for_first = refl
 
--- What the theorem says of this moment: the jobs don't clash and don't wait in a ring, and the first one holds what covers the
--- bed that it is about to write.
+-- What the theorem implies at this moment: the jobs do not clash and do not wait in a ring, and the first one holds what covers
+-- the bed that it is about to write.
 pub both_are_safe : AreSafe hospital_rules (first ∷ second ∷ [])
 both_are_safe = hospital_keeps_rules.all_jobs events (first ∷ second ∷ []) both_jobs
 

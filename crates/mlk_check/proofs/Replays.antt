@@ -1,4 +1,4 @@
--- Safe jobs are shown as such, and a replay of a program that keeps its rules comes to safe jobs.
+-- Safe jobs are shown as such, and a replay of a program that keeps its rules leads to safe jobs.
 use Rattle.std.proofs.Common.{◌≡◌, ◌∙◌, ◌≢◌, ◌<◌, ◌==◌, ◌&&◌, ◌||◌, ◌++◌, ℕ, zero, suc, Bool, true, false, List, [], ◌∷◌, map, Option, Some, None, Ok, refl, sym, ap, subst, inl, inr, arith}
 use Rattle.std.specs.Prelude.{codes, option_and_then}
 use Rattle.std.proofs.lemmas.Bool.{cases_Bool, false_from_ne_true, eqb-true, ne_eqb}

@@ -1,4 +1,4 @@
--- Tests that compute what the theorem asks of certificates and of routines, for programs that are written down.
+-- Tests that compute the premises of the theorem on certificates and on routines, for given programs.
 use Rattle.std.proofs.Common.{◌≡◌, ◌≤◌, ◌<◌, refl, ap, subst, ℕ, zero, suc, Bool, true, false, List, [], ◌∷◌, ◌++◌, map, Option, Some, None, inl, inr, length, arith}
 use Rattle.std.specs.Prelude.{◌==◌, ◌&&◌, ◌||◌, if◌then◌else◌, not, nat_le, nat_lt, bytes_eq, Contains}
 use Rattle.std.specs.List.{list_all}
@@ -31,7 +31,7 @@ use Rattle.mlk_machine_jobs.specs.Tasks.{LineTree}
 use Rattle.mlk_machine_laws.specs.WellFormed.{answers, AnswersAtEnd, IsAtLevel, AreLeveled, reads_locals, ReadsLocals, HeadReadsLocals, LinesReadLocals, lines_of_routine, IsWellFormed}
 use Rattle.mlk_soundness_walk.specs.Forms.{AreFormed}
 
--- each item is such, where the test holds of all
+-- each item has the property if the test passes for all
 each_by : {A : Type 0} (Is : A → Type 0) (test : A → Bool) → ((a : A) → test a ≡ true → Is a) → (xs : List A) → list_all test xs ≡ true → Each Is xs
 each_by Is test h [] e = tt
 each_by Is test h (x ∷ xs) e = let p = and_parts (test x) (list_all test xs) e in (h x p.0, each_by Is test h xs p.1)
@@ -246,7 +246,7 @@ block_by b e =
       order = d.1;
     }
 
--- texts of which none stands twice
+-- texts without duplicates
 abbrev differs : List ℕ → List ℕ → Bool
 differs t u = not (bytes_eq u t)
 
@@ -266,19 +266,19 @@ distinct_by (t ∷ texts) e =
 abbrev pub is_certificate : List EntryCert → Bool
 is_certificate blocks = list_all is_block blocks && are_distinct (map (λ b. b.entry) blocks)
 
--- Blocks of which the test holds are a certificate.
+-- Blocks that pass the test are a certificate.
 pub certificate_by : (blocks : List EntryCert) → is_certificate blocks ≡ true → IsCertificate blocks
 certificate_by blocks e =
     let p = and_parts (list_all is_block blocks) (are_distinct (map (λ b. b.entry) blocks)) e in
     record { each = each_by IsBlock is_block block_by blocks p.0; distinct = distinct_by (map (λ b. b.entry) blocks) p.1 }
 
--- what each item of a list is, and that a text is not in a list
+-- a property of each item of a list, and that a text is not in a list
 each_one : {A : Type 0} (Is : A → Type 0) (xs : List A) → Each Is xs → (a : A) → Contains xs a → Is a
 each_one Is [] h a i = absurd (omega (arith, i.1))
 each_one Is (x ∷ xs) h a (zero, low, same) = subst Is same h.0
 each_one Is (x ∷ xs) h a (suc k, low, same) = each_one Is xs h.1 a (k, omega (arith, low), same)
 
--- formal lists without a name that stands twice
+-- formal lists without a name that occurs twice
 formals_by : (names : List (List ℕ)) → are_distinct names ≡ true → formals.AreDistinct names
 formals_by [] e = tt
 formals_by (n ∷ names) e =
@@ -288,7 +288,7 @@ formals_by (n ∷ names) e =
 abbrev formals_differ : LineTree → Bool
 formals_differ l = are_distinct (formals_in l.0)
 
--- QUIT with a value, where it may stand
+-- QUIT with a value, where it is allowed
 abbrev answers_at_end : Bool → CommandTrees → Bool
 answers_at_end may finished = true
 answers_at_end may (then_command c rest) = (not (answers c) || may) && answers_at_end may rest
@@ -363,6 +363,6 @@ well_formed_by r e =
       reads = lines_read_by (lines_of_routine r) q.1;
     }
 
--- Routines of which the test holds are well formed.
+-- Routines that pass the test are well formed.
 pub formed_by : (routines : List RoutineTree) → list_all is_well_formed routines ≡ true → AreFormed routines
 formed_by routines e = each_one IsWellFormed routines (each_by IsWellFormed is_well_formed well_formed_by routines e)

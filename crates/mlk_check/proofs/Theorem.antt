@@ -1,4 +1,4 @@
--- Where the report has no row, every run keeps the rules.
+-- If the report has no row, every run keeps the rules.
 use Rattle.std.proofs.Common.{◌≡◌, List, [], Result, Ok, Err}
 use Rattle.std.specs.Prelude.{IfOk}
 use Rattle.mlk_rules.specs.declared.rules.RuleLists.{RuleLists}

@@ -1,5 +1,4 @@
--- What a replay shows of a program that keeps its rules, in the words of the contracts of the calls that show it. This
--- project's own.
+-- What a replay shows of a program that keeps its rules, stated as the contracts of the calls that show it. This project's own.
 use Rattle.std.specs.Prelude.{◌≡◌, ◌≢◌, ℕ, true, false, List, [], ◌++◌, map, Some, Ok, codes, option_and_then}
 use Rattle.mlk_names.specs.Lists.{Among}
 use Rattle.mlk_names.specs.declared.lock_name.LockName.{LockName}
@@ -32,9 +31,9 @@ abbrev pub ClashFreely : RuleLists → Job → Job → Type 0
 ClashFreely rules i j = (clash : Clash i j) × OneReadsFreely rules clash.one clash.other
 
 -- What calls show of these jobs: of two that `clash` finds, one reads freely. If no rule frees reads, `clash` finds no two,
--- `clashes` lists none, and what `ready` gives of two numbers does not clash. `has_ring` finds no ring; of a job that `state`
--- calls ended, `holds` counts no name; and the printed text has a line for each pair that `clashes` lists, and says that there is
--- no ring.
+-- `clashes` lists none, and what `ready` returns for two numbers does not clash. `has_ring` finds no ring; for a job that
+-- `state` calls ended, `holds` counts no name; and the printed text has a line for each pair that `clashes` lists, and says that
+-- there is no ring.
 pub record AreShownSafe (rules : RuleLists) (routines : List RoutineTree) (jobs : List Job) : Type 0 where
   pub clash_freely : (i j : Job) → Among i jobs → Among j jobs → clash i j ≡ true → ClashFreely rules i j
   pub none_clash : FreesNoReads rules → (i j : Job) → Among i jobs → Among j jobs → clash i j ≡ false
@@ -51,12 +50,12 @@ pub record AreShownSafe (rules : RuleLists) (routines : List RoutineTree) (jobs 
 abbrev pub SafeIsShown : Type 0
 SafeIsShown = (rules : RuleLists) (routines : List RoutineTree) (jobs : List Job) → AreSafe rules jobs → AreShownSafe rules routines jobs
 
--- the entries that these texts name, each of which names one
+-- the entries that these texts name, each exactly one
 abbrev pub AreNamed : List RoutineTree → List (List ℕ) → List EntryId → Type 0
 AreNamed routines texts entries = map Some entries ≡ map (entry_by routines) texts
 
--- Where a program keeps its rules, jobs are safe at each moment of a run that begins at the entries which the rules name,
--- so also after all lines of a file of events, and are shown as such.
+-- If a program keeps its rules, jobs are safe at each moment of a run that begins at the entries which the rules name, so also
+-- after all lines of a file of events, and are shown as such.
 pub record ReplaysAreSafe : Type 0 where
   pub at_moments : (program : List Routine) (rules : RuleLists) (blocks : List EntryCert) (entries : List EntryId) (jobs : List Job)
       → KeepsRules (map routine_of program) rules blocks → AreNamed (map routine_of program) rules.entries entries

@@ -29,10 +29,10 @@ pub record AreSafe (rules : RuleLists) (jobs : List Job) : Type 0 where
 
 -- Every run of a program keeps its rules.
 -- Of one job alone, begun at a declared entry and granted each claim at any time: at each moment the reference that it is
--- ready to touch is covered by locks that it holds; what it claims is in the order of the ranks; where it has ended by itself
--- it holds nothing; at each begin of a frame, of a line and of a round of a FOR, a case that the certificate lists there
--- describes it; inside a line, before each command and after each argument, one that the walk makes of a listed case; and JOB
--- starts declared entries.
+-- ready to touch is covered by locks that it holds; what it claims is in the order of the ranks; if it has ended by itself it
+-- holds nothing; at each begin of a frame, of a line and of a round of a FOR, a case that the certificate lists there describes
+-- it; inside a line, before each command and after each argument, one that the walk derives from a listed case; and JOB starts
+-- declared entries.
 -- Of any number of jobs begun at declared entries, whatever happens to them in whatever order: at each moment they are safe.
 pub record KeepsRules (routines : List RoutineTree) (rules : RuleLists) (blocks : List EntryCert) : Type 0 where
   pub each_job : AtEachMomentSince routines (is_declared routines rules.entries) (FactsSince routines rules (certified routines blocks, declared routines rules.entries))

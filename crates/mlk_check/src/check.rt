@@ -13,9 +13,9 @@ use mlk_walk::{Report, report_of};
 use std::alloc::{AllocError, Global};
 
 /// The faults of a program by its rules and a certificate: for each entry that is declared or certified, in the program's
-/// order, those of its verdict. It is `yes` where there are none.
+/// order, those of its verdict. The report is `yes` if there are none.
 ///
-/// After a `yes`, every run of any number of jobs begun at the declared entries keeps the rules, whoever made the
+/// After a `yes`, every run of any number of jobs that begin at the declared entries follows the rules, whoever made the
 /// certificate. Routines that were read are well formed.
 pub fn check_all(
     alloc: Global,
@@ -27,7 +27,7 @@ pub fn check_all(
     ensures safe { IfOk result (λ r. r ≡ [] → AreFormed (map routine_of program.now)
         → KeepsRules (map routine_of program.now) rules.now certificate.now) }
 {
-    // What rules and certificates are by their types.
+    // The invariants of rules and certificates, which the calls provide.
     let _ = rules.lists();
     let _ = certificate.blocks();
     report_of(alloc, program, rules, certificate)

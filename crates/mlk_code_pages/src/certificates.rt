@@ -1,4 +1,4 @@
-// What is refused in certificates.
+// The refusals of certificates.
 
 use crate::page::Page;
 use mlk_text::Code;

@@ -1,4 +1,4 @@
-// What is refused in files of events.
+// The refusals of files of events.
 
 use crate::page::Page;
 use mlk_text::Code;

@@ -1,4 +1,4 @@
-// What is refused in expressions.
+// The refusals of expressions.
 
 use crate::page::Page;
 use mlk_text::Code;

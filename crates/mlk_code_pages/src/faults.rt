@@ -1,4 +1,4 @@
-// What the walk finds.
+// The faults that the walk finds.
 
 use crate::page::Page;
 use mlk_text::Code;

@@ -1,5 +1,5 @@
-//! What codes mean: a page for each, with its meaning, why it matters, what mends it and an example. The documents have the same
-//! sentences, which `tools/code_pages.py` compares.
+//! The meaning of codes: a page for each, with its meaning, why it matters, what corrects it and an example. The documents have
+//! the same sentences, which `tools/code_pages.py` compares.
 #![tactic(auto)]
 
 mod certificates;

@@ -1,4 +1,4 @@
-// What is refused where routines are linked to a program.
+// The refusals of linking.
 
 use crate::page::Page;
 use mlk_text::Code;

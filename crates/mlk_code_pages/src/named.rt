@@ -1,10 +1,10 @@
-// The codes of a number or a name.
+// The codes of a number or a word.
 
 use crate::page::CODES;
 use mlk_text::Code;
 use std::alloc::{AllocError, Global};
 
-// Whether this is the number of `code` in digits, or its name, in capitals or small letters.
+// Whether `word` is the number of `code` in digits, or its word, in capitals or small letters.
 fn is_named(code: Code, word: &str) -> bool {
     match word.parse::<u16>() {
         Ok(number) => number == code.number(),
@@ -12,8 +12,8 @@ fn is_named(code: Code, word: &str) -> bool {
     }
 }
 
-/// Lists the codes that `word` names, by their number or by their name; none if no code has it. Two codes have the name
-/// `Limit`, all others a name of their own.
+/// Lists the codes that `word` names, by number or by word; empty if no code has it. Two codes have the word `Limit`, each of the
+/// others has a word of its own.
 pub fn codes_named(alloc: Global, word: &str) -> Result<Vec<Code>, AllocError> {
     let mut codes = Vec::new(alloc);
     for code in CODES.iter() {

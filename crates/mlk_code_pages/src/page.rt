@@ -17,21 +17,21 @@ use crate::rule_files::{FAMILIES_MEET, KEY, PATTERN, RULES_LIMIT, TEMPLATE_VARIA
 use crate::runs::{ENTRY_MISSING, GATE_SHUT, GAVE_UP, WORKERS};
 use mlk_text::Code;
 
-/// What a code says, for people.
+/// The page of a code, for people.
 #[derive(Clone, Copy, Drop)]
 pub struct Page {
     pub code: Code,
     /// what it means, as a phrase
     pub meaning: &'static str,
-    /// what mends it, as a phrase
+    /// what corrects it, as a phrase
     pub hint: &'static str,
     /// what is wrong and why it matters, as sentences
     pub why: &'static str,
-    /// what mends it, as sentences
+    /// what corrects it, as sentences
     pub mend: &'static str,
     /// an example: lines of M, of a rule file, of a certificate or of events, or words of a command line
     pub before: &'static str,
-    /// the example mended: what is written in place of these lines, or added to the rules
+    /// the corrected example: what replaces these lines, or is added to the rules
     pub after: &'static str,
 }
 

@@ -1,4 +1,4 @@
-// What is refused in the lines and commands of routines.
+// The refusals of lines and commands of routines.
 
 use crate::page::Page;
 use mlk_text::Code;

@@ -1,4 +1,4 @@
-// What is refused in rule files.
+// The refusals of rule files.
 
 use crate::page::Page;
 use mlk_text::Code;

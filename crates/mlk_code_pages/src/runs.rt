@@ -1,4 +1,4 @@
-// What is refused of a whole run.
+// The refusals of whole runs.
 
 use crate::page::Page;
 use mlk_text::Code;

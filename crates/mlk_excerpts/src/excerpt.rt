@@ -1,4 +1,4 @@
-// A line of a text as people are shown it, with a caret below a column.
+// A line of a text as it is shown to people, with a caret below a column.
 
 use crate::line::{split_at_column, split_at_most};
 use bstr::ByteSlice;
@@ -7,15 +7,15 @@ use mlk_report_text::push_all;
 use mlk_text::{Column, LineNumber};
 use std::alloc::AllocError;
 
-// How many bytes of a line are shown at most, and of a longer one how many before the column.
+// The maximum number of bytes of a line that are shown, and for a longer line, of those before the column.
 const MOST_SHOWN: usize = 320;
 
 const MOST_BEFORE: usize = 240;
 
-// One blank more than the longest number of a line has digits.
+// One more space than the longest line number has digits.
 const BLANKS: &[u8] = b"           ";
 
-/// A line of a text, without its end, and the column, in bytes, that the caret is below.
+/// A line of a text, without its terminator, and the column, in bytes, below which the caret is.
 #[derive(Clone, Copy, Drop)]
 pub struct Excerpt<'a> {
     pub number: LineNumber,
@@ -23,14 +23,14 @@ pub struct Excerpt<'a> {
     pub column: Column,
 }
 
-/// The blanks below the number of a line: as many as it has digits, and one more.
+/// The spaces below the number of a line: one more than it has digits.
 pub fn margin_of(number: LineNumber) -> &'static [u8] {
     let digits = number.number().checked_ilog10().unwrap_or(0) as usize;
     let (margin, _) = split_at_most(BLANKS, digits.saturating_add(2));
     margin
 }
 
-// Appends bytes, with `?` for those that would move what is shown after them.
+// Appends `bytes`, with `?` for those that would move what is shown after them.
 fn push_shown(text: &mut Vec<u8>, bytes: &[u8]) -> Result<(), AllocError> {
     for byte in bytes {
         text.push(match *byte {
@@ -42,7 +42,7 @@ fn push_shown(text: &mut Vec<u8>, bytes: &[u8]) -> Result<(), AllocError> {
     Ok(())
 }
 
-// Appends blanks and tabs that are as wide as `bytes`.
+// Appends spaces and tabs that are as wide as `bytes`.
 fn push_width(text: &mut Vec<u8>, bytes: &[u8]) -> Result<(), AllocError> {
     for shown in bytes.chars() {
         text.push(if shown == '\t' { b'\t' } else { b' ' })?;
@@ -59,7 +59,7 @@ struct Window<'a> {
     cut_after: &'static str,
 }
 
-// How many bytes at the front of a text belong to a character that begins before it.
+// The number of bytes at the front of `text` that belong to a character which begins before it.
 fn rest_of_character(text: &[u8]) -> usize {
     match text {
         [0x80..=0xbf, 0x80..=0xbf, 0x80..=0xbf, ..] => 3,
@@ -123,8 +123,8 @@ pub fn push_labelled<'a>(
     )
 }
 
-/// Appends the line with its number, and below it a caret and a blank, after which what is wrong there can be written. Control
-/// bytes are shown as `?`. Of a line of more than 320 bytes the part around the column is shown.
+/// Appends the line with its number, and below it a caret and a space, after which the fault can be described. Control bytes are
+/// shown as `?`. For a line of more than 320 bytes, the part around the column is shown.
 pub fn push_excerpt(text: &mut Vec<u8>, excerpt: &Excerpt<'_>) -> Result<(), AllocError> {
     let (front, back) = split_at_column(excerpt.line, excerpt.column);
     let window = Window::of(front, back);

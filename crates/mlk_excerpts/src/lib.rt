@@ -1,5 +1,5 @@
-//! Lines of texts and what is at their columns: a line with a caret below a column, as it is shown to people, and the token that
-//! begins at one.
+//! Lines of texts and their columns: a line with a caret below a column, as it is shown to people, and the token that begins at a
+//! column.
 #![tactic(auto)]
 
 mod excerpt;

@@ -4,7 +4,7 @@ use bstr::{ByteSlice, decode_utf8};
 use mlk_text::{Column, LineNumber};
 use std::alloc::{AllocError, Global};
 
-/// The lines of a text, without their ends, each a line feed or a carriage return and a line feed.
+/// The lines of a text, without their terminators: a line feed, or a carriage return and a line feed.
 #[derive(Drop)]
 pub struct TextLines<'a> {
     lines: Vec<&'a [u8]>,
@@ -20,12 +20,12 @@ impl<'a> TextLines<'a> {
         Ok(TextLines { lines })
     }
 
-    /// The lines in their order.
+    /// The lines in order.
     pub fn as_slice(&self) -> &[&'a [u8]] {
         self.lines.as_slice()
     }
 
-    /// The line with this number; `None` if the text has no such line.
+    /// The line number `number`; `None` if the text has no such line.
     pub fn line(&self, number: LineNumber) -> Option<&'a [u8]> {
         let place = (number.number() as usize).checked_sub(1)?;
         self.lines.as_slice().get(place).copied()
@@ -42,19 +42,19 @@ pub fn split_at_column(line: &[u8], column: Column) -> (&[u8], &[u8]) {
     split_at_most(line, (column.number() as usize).saturating_sub(1))
 }
 
-/// Counts `column` of `line` in characters, from 1. Bytes that are no UTF-8 count as an editor shows them, one for each
-/// replacement character.
+/// The column `column` of `line` in characters, from 1. Invalid UTF-8 counts as an editor shows it, one for each replacement
+/// character.
 pub fn character_column(line: &[u8], column: Column) -> usize {
     let (front, _) = split_at_column(line, column);
     front.chars().count().saturating_add(1)
 }
 
-/// Whether a byte may be in a word of M, with the marks in front of it: `^ACCT`, `$$NEXT^BIL`, `%Z`.
+/// Whether `byte` may be in a word of M, including the marks in front of it: `^ACCT`, `$$NEXT^BIL`, `%Z`.
 pub fn is_of_word(byte: u8) -> bool {
     byte.is_ascii_alphanumeric() || matches!(byte, b'^' | b'%' | b'$')
 }
 
-// How many bytes a text in quotes has after its first quote, its last one too. A quote inside is doubled.
+// The number of bytes of a quoted text after its opening quote, the closing one included. A quote inside is doubled.
 fn quoted_length(text: &[u8]) -> usize {
     let mut is_closed = false;
     for (place, byte) in text.iter().enumerate() {
@@ -67,7 +67,7 @@ fn quoted_length(text: &[u8]) -> usize {
     text.len()
 }
 
-// How many bytes the token at the front of `text` has.
+// The number of bytes of the token at the front of `text`.
 fn token_length(text: &[u8]) -> usize {
     match text.first() {
         None => 0,
@@ -85,8 +85,8 @@ fn token_length(text: &[u8]) -> usize {
     }
 }
 
-/// The token at `column` of `line`: a word with the marks in front of it, a text in quotes, or else one character;
-/// nothing at the line's end.
+/// The token at `column` of `line`: a word with the marks in front of it, a quoted text, or one other character; empty at the
+/// line's end.
 pub fn token_at(line: &[u8], column: Column) -> &[u8] {
     let (_, rest) = split_at_column(line, column);
     let (token, _) = split_at_most(rest, token_length(rest));

@@ -1,4 +1,4 @@
--- Actuals, calls and arguments are read exactly where what lies in them is.
+-- Actuals, calls and arguments are read exactly if their parts are.
 use Rattle.std.proofs.Common.{◌≡◌, ℕ, suc, List, [], ◌∷◌, length, Some, None, true, false, refl, sym, ap, ◌∙◌, arith, subst, inl, inr, leb-true, le-leb}
 use Rattle.std.specs.Prelude.{Option, ◌&&◌, nat_le, not}
 use Rattle.std.proofs.lemmas.Bool.{cases_Bool}

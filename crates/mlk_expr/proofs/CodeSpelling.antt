@@ -1,4 +1,4 @@
--- Pattern codes: what is spelled is read as far as it goes, and what is read is spelled.
+-- Pattern codes: what is spelled is read to its end, and what is read is spelled there.
 use Rattle.std.proofs.Common.{◌≡◌, ℕ, ◌++◌, List, [], ◌∷◌, Some, true, refl, arith, subst, inl, inr}
 use Rattle.std.proofs.lemmas.Bool.{cases_Bool, not_from_false}
 use Rattle.std.proofs.lemmas.Bool.Decides.{nat_tests}
@@ -20,12 +20,12 @@ word-codes (b ∷ ys) h = elim (cases_Bool (is_pattern_code b)) [
   | inr e ↦ not_from_false (is_pattern_code b) e
 ]
 
--- pattern codes are read as far as they go
+-- pattern codes are read to their end
 pub codes-reads : (c ys : List ℕ) → IsCodes c → after_word ys ≡ true → pattern_codes_at (c ++ ys) ≡ Some (c, ys)
 unfolding pattern_codes_at
 codes-reads c ys (all, some) stop = cut-reads (pattern_codes (c ++ ys)) c ys (run-length is_pattern_code c ys all (word-codes ys stop)) some
 
--- the pattern codes that are read stand there
+-- the pattern codes that are read are spelled there
 pub codes-spelled : (c xs ys : List ℕ) → pattern_codes_at xs ≡ Some (c, ys) → IsCodes c × (xs ≡ c ++ ys)
 unfolding pattern_codes_at
 codes-spelled c xs ys h =

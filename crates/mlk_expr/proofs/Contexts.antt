@@ -1,4 +1,4 @@
--- What a reader gives where it is, by what may stand there.
+-- What a reader reads in its context, by what is allowed there.
 use Rattle.std.proofs.Common.{◌≡◌, ◌<◌, ◌≤◌, ◌-◌, ℕ, length, arith, List, [], ◌∷◌, Some, None, true, false, Bool, refl, sym, ap, ◌∙◌, subst, inl, inr}
 use Rattle.std.specs.Prelude.{Option, Result, Ok, Err, IfOk, IfErr, ◌&&◌, ◌||◌, ◌==◌, if◌then◌else◌}
 use Rattle.std.specs.List.{list_all}
@@ -37,7 +37,7 @@ use Rattle.mlk_expr.proofs.Kept.{if-none, kept-then, kept-after, kept-pair, kept
 and_true : (a b : Bool) → a ≡ true → b ≡ true → (a && b) ≡ true
 and_true a b h g = rw (h, g) refl
 
--- what may stand anywhere may stand where anything may, and what holds no global and no call may stand anywhere
+-- everything is allowed where `Everything` is, and what contains no global and no call is allowed anywhere
 mutual
   pub everything : (t : Tree) → may_stand Everything t ≡ true
   everything (Lit value) = refl
@@ -130,7 +130,7 @@ kept-twice may same (Some r) h = elim (cases_Bool (same r.0)) [
   | inr m ↦ rw m refl
 ]
 
--- one level, where a reader is
+-- one level deeper
 abbrev pub deeper : Context → Context
 deeper here = record { end = here.end; left = here.left - 1; allows = here.allows }
 
@@ -183,14 +183,14 @@ actual-shorter p here a xs m ys is one =
           after_length m ys ((nested_in-exact here).after w.0 m ys ((nested_in-exact here).sound w.0 m ys w.1))
     ]
 
--- what is read for callers, where it may stand
+-- what the readers for callers read, in their context
 pub expr_in-kept : (a : Allows) (end : ℕ) (xs : List ℕ) → kept (may_stand a) (expr_at end xs) ≡ expr_in (record { end = end; left = 64; allows = a }) xs
 unfolding expr_at expr_in atom_in
 expr_in-kept a end xs =
     kept-then (may_stand a) (may_stand a) (nested_at end 64 xs) ended ended (λ r. elim (cases_Bool (ends r.1)) [ inl m ↦ rw m refl | inr m ↦ rw m (if-none (may_stand a r.0)) ])
     ∙ ap (λ o. o >>= ended) (kept-chain a (atom_at end 64) (atom_in (record { end = end; left = 64; allows = a })) (λ ys. refl) (pattern_at 64) xs)
 
--- a name with subscripts, of which the subscripts are asked
+-- a name with subscripts, which are checked
 module _ (a : Allows) (end : ℕ) (item other : List ℕ → Option (Tree × List ℕ)) (h : (ys : List ℕ) → kept (may_stand a) (item ys) ≡ other ys) where
   subs-local : (xs : List ℕ) → kept (subs_stand a) (local_with end item xs) ≡ local_with end other xs
   subs-local xs = kept-after (subs_stand a) (name_at xs) _ _ (λ n.
@@ -266,7 +266,7 @@ pub reference-gives : (here : Context) (xs m name n : List ℕ) (ss : List (ℕ 
 unfolding reference_in
 reference-gives here xs m name n ss ys caret found more = rw caret (rw found (rw more refl))
 
--- a reading that gives the same is exact too
+-- a reader with the same results is exact too
 pub exact-as : {A : Type 0} (read other : List ℕ → Option (A × List ℕ)) (Is : A → List ℕ → List ℕ → Type 0) → Exact read Is → ((xs : List ℕ) → read xs ≡ other xs) → Exact other Is
 exact-as read other Is e h = record {
   sound = λ a xs ys is. e.sound a xs ys (h xs ∙ is);
@@ -274,7 +274,7 @@ exact-as read other Is e h = record {
   after = e.after;
 }
 
--- the grammars say the same of what may stand
+-- the grammars agree on what is allowed
 pub same-standing : {A : Type 0} (may : A → Bool) (Is : ℕ → A → List ℕ → List ℕ → Type 0) (Text : ℕ → A → List ℕ → Type 0) (Ends : A → List ℕ → Type 0) → Same Is Text Ends
     → Same (λ end a xs ys. Is end a xs ys × (may a ≡ true)) (Standing may Text) Ends
 same-standing may Is Text Ends s = record {
@@ -282,7 +282,7 @@ same-standing may Is Text Ends s = record {
   together = λ end at a t ys h (one, good) ended. (s.together end at a t ys h one ended, good);
 }
 
--- what the readers for callers give, exactly
+-- what the readers for callers read, exactly
 pub expr_in-exact : (a : Allows) (end : ℕ) → Exact (expr_in (record { end = end; left = 64; allows = a })) (λ t xs ys. followed.IsExpr end t xs ys × (may_stand a t ≡ true))
 expr_in-exact a end = exact-as _ _ _ (kept-exact (may_stand a) (expr_at end) (followed.IsExpr end) (whole-exact end)) (expr_in-kept a end)
 
@@ -292,7 +292,7 @@ reference_in-exact a end = exact-as _ _ _ (kept-exact (subs_stand a) (reference_
 pub actual_list_in-exact : (a : Allows) (p : Passing) (end : ℕ) → Exact (actual_list_in p (record { end = end; left = 63; allows = a })) (λ given xs ys. followed.IsActualList end given xs ys × (given_stand a p given ≡ true))
 actual_list_in-exact a p end = exact-as _ _ _ (kept-exact (given_stand a p) (actual_list_at end) (followed.IsActualList end) (actual_list-exact end)) (actual_list_in-kept a end p)
 
--- anything may stand where everything may
+-- anything is allowed where everything is
 pub subs-anything : (t : Tree) → subs_stand Everything t ≡ true
 subs-anything (LocalName name subs) = all-subs subs
 subs-anything (GlobalName column name subs) = all-subs subs
@@ -311,7 +311,7 @@ pub given-anything : (given : List ActualTree) → given_stand Everything ByRefe
 given-anything [] = refl
 given-anything (x ∷ given) = rw (all-actual x, passes-all x) (given-anything given)
 
--- so nothing more is asked
+-- so no more is required
 module _ {A : Type 0} (may : A → Bool) (all : (a : A) → may a ≡ true) (Is : ℕ → A → List ℕ → Type 0) (Ends : A → List ℕ → Type 0) (line : List ℕ) (at : ℕ) where
   pub stands-freely : (a : A) (next : ℕ) → Stands (Standing may Is) Ends line at a next → Stands Is Ends line at a next
   stands-freely a next s = record { text = s.text; within = s.within; joined = s.joined; spelled = s.spelled.0; ended = s.ended }

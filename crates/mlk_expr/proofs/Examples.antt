@@ -19,7 +19,7 @@ use Rattle.mlk_expr.proofs.Whole.{reference-exact}
 use Rattle.mlk_expr.proofs.Operands.{expr-exact}
 use Rattle.mlk_expr.proofs.Joined.{same-expr, same-reference}
 
--- what reading says of a whole text
+-- from a reading of a whole text
 spelled : (t : Tree) (s : List ℕ) → chain_with (atom_at (suc (length s)) 64) (pattern_at 64) s ≡ Some (t, []) → IsExpr 1 t s
 unfolding followed.IsExpr ends
 spelled t s h =
@@ -46,7 +46,7 @@ reference t s h =
     let r = same-reference.apart (suc (length s)) 1 t s [] (omega arith) ((reference-exact (suc (length s))).sound t s [] h) in
     subst (λ z. IsReference 1 t z) (sym (append-nil r.0) ∙ sym (r.1)) r.2
 
--- each of these computes
+-- each of these is shown by computation
 examples : Unit {0}
 unfolding many chain_with atom_at op_at relation_at relation_of arithmetic_at arithmetic_of kind_of unary_of numeral_at mantissa_len canonical_text ends name_at digits_at inside special_of special_to_principal special_from_quit function_of function_to_fnumber function_to_piece function_from_qlength is_select count_at pattern_codes_at label_at lent_at list_with pattern_at subs_with actual_with actuals_with callee_at call_with arguments_with function_with dollar_with reference_at
 examples = tt
@@ -55,7 +55,7 @@ examples = tt
     left_to_right : IsExpr 1 (Chain (Lit (codes "1")) (link Add (Lit (codes "2")) (link Multiply (Lit (codes "3")) no_links))) (codes "1+2*3")
     left_to_right = spelled _ (codes "1+2*3") refl
 
-    -- parentheses leave no node
+    -- parentheses have no node
     parentheses : IsExpr 1 (Chain (Lit (codes "1")) (link Multiply (Chain (Lit (codes "2")) (link Add (Lit (codes "3")) no_links)) no_links)) (codes "1*(2+3)")
     parentheses = spelled _ (codes "1*(2+3)") refl
 
@@ -75,7 +75,7 @@ examples = tt
     sorts : IsExpr 1 (Chain (LocalName (codes "X") no_subs) (link (IsNot SortsAfter) (LocalName (codes "Y") no_subs) no_links)) (codes "X']]Y")
     sorts = spelled _ (codes "X']]Y") refl
 
-    -- a pattern stands after its operator alone
+    -- a pattern occurs only after its operator
     matches : IsExpr 1 (Chain (LocalName (codes "X") no_subs) (link (Is Matches) (PatternText (codes "1N.2A")) no_links)) (codes "X?1N.2A")
     matches = spelled _ (codes "X?1N.2A") refl
 
@@ -129,27 +129,27 @@ examples = tt
     order : IsExpr 1 (Func Order (tree (GlobalName 4 (codes "A") (sub 7 (Lit []) no_subs)) no_trees)) (codes "$O(^A(\"\"))")
     order = spelled _ (codes "$O(^A(\"\"))") refl
 
-    -- but of no name without one; nor has $DATA a second argument
+    -- but not of a name without one; nor has `$DATA` a second argument
     bare_order : (t : Tree) → IsExpr 1 t (codes "$O(^A)") → ⊥
     bare_order = unspelled (codes "$O(^A)") refl
 
     second_argument : (t : Tree) → IsExpr 1 t (codes "$D(X,1)") → ⊥
     second_argument = unspelled (codes "$D(X,1)") refl
 
-    -- an exponent has digits, and after `'` stands a relation
+    -- an exponent has digits, and a relation follows `'`
     no_exponent : (t : Tree) → IsExpr 1 t (codes "1E") → ⊥
     no_exponent = unspelled (codes "1E") refl
 
     no_relation : (t : Tree) → IsExpr 1 t (codes "1'+2") → ⊥
     no_relation = unfinished (codes "1'+2") _ _ _ refl
 
-    -- after the name of $GET stands no global and no call, but in its subscripts
+    -- no global and no call follows the name of `$GET`, except in its subscripts
     touched : (t : Tree) → IsExpr 1 t (codes "$G(X,^A)") → ⊥
     touched = unspelled (codes "$G(X,^A)") refl
 
     untouched : IsExpr 1 (Func Get (tree (GlobalName 4 (codes "A") (sub 7 (GlobalName 7 (codes "B") no_subs) no_subs)) (tree (Lit (codes "1")) no_trees))) (codes "$G(^A(^B),1)")
     untouched = spelled _ (codes "$G(^A(^B),1)") refl
 
-    -- a naked reference is left out
+    -- naked references are not read
     naked : (t : Tree) → IsExpr 1 t (codes "^(1)") → ⊥
     naked = unspelled (codes "^(1)") refl

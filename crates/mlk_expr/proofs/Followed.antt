@@ -1,6 +1,6 @@
--- The grammar of expressions with what stands after each part: `Is.. t xs ys` says that t is spelled at the front of xs,
--- as far as its parts go, and that ys is after it. The readers are exact for it, and it says what the grammar of whole
--- texts says (Joined). `end` is the column of the line's end.
+-- The grammar of expressions with what follows each part: `Is.. t xs ys` says that t is spelled at the front of xs, up to the
+-- end of its parts, and that ys is after it. The readers are exact for it, and it agrees with the grammar of whole texts
+-- (Joined). `end` is the column of the line's end.
 use Rattle.std.specs.Prelude.{ℕ, zero, suc, ◌≡◌, ◌<◌, ◌≤◌, ◌⊎◌, Bool, true, false, List, [], ◌∷◌, ◌++◌, length, Option, Some, None}
 use Rattle.mlk_text.specs.Reading.{Many}
 use Rattle.mlk_text.specs.Lexemes.{byte_at, name_at, IsQuoted, label_at, word_at}
@@ -18,24 +18,24 @@ use Rattle.mlk_expr_tokens.specs.Lexemes.{column_of, op_at, is_match, unary_of, 
 abbrev pub Next : {A : Type 0} → (A → List ℕ → List ℕ → Type 0) → ℕ → A → List ℕ → List ℕ → Type 0
 Next Item comma a xs ys = Item a xs ys
 
--- one or more items with commas between them, and a closing parenthesis
+-- one or more items separated by commas, and a closing parenthesis
 abbrev pub IsList : {A : Type 0} → (A → List ℕ → List ℕ → Type 0) → List A → List ℕ → List ℕ → Type 0
 IsList {A = A} Item items xs ys = (first : A) × (others : List A) × (m : List ℕ) × Item first xs m × Many (byte_at 44) (Next Item) others m (41 ∷ ys) × (items ≡ first ∷ others)
 
--- What a pattern atom has after its count: codes, a text, or one of several patterns. Standard: pattern match, patatom.
+-- What follows the count of a pattern atom: codes, a text, or one of several patterns. Standard: pattern match, patatom.
 abbrev pub IsMatcher : (List ℕ → List ℕ → List ℕ → Type 0) → List ℕ → List ℕ → List ℕ → List ℕ → Type 0
 IsMatcher Deep count c xs ys = (c ≡ count) × (
     ((codes : List ℕ) × (pattern_codes_at xs ≡ Some (codes, ys)))
     ⊎ ((value : List ℕ) × IsQuoted value xs ys)
     ⊎ ((m : List ℕ) × (choices : List (List ℕ)) × (xs ≡ 40 ∷ m) × IsList Deep choices m ys))
 
--- A pattern as it is written: one or more atoms, each after its count, as far as counts go; alternatives lie one
+-- A pattern as it is written: one or more atoms, each after its count, as long as counts follow; alternatives are one level
 -- deeper. Standard: pattern match.
 unfoldable pub IsPattern : ℕ → List ℕ → List ℕ → List ℕ → Type 0
 IsPattern zero text xs ys = ⊥
 IsPattern (suc k) text xs ys = (counts : List (List ℕ)) × Many count_at (IsMatcher (IsPattern k)) counts xs ys × (0 < length counts) × (xs ≡ text ++ ys)
 
--- what stands after an operator: a pattern after a pattern match, an operand after any other
+-- what follows an operator: a pattern after a pattern match, an operand after any other
 abbrev pub IsRight : (Tree → List ℕ → List ℕ → Type 0) → (List ℕ → List ℕ → List ℕ → Type 0) → Bool → Tree → List ℕ → List ℕ → Type 0
 IsRight Atom Pattern false t xs ys = Atom t xs ys
 IsRight Atom Pattern true t xs ys = (text : List ℕ) × Pattern text xs ys × (t ≡ PatternText text)
@@ -43,7 +43,7 @@ IsRight Atom Pattern true t xs ys = (text : List ℕ) × Pattern text xs ys × (
 abbrev pub IsLink : (Tree → List ℕ → List ℕ → Type 0) → (List ℕ → List ℕ → List ℕ → Type 0) → Op → Op × Tree → List ℕ → List ℕ → Type 0
 IsLink Atom Pattern op l xs ys = (l.0 ≡ op) × IsRight Atom Pattern (is_match op) l.1 xs ys
 
--- Operands with operators between them. Standard: expr, without precedence.
+-- Operands separated by operators. Standard: expr, without precedence.
 abbrev pub IsChain : (Tree → List ℕ → List ℕ → Type 0) → (List ℕ → List ℕ → List ℕ → Type 0) → Tree → List ℕ → List ℕ → Type 0
 IsChain Atom Pattern t xs ys = (first : Tree) × (links : List (Op × Tree)) × (m : List ℕ) × Atom first xs m × Many op_at (IsLink Atom Pattern) links m ys × (t ≡ chained first links)
 
@@ -68,11 +68,11 @@ abbrev pub IsActuals : ℕ → (Tree → List ℕ → List ℕ → Type 0) → L
 IsActuals end Item [] xs ys = xs ≡ 41 ∷ ys
 IsActuals end Item (a ∷ more) xs ys = IsList (IsActual end Item) (a ∷ more) xs ys × (byte_at 41 xs ≡ None)
 
--- what holds no global and no call
+-- something without globals and calls
 abbrev pub Quiet : (Tree → List ℕ → List ℕ → Type 0) → Tree → List ℕ → List ℕ → Type 0
 Quiet Item t xs ys = Item t xs ys × (may_stand NoTouches t ≡ true)
 
--- Arguments: expressions, or a name and what may stand after it. Standard: functions.
+-- Arguments: expressions, or a name and what may follow it. Standard: functions.
 abbrev pub IsArguments : (Tree → List ℕ → List ℕ → Type 0) → (Tree → List ℕ → List ℕ → Type 0) → Function → Option ℕ → List Tree → List ℕ → List ℕ → Type 0
 IsArguments Atom Item f None args xs ys = IsList Item args xs ys
 IsArguments Atom Item f (Some most) args xs ys = (first : Tree) × (others : List Tree) × (m : List ℕ)
@@ -90,9 +90,9 @@ IsCallee (Some label) (Some routine) xs ys = (m : List ℕ) × (label_at xs ≡ 
 IsCallee None (Some routine) xs ys = (m : List ℕ) × (xs ≡ 94 ∷ m) × (name_at m ≡ Some (routine, ys))
 IsCallee None None xs ys = ⊥
 
--- An operand without parentheses round it. `Atom` and `Pattern` are what lies one deeper. Standard: expratom. What has
--- no case here is left out: indirection, naked references, structured system variables, other functions and special
--- variables, external calls, environments.
+-- An operand without parentheses around it. `Atom` and `Pattern` are for parts one level deeper. Standard: expratom. What has no
+-- case here is not read: indirection, naked references, structured system variables, other functions and special variables,
+-- external calls, environments.
 abbrev pub IsPlain : ℕ → (Tree → List ℕ → List ℕ → Type 0) → (List ℕ → List ℕ → List ℕ → Type 0) → Tree → List ℕ → List ℕ → Type 0
 IsPlain end Atom Pattern (Lit value) xs ys =
     ((text : List ℕ) × (numeral_at xs ≡ Some (text, ys)) × IsCanonical text value) ⊎ IsQuoted value xs ys
@@ -116,7 +116,7 @@ IsPlain end Atom Pattern (CallOf column callee actuals) xs ys = (m n : List ℕ)
     × (xs ≡ 36 ∷ 36 ∷ m) × (column ≡ column_of end xs) × IsCallee callee.label callee.routine m (40 ∷ n)
     × IsActuals end (IsChain Atom Pattern) given n ys × (actuals ≡ actuals_from given)
 
--- an operand, perhaps in parentheses, which leave no node
+-- an operand, perhaps in parentheses, which have no node
 abbrev pub IsOperand : ℕ → (Tree → List ℕ → List ℕ → Type 0) → (List ℕ → List ℕ → List ℕ → Type 0) → Tree → List ℕ → List ℕ → Type 0
 IsOperand end Atom Pattern t xs ys = IsPlain end Atom Pattern t xs ys ⊎ ((m : List ℕ) × (xs ≡ 40 ∷ m) × IsChain Atom Pattern t m (41 ∷ ys))
 
@@ -133,10 +133,10 @@ IsNested end k t xs ys = IsChain (IsAtom end k) (IsPattern k) t xs ys
 unfoldable pub IsExpr : ℕ → Tree → List ℕ → List ℕ → Type 0
 IsExpr end t xs ys = IsNested end 64 t xs ys × (ends ys ≡ true)
 
--- a local or a global name with its subscripts, as it stands in SET, KILL or LOCK: what it holds lies one deeper
+-- a local or a global name with its subscripts, as in SET, KILL or LOCK: its parts are one level deeper
 unfoldable pub IsReference : ℕ → Tree → List ℕ → List ℕ → Type 0
 IsReference end t xs ys = IsAtom end 64 t xs ys × (starts_reference xs ≡ true)
 
--- an actual list in parentheses, as it stands in DO and JOB: what it holds lies one deeper
+-- an actual list in parentheses, as in DO and JOB: its parts are one level deeper
 unfoldable pub IsActualList : ℕ → List ActualTree → List ℕ → List ℕ → Type 0
 IsActualList end given xs ys = (m : List ℕ) × (xs ≡ 40 ∷ m) × IsActuals end (IsNested end 63) given m ys

@@ -1,4 +1,4 @@
--- What stands at a place by the grammar with what stands after is what is written there by the grammar of whole texts.
+-- The grammar with what follows each part and the grammar of whole texts agree on what is at a place.
 use Rattle.std.proofs.Common.{◌≡◌, ◌<◌, ◌+◌, ℕ, suc, ◌++◌, List, [], ◌∷◌, length, Some, None, true, false, refl, sym, ap, ◌∙◌, arith, subst, inl, inr, append_assoc}
 use Rattle.std.specs.Prelude.{Option, ◌⊎◌, ◌==◌, ◌||◌, not}
 use Rattle.std.proofs.lemmas.Bool.{cases_Bool, and_parts}
@@ -22,7 +22,7 @@ use Rattle.mlk_expr.proofs.JoinedArguments.{at-column, starts-front, actuals-apa
 use Rattle.mlk_expr.proofs.JoinedPatterns.{pattern-joins}
 use Rattle.mlk_expr.proofs.JoinedOperands.{canonical-number, number-opens, variable-together, atom-joins, atom-opens, nested-joins, nested-opens}
 
--- The two grammars say the same of a thing.
+-- The two grammars agree on a kind of thing.
 pub record Same {A : Type 0} (Is : ℕ → A → List ℕ → List ℕ → Type 0) (Text : ℕ → A → List ℕ → Type 0) (Ends : A → List ℕ → Type 0) : Type 0 where
   pub apart : (end at : ℕ) (a : A) (xs ys : List ℕ) → end ≡ at + length xs → Is end a xs ys → (s : List ℕ) × (xs ≡ s ++ ys) × Text at a s × Ends a ys
   pub together : (end at : ℕ) (a : A) (s ys : List ℕ) → end ≡ at + length (s ++ ys) → Text at a s → Ends a ys → Is end a (s ++ ys) ys
@@ -45,7 +45,7 @@ same-list = record {
       actuals-together end (followed.IsChain (followed.IsAtom end 63) (followed.IsPattern 63)) (IsChain (IsAtom 63) (IsPattern 63)) (nested-joins end 63) (nested-opens end 63) at given s ys h one;
 }
 
--- no number begins as a name does
+-- no number begins like a name
 pub number-first : (s : List ℕ) → IsNumber s → starts_reference s ≡ true → ⊥
 number-first s (before, after, mantissa, exponent, n, e, is) h = go before after n.whole_part n.some_digit n.spelled
   where
@@ -67,7 +67,7 @@ numeral-reference text xs ys n h =
     let f = number-spelled text xs ys n in
     number-first text f.0 (sym (starts-front text ys (number-opens text f.0)) ∙ ap starts_reference (sym (f.1)) ∙ h)
 
--- after a name without subscripts nothing stands that goes on with it
+-- nothing that follows a name without subscripts continues it
 quiet-from : (subs : List (ℕ × Tree)) (name ys : List ℕ) → ReferenceEnds (LocalName name (subs_from subs)) ys → subs ≡ [] → goes_on ys ≡ false
 quiet-from [] name ys h same = elim (cases_Bool (goes_on ys)) [ inl e ↦ cc (rw e at h) | inr e ↦ e ]
 quiet-from (p ∷ subs) name ys h same = cc same
@@ -93,7 +93,7 @@ local-global : (column : ℕ) (name : List ℕ) (subs : List (ℕ × Tree)) (ys 
 local-global column name [] ys h = h
 local-global column name (p ∷ subs) ys h = refl
 
--- a local or a global name: what may stand after it is what does not go on with it
+-- a local or a global name may be followed by what does not continue it
 module _ (end k : ℕ) where
   chains : Joins end (followed.IsChain (followed.IsAtom end k) (followed.IsPattern k)) (IsChain (IsAtom k) (IsPattern k)) ends
   chains = nested-joins end k
@@ -123,7 +123,7 @@ module _ (end k : ℕ) where
   plain-reference at (BareCall column callee) s ys h (called, is, col, name) first ended = cc (subst (λ z. starts_reference z ≡ true) is first)
   plain-reference at (CallOf column callee tail) s ys h (called, part, given, is, col, name, list, same) first ended = cc (subst (λ z. starts_reference z ≡ true) is first)
 
-  -- and what stands after one does not
+  -- and what follows one does not continue it
   plain-ended : (t : Tree) (xs ys : List ℕ) → followed.IsPlain end (followed.IsAtom end k) (followed.IsPattern k) t xs ys → starts_reference xs ≡ true → ReferenceEnds t ys
   plain-ended (Lit value) xs ys (inl (text, n, same)) first = absurd (numeral-reference text xs ys n first)
   plain-ended (Lit value) xs ys (inr (is, good, none)) first = cc (subst (λ z. starts_reference z ≡ true) is first)
@@ -170,7 +170,7 @@ same-reference = record {
       (atom-reference end 63 at t s ys h one first ended, starts-front s ys (atom-opens end 64 at t s one) ∙ first);
 }
 
--- so what is written at a place is one
+-- so only one thing is written at a place
 pub one-of : {A : Type 0} (read : ℕ → List ℕ → Option (A × List ℕ)) (Is : ℕ → A → List ℕ → List ℕ → Type 0) (Text : ℕ → A → List ℕ → Type 0) (Ends : A → List ℕ → Type 0) → ((end : ℕ) → Exact (read end) (Is end)) → Same Is Text Ends → One Text Ends
 one-of read Is Text Ends e same at a b s t ys zs is one ended other closed =
     let end : ℕ = at + length (s ++ ys) in

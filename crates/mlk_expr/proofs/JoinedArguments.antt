@@ -1,4 +1,4 @@
--- The two grammars say the same of subscripts, actuals, arguments and what calls name.
+-- The two grammars agree on subscripts, actuals, arguments and what calls name.
 use Rattle.std.proofs.Common.{◌≡◌, ◌+◌, ℕ, suc, ◌++◌, List, [], ◌∷◌, length, Some, None, true, false, refl, sym, ap, ◌∙◌, arith, subst, inl, inr, append_assoc}
 use Rattle.std.specs.Prelude.{Option, ◌==◌, ◌≢◌, ◌||◌}
 use Rattle.std.proofs.lemmas.Bool.{cases_Bool}
@@ -39,7 +39,7 @@ module _ (end : ℕ) (Is : Tree → List ℕ → List ℕ → Type 0) (Text : �
       let f = list-apart end (followed.IsPlaced end Is) (IsPlaced Text) placed-joins (suc at) (p ∷ subs) m ys (omega arith) list in
       (40 ∷ (f.0 ++ 41 ∷ []), is ∙ ap (λ l. 40 ∷ l) f.1 ∙ sym (enclosed-after f.0 ys), (f.0, refl, f.2, few))
 
-  -- after a closing parenthesis anything may stand, after no subscripts all but an opening one
+  -- after a closing parenthesis anything may follow, after no subscripts all but an opening one
   pub subs-together : (at : ℕ) (subs : List (ℕ × Tree)) (s ys : List ℕ) → end ≡ at + length (s ++ ys) → IsSubs Text at subs s → (subs ≡ [] → byte_at 40 ys ≡ None) → followed.IsSubs end Is subs (s ++ ys) ys
   subs-together at [] s ys h is none = subst (λ l. followed.IsSubs end Is [] (l ++ ys) ys) (sym is) (refl, none refl)
   subs-together at (p ∷ subs) s ys h (inner, is, list, few) none =
@@ -63,7 +63,7 @@ module _ (end : ℕ) (Is : Tree → List ℕ → List ℕ → Type 0) (Text : �
         subst (λ z. followed.IsChoice Is c z ys) (sym whole) (rest ++ ys, f, g);
   }
 
--- after a point stands no name where a number stands, and an expression is not left out
+-- where an expression begins, there is no name by reference, no missing actual and no closing parenthesis
 pub opens-given : (s : List ℕ) → opens s ≡ true → (lent_at s ≡ None) × (is_missing s ≡ false) × (byte_at 41 s ≡ None)
 unfolding lent_at name_at
 opens-given [] h = cc h
@@ -133,14 +133,14 @@ module _ (end : ℕ) (Is : Tree → List ℕ → List ℕ → Type 0) (Text : �
       let first = given-first (suc at) list.0 list.1 inner list.2 list.3 (41 ∷ ys) list.5 list.6 list.7 some in
       (inner ++ 41 ∷ ys, whole, (f, first))
 
--- what may stand
+-- what contains no global and no call
 quiet-joins : (end : ℕ) (Item : Tree → List ℕ → List ℕ → Type 0) (Text : ℕ → Tree → List ℕ → Type 0) → Joins end Item Text ends → Joins end (followed.Quiet Item) (Standing (may_stand NoTouches) Text) is_missing
 quiet-joins end Item Text j = record {
   apart = λ at t xs ys h (one, may). let f = j.apart at t xs ys h one in (f.0, f.1, (f.2, may));
   together = λ at t s ys h (one, may) ends. (j.together at t s ys h one (missing-ends ys ends), may);
 }
 
--- whether a name begins is seen at the first byte
+-- the first byte shows whether a name begins
 pub starts-front : (front m : List ℕ) → opens front ≡ true → starts_reference (front ++ m) ≡ starts_reference front
 starts-front [] m h = cc h
 starts-front (b ∷ front) m h = refl
@@ -182,7 +182,7 @@ pub tame-caret : (ys : List ℕ) → tame ys ≡ true → byte_at 94 ys ≡ None
 tame-caret [] h = refl
 tame-caret (b ∷ ys) h = let no : (b == 94) ≡ false = grind (arith, nat_tests) in rw no refl
 
--- a call is followed by what is tame, or by its actuals
+-- a call is followed by tame text, or by its actuals
 pub callee-together : (label routine : Option (List ℕ)) (s ys : List ℕ) → IsCallee label routine s → after_name ys ≡ true → byte_at 94 ys ≡ None → followed.IsCallee label routine (s ++ ys) ys
 callee-together (Some label) None s ys (is, good) may none = (rw is (label-reads label ys good may), none)
 callee-together (Some label) (Some routine) s ys (is, good, name) may none =

@@ -1,4 +1,4 @@
--- The two grammars say the same of operands, so of expressions of every depth.
+-- The two grammars agree on operands, and so on expressions of every depth.
 use Rattle.std.proofs.Common.{◌≡◌, ◌<◌, ◌+◌, ℕ, zero, suc, ◌++◌, List, [], ◌∷◌, length, Some, None, true, false, refl, sym, ap, ◌∙◌, arith, subst, inl, inr, append-nil, append_assoc, length-append}
 use Rattle.std.specs.Prelude.{◌⊎◌, ◌==◌, ◌||◌}
 use Rattle.std.proofs.lemmas.Bool.{and_parts}
@@ -22,7 +22,7 @@ use Rattle.mlk_expr.proofs.JoinedParts.{opens, Joins, JoinsPattern, moved, list-
 use Rattle.mlk_expr.proofs.JoinedPatterns.{pattern-joins}
 use Rattle.mlk_expr.proofs.JoinedArguments.{at-column, subs-apart, subs-together, choice-joins, actuals-apart, actuals-together, arguments-apart, arguments-together, callee-apart, callee-together, tame-caret}
 
--- what is tame goes on with nothing
+-- tame text continues nothing
 tame-goes : (ys : List ℕ) → tame ys ≡ true → goes_on ys ≡ false
 tame-goes [] h = refl
 tame-goes (b ∷ ys) h = grind (arith, nat_tests)
@@ -92,7 +92,7 @@ module _ (end : ℕ) (Atom : Tree → List ℕ → List ℕ → Type 0) (Text : 
   chain-first : (at : ℕ) (t : Tree) (s : List ℕ) → IsChain Text PatternOf at t s → opens s ≡ true
   chain-first = chain-opens end Atom Text a first-byte Pattern PatternOf p
 
-  -- subscripts go on with no name
+  -- subscripts do not continue a name
   subs-name : (at : ℕ) (subs : List (ℕ × Tree)) (part ys : List ℕ) → IsSubs (IsChain Text PatternOf) at subs part → (subs ≡ [] → goes_on ys ≡ false) → after_name (part ++ ys) ≡ true
   subs-name at [] part ys is quiet = subst (λ z. after_name (z ++ ys) ≡ true) (sym is) (goes-name ys (quiet refl))
   subs-name at (q ∷ subs) part ys (inner, is, list, few) quiet = rw is refl
@@ -157,7 +157,7 @@ module _ (end : ℕ) (Atom : Tree → List ℕ → List ℕ → Type 0) (Text : 
       let g = actuals-apart end (followed.IsChain Atom Pattern) (IsChain Text PatternOf) chains chain-first (2 + (at + length f.0)) given n ys (omega arith) list in
       (36 ∷ 36 ∷ (f.0 ++ g.0), whole ∙ ap (λ l. 36 ∷ 36 ∷ (f.0 ++ l)) g.1 ∙ sym (ap (λ l. 36 ∷ 36 ∷ l) (append_assoc f.0 g.0 ys)), (f.0, g.0, given, refl, col ∙ at-column end at xs h, f.2, g.2, same))
 
-  -- what may stand after an operand: anything that does not go on with it
+  -- an operand may be followed by anything that does not continue it
   plain-together : (at : ℕ) (t : Tree) (s ys : List ℕ) → end ≡ at + length (s ++ ys) → IsPlain Text PatternOf at t s → tame ys ≡ true → followed.IsPlain end Atom Pattern t (s ++ ys) ys
   plain-together at (Lit value) s ys h (inl same) may = inl (s, number-reads s ys (canonical-number s value same) may, same)
   plain-together at (Lit value) s ys h (inr (is, good)) may = inr (ap (λ l. l ++ ys) is ∙ quoted-after value ys, good, tame-quote ys may)
@@ -255,7 +255,7 @@ atom-joins end k = (atom-both end k).0
 pub atom-opens : (end k at : ℕ) (t : Tree) (s : List ℕ) → IsAtom k at t s → opens s ≡ true
 atom-opens end k = (atom-both end k).1
 
--- an expression that nests so deep
+-- an expression that nests at most this deep
 pub nested-joins : (end k : ℕ) → Joins end (followed.IsChain (followed.IsAtom end k) (followed.IsPattern k)) (IsChain (IsAtom k) (IsPattern k)) ends
 nested-joins end k = chains end (followed.IsAtom end k) (IsAtom k) (atom-joins end k) (atom-opens end k) (followed.IsPattern k) (IsPattern k) (pattern-joins k)
 

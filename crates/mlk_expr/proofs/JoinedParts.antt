@@ -1,4 +1,4 @@
--- The grammar of whole texts and the grammar with what stands after say the same: lists, chains, subscripts, actuals.
+-- The grammar of whole texts and the grammar with what follows agree: lists, chains, subscripts, actuals.
 use Rattle.std.proofs.Common.{◌≡◌, ◌+◌, ℕ, suc, ◌++◌, List, [], ◌∷◌, length, Some, None, Bool, true, false, refl, sym, ap, ◌∙◌, arith, subst, inl, inr, append_assoc, length-append}
 use Rattle.std.specs.Prelude.{◌==◌, ◌||◌, if◌then◌else◌}
 use Rattle.std.proofs.lemmas.Bool.{cases_Bool}
@@ -26,7 +26,7 @@ opens (b ∷ s) =
     if b == 46 then begins_digit s
     else is_digit b || is_letter b || (b == 37) || (b == 34) || (b == 94) || (b == 36) || (b == 40) || (b == 43) || (b == 45) || (b == 39)
 
--- What is spelled before something is a text of its own, and such a text is spelled before whatever may stand there.
+-- What is spelled before something is a text by itself, and such a text is spelled before whatever may follow it.
 pub record Joins {A : Type 0} (end : ℕ) (Is : A → List ℕ → List ℕ → Type 0) (Text : ℕ → A → List ℕ → Type 0) (may : List ℕ → Bool) : Type 0 where
   pub apart : (at : ℕ) (a : A) (xs ys : List ℕ) → end ≡ at + length xs → Is a xs ys → (s : List ℕ) × (xs ≡ s ++ ys) × Text at a s
   pub together : (at : ℕ) (a : A) (s ys : List ℕ) → end ≡ at + length (s ++ ys) → Text at a s → may ys ≡ true → Is a (s ++ ys) ys
@@ -35,7 +35,7 @@ pub record Joins {A : Type 0} (end : ℕ) (Is : A → List ℕ → List ℕ → 
 pub moved : (end at : ℕ) (xs s ys : List ℕ) → end ≡ at + length xs → xs ≡ s ++ ys → end ≡ at + length s + length ys
 moved end at xs s ys h is = let size = ap length is in let sum = length-append s ys in omega arith
 
--- what may end, and what comma and parenthesis end
+-- where an actual may be missing an expression may end, and what follows an expression is tame
 pub missing-ends : (ys : List ℕ) → is_missing ys ≡ true → ends ys ≡ true
 unfolding ends
 missing-ends [] h = refl
@@ -103,7 +103,7 @@ module _ {A : Type 0} (end : ℕ) (Is : A → List ℕ → List ℕ → Type 0) 
       let g = next-together (at + length front) others rest ys (omega arith) more in
       subst (λ l. followed.IsList Is items l ys) (sym whole) (first, others, rest ++ 41 ∷ ys, f, g, same)
 
--- what an expression opens with makes no operator longer and is neither a comma nor a closing parenthesis
+-- the first byte of an expression makes no operator longer and is neither a comma nor a closing parenthesis
 pub opens-starts : (s zs : List ℕ) → opens s ≡ true → starts (s ++ zs) ≡ true
 opens-starts [] zs h = cc h
 opens-starts (b ∷ s) zs h = elim (cases_Bool (b == 46)) [

@@ -1,5 +1,5 @@
--- Patterns: what stands at the front with something after it is spelled by itself, and what is spelled is read where
--- something tame stands after it.
+-- Patterns: what is spelled at the front before something is spelled by itself, and what is spelled is read if tame text
+-- follows.
 use Rattle.std.proofs.Common.{◌≡◌, ◌<◌, ℕ, zero, suc, ◌++◌, List, [], ◌∷◌, length, take, None, Bool, true, false, refl, sym, ap, ◌∙◌, arith, subst, inl, inr, append_assoc, length-append}
 use Rattle.std.proofs.Math.Seq.{take-append_seam}
 use Rattle.std.specs.Prelude.{◌==◌, ◌||◌, not}
@@ -17,7 +17,7 @@ use Rattle.mlk_expr.proofs.CodeSpelling.{codes-reads, codes-spelled}
 use Rattle.mlk_expr.proofs.NumberSpelling.{count-reads, count-spelled}
 use Rattle.mlk_expr.proofs.JoinedParts.{Joins, JoinsPattern, missing-ends, ends-tame, enclosed-after, quoted-after, list-apart, list-together}
 
--- a digit or a point stands here
+-- a digit or a point is here
 abbrev counts_on : List ℕ → Bool
 counts_on [] = false
 counts_on (b ∷ xs) = is_digit b || (b == 46)
@@ -35,7 +35,7 @@ count-first c zs (before, after, first, second, inr is) = subst (λ l. counts_on
     point [] h = refl
     point (d ∷ ds) h = rw ((and_parts (is_digit d) (are_digits ds) h).0) refl
 
--- no operator goes on with a digit or a point
+-- a digit or a point makes no operator longer
 on-starts : (zs : List ℕ) → counts_on zs ≡ true → starts zs ≡ true
 on-starts [] h = cc h
 on-starts (b ∷ zs) h = grind (arith, nat_tests)
@@ -44,7 +44,7 @@ on-starts (b ∷ zs) h = grind (arith, nat_tests)
 pub count-starts : (c zs : List ℕ) → IsCount c → starts (c ++ zs) ≡ true
 count-starts c zs h = on-starts (c ++ zs) (count-first c zs h)
 
--- what is put before one text is told by the whole
+-- the whole determines what precedes one text
 append-cancel : (front other ys : List ℕ) → front ++ ys ≡ other ++ ys → front ≡ other
 append-cancel front other ys h =
     let one = length-append front ys in
@@ -53,7 +53,7 @@ append-cancel front other ys h =
     let size : length front ≡ length other = omega arith in
     sym (take-append_seam front ys) ∙ ap (take (length front)) h ∙ ap (λ n. take n (other ++ ys)) size ∙ take-append_seam other ys
 
--- no count stands where something tame stands
+-- there is no count where the text is tame
 count-none : (ys : List ℕ) → tame ys ≡ true → count_at ys ≡ None
 unfolding count_at
 count-none [] h = refl
@@ -62,12 +62,12 @@ count-none (b ∷ ys) h =
     let point : (b == 46) ≡ false = grind (arith, nat_tests) in
     rw (digit, point) refl
 
--- no letter and no quote stands here: codes and texts end
+-- no letter and no quote is here: codes and texts end
 abbrev ends_atom : List ℕ → Bool
 ends_atom [] = true
 ends_atom (b ∷ xs) = not (is_letter b || (b == 34))
 
--- what is tame ends codes and texts
+-- tame text ends codes and texts
 tame-ends : (ys : List ℕ) → tame ys ≡ true → ends_atom ys ≡ true
 tame-ends [] h = refl
 tame-ends (b ∷ ys) h = grind (arith, nat_tests)
@@ -82,21 +82,21 @@ ends-word : (ys : List ℕ) → ends_atom ys ≡ true → after_word ys ≡ true
 ends-word [] h = refl
 ends-word (b ∷ ys) h = grind (arith, nat_tests)
 
--- no quote stands there
+-- no quote is there
 ends-quote : (ys : List ℕ) → ends_atom ys ≡ true → byte_at 34 ys ≡ None
 ends-quote [] h = refl
 ends-quote (b ∷ ys) h = let e : (b == 34) ≡ false = grind (arith, nat_tests) in rw e refl
 
--- a pattern code is no digit and no point
+-- a pattern code is neither a digit nor a point
 code-count : (b : ℕ) → is_pattern_code b ≡ true → (is_digit b || (b == 46)) ≡ false
 code-count b h = grind (arith, nat_tests)
 
--- an alternative stands as it is
+-- an alternative as it is written
 abbrev Choice : (List ℕ → Type 0) → ℕ → List ℕ → List ℕ → Type 0
 Choice Deep at choice t = (t ≡ choice) × Deep choice
 
 module _ (Near : List ℕ → List ℕ → List ℕ → Type 0) (Deep : List ℕ → Type 0) (p : JoinsPattern Near Deep) where
-  -- both grammars say the same of an alternative, in whatever column
+  -- both grammars agree on an alternative, in whatever column
   alternatives : (end : ℕ) → Joins end Near (Choice Deep) is_missing
   alternatives end = record {
     apart = λ at choice xs ys h one. let f = p.apart choice xs ys one in (choice, f.1, (refl, f.0));
@@ -134,14 +134,14 @@ module _ (Near : List ℕ → List ℕ → List ℕ → Type 0) (Deep : List ℕ
   atoms-end (count ∷ counts) s ys (matcher, rest, is, one, atom, atoms) t =
       subst (λ l. ends_atom l ≡ true) (sym (ap (λ l. l ++ ys) is ∙ append_assoc count (matcher ++ rest) ys)) (on-ends (count ++ ((matcher ++ rest) ++ ys)) (count-first count ((matcher ++ rest) ++ ys) one))
 
-  -- no count goes on with a matcher
+  -- a matcher does not continue a count
   matcher-count : (s zs : List ℕ) → IsMatcher Deep s → after_count (s ++ zs) ≡ true
   matcher-count [] zs (inl (all, some)) = absurd (omega arith)
   matcher-count (b ∷ s) zs (inl (all, some)) = rw (code-count b (and_parts (is_pattern_code b) (list_all is_pattern_code s) all).0) refl
   matcher-count s zs (inr (inl (value, (is, text)))) = subst (λ l. after_count (l ++ zs) ≡ true) (sym is) refl
   matcher-count s zs (inr (inr (inner, choices, is, list))) = subst (λ l. after_count (l ++ zs) ≡ true) (sym is) refl
 
-  -- a matcher is read where it ends
+  -- a matcher is read to its end
   matcher-together : (count s zs : List ℕ)
       → IsMatcher Deep s → ends_atom zs ≡ true → followed.IsMatcher Near count count (s ++ zs) zs
   matcher-together count s zs (inl codes) end = (refl, inl (s, codes-reads s zs codes (ends-word zs end)))
@@ -151,7 +151,7 @@ module _ (Near : List ℕ → List ℕ → List ℕ → Type 0) (Deep : List ℕ
       let f = list-together (length (inner ++ 41 ∷ zs)) Near (Choice Deep) (alternatives (length (inner ++ 41 ∷ zs))) 0 choices inner zs (omega arith) list in
       (refl, inr (inr (inner ++ 41 ∷ zs, choices, ap (λ l. l ++ zs) is ∙ enclosed-after inner zs, f)))
 
-  -- atoms are read as far as counts go
+  -- atoms are read as long as counts follow
   atoms-together : (counts : List (List ℕ)) (s ys : List ℕ)
       → AreAtoms Deep counts s → tame ys ≡ true → Many count_at (followed.IsMatcher Near) counts (s ++ ys) ys
   atoms-together [] s ys is t = subst (λ l. Many count_at (followed.IsMatcher Near) [] (l ++ ys) ys) (sym is) (refl, count-none ys t)
@@ -161,7 +161,7 @@ module _ (Near : List ℕ → List ℕ → List ℕ → Type 0) (Deep : List ℕ
       let first = matcher-together count matcher (rest ++ ys) atom (atoms-end counts rest ys atoms t) in
       (count, matcher ++ (rest ++ ys), rest ++ ys, reads, first, atoms-together counts rest ys atoms t)
 
--- a pattern is spelled as it is read, with something tame after it
+-- a pattern is spelled as it is read, if tame text follows
 level-joins : (k : ℕ) → JoinsPattern (followed.IsPattern k) (IsPattern k) → JoinsPattern (followed.IsPattern (suc k)) (IsPattern (suc k))
 unfolding IsPattern followed.IsPattern
 level-joins k p = record { apart = apart; together = together; begins = begins }

@@ -1,4 +1,4 @@
--- What a reader gives where not everything may stand is what it gives anyhow, where that may stand.
+-- What a reader reads where not everything is allowed: its usual reading, if that is allowed there.
 use Rattle.std.proofs.Common.{◌≡◌, ℕ, zero, suc, List, [], ◌∷◌, length, Some, None, true, false, Bool, refl, sym, ap, ◌∙◌, inl, inr}
 use Rattle.std.specs.Prelude.{Option, ◌&&◌, not, if◌then◌else◌, nat_le}
 use Rattle.std.specs.List.{list_all}
@@ -37,7 +37,7 @@ module _ {A B : Type 0} where
   kept-fixed b may None = elim (cases_Bool (may b)) [ inl m ↦ rw m refl | inr m ↦ rw m refl ]
   kept-fixed b may (Some r) = refl
 
-  -- a value of which a part is known
+  -- a value with one known part
   pub kept-pair : (known : Bool) (part : A → Bool) (may : B → Bool) (f : A → B) (o : Option (A × List ℕ)) → ((a : A) → may (f a) ≡ (known && part a)) → kept may (with f o) ≡ (if known then with f (kept part o) else None)
   kept-pair true part may f None h = refl
   kept-pair false part may f None h = refl
@@ -125,7 +125,7 @@ passes-all (Given t) = refl
 passes-all (ByRef column name) = refl
 passes-all Missing = refl
 
--- what lists hold
+-- the contents of lists
 module _ (a : Allows) where
   pub subs-all : (subs : List (ℕ × Tree)) → subs_may a (subs_from subs) ≡ list_all (λ p. may_stand a p.1) subs
   subs-all [] = refl
@@ -199,7 +199,7 @@ module _ (a : Allows) (end : ℕ) (item other : List ℕ → Option (Tree × Lis
       kept-pair (globals_may a) (list_all (λ p. may_stand a p.1)) (may_stand a) (λ ss. GlobalName column n.0 (subs_from ss)) (subs_with end item n.1) (λ ss. ap (λ b. globals_may a && b) (subs-all a ss))
       ∙ ap (λ o. if globals_may a then with (λ ss. GlobalName column n.0 (subs_from ss)) o else None) (kept-subs n.1))
 
-  -- actuals, as they may be passed
+  -- actuals, as far as they may be passed
   kept-actual : (p : Passing) (xs : List ℕ) → kept (λ x. actual_may a x && passes p x) (actual_with ByReference end item xs) ≡ actual_with p end other xs
   unfolding actual_with
   kept-actual p xs = go p (lent_at xs)
@@ -250,7 +250,7 @@ module _ (a : Allows) (end : ℕ) (item other : List ℕ → Option (Tree × Lis
       kept-then (may_stand a) (may_stand a) (item xs) _ (λ inner. with (λ _. inner.0) (byte_at 41 inner.1)) (λ inner. kept-fixed inner.0 (may_stand a) (byte_at 41 inner.1))
       ∙ ap (λ o. o >>= λ inner. with (λ _. inner.0) (byte_at 41 inner.1)) (h xs)
 
--- functions: `quiet` reads what stands after a name
+-- functions: `quiet` reads what follows a name
 module _ (a : Allows) (end : ℕ) (atom atom' : List ℕ → Option (Tree × List ℕ)) (ha : (ys : List ℕ) → kept (may_stand a) (atom ys) ≡ atom' ys) (item item' : List ℕ → Option (Tree × List ℕ)) (hi : (ys : List ℕ) → kept (may_stand a) (item ys) ≡ item' ys)
     (quiet quiet' : List ℕ → Option (Tree × List ℕ)) (hq : (ys : List ℕ) → kept (may_stand a) (quiet ys) ≡ quiet' ys) where
   kept-others : (most : ℕ) (first : Tree) (r : List Tree × List ℕ) → kept (list_all (may_stand a)) (others_by most first r) ≡ (if may_stand a first && list_all (may_stand a) r.0 then others_by most first r else None)

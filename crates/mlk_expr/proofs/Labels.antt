@@ -1,4 +1,4 @@
--- Names, labels and what calls name, as they stand in commands, are read exactly.
+-- Names, labels and what calls name are read exactly, as they occur in commands.
 use Rattle.std.proofs.Common.{◌≡◌, ◌<◌, ℕ, ◌++◌, List, [], ◌∷◌, length, Some, None, true, false, refl, ap, ◌∙◌, arith, subst, inl, inr, append_assoc}
 use Rattle.std.specs.Prelude.{Option, ◌==◌, ◌||◌, not}
 use Rattle.std.proofs.lemmas.Bool.{cases_Bool, and_parts}
@@ -42,7 +42,7 @@ digits-end [] ys all some ends = absurd (omega arith)
 digits-end (d ∷ ds) [] all some ends = refl
 digits-end (d ∷ ds) (b ∷ ys) all some ends = let digit : is_digit d ≡ true = (and_parts (is_digit d) (are_digits ds) all).0 in rw digit at ends
 
--- a label is read as far as it goes
+-- a label is read to its end
 label-ended : (label xs ys : List ℕ) → label_at xs ≡ Some (label, ys) → label_ends label ys ≡ true
 unfolding label_at digits_at
 label-ended label xs ys h = go (name_at xs) refl h

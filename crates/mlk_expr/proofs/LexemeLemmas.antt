@@ -68,7 +68,7 @@ op-takes o xs ys h = go (byte_at 39 xs) refl h
         let size = ap length text in
         (subst (λ l. After ys l) (sym text) (after_then (39 ∷ quote.1) quote.1 ys (after-one 39 quote.1) r.0), let less = r.1 in omega arith)
 
--- so many bytes and what is after them
+-- `m` bytes and what is after them
 unless : (b : Bool) (m : ℕ) (text xs ys : List ℕ) → if◌then◌else◌ {A = Option (List ℕ × List ℕ)} b None (Some (take m xs, drop m xs)) ≡ Some (text, ys)
     → (text ≡ take m xs) × (ys ≡ drop m xs)
 unless true m text xs ys h = cc h
@@ -141,7 +141,7 @@ pub kind-dollar : kind_of 36 ≡ kind.Dollar
 unfolding kind_of unary_of
 kind-dollar = refl
 
--- what a byte that begins no number and no name begins
+-- what is begun by a byte that begins no number and no name
 other-kind : (b : ℕ) (k : Kind) → kind_of b ≡ k → (k ≡ kind.Numeral → ⊥) → (k ≡ kind.Letter → ⊥) → kind_by b (unary_of b) ≡ k
 unfolding kind_of
 other-kind b k h number letter = elim (cases_Bool (is_digit b || (b == 46))) [
@@ -235,7 +235,7 @@ label-caret label (b ∷ xs) ys h = elim (cases_Bool (b == 94)) [
   | inr e ↦ rw e refl
 ]
 
--- after `$` stands a word that is not empty, or a second `$`
+-- a word that is not empty follows `$`, or a second `$` does
 pub word-none : (m w ys : List ℕ) → word_at m ≡ (w, ys) → (w ≡ [] → ⊥) → byte_at 36 m ≡ None
 word-none [] w ys h some = refl
 word-none (b ∷ m) w ys h some = elim (cases_Bool (b == 36)) [

@@ -1,4 +1,4 @@
--- What the code's loops and steps rest on.
+-- Laws that the code's loops and steps need.
 use Rattle.std.proofs.Common.{◌≡◌, ◌<◌, ◌≤◌, ◌-◌, ◌++◌, ℕ, zero, suc, List, [], ◌∷◌, length, Some, None, refl, sym, ◌∙◌, arith, subst, inl, inr, length-append, leb-true, le-leb}
 use Rattle.std.specs.Prelude.{Option, nat_le}
 use Rattle.std.proofs.lemmas.Bool.{cases_Bool, lt-leb}
@@ -22,7 +22,7 @@ pub loop_fails : {A B : Type 0} (head : List ℕ → Option (B × List ℕ)) (it
 loop_fails head item front n xs whole b m OutOfMemory is one less h = tt
 loop_fails head item front n xs whole b m (Refused o) is one less h = many_fails head item front n xs whole b m is one less h
 
--- no more items than this
+-- at most `most` items
 pub at_most-some : {A : Type 0} (most : ℕ) (o : Option (List A × List ℕ)) (items : List A) (rest : List ℕ) → (o >>= at_most most) ≡ Some (items, rest) → (o ≡ Some (items, rest)) × (length items ≤ most)
 at_most-some most None items rest h = cc h
 at_most-some most (Some r) items rest h = elim (cases_Bool (nat_le (length r.0) most)) [
@@ -42,7 +42,7 @@ too_many front a most (Some r) full =
     let size = length-append front (a ∷ r.0) in
     rw (lt-leb (length (front ++ a ∷ r.0)) most (omega arith)) refl
 
--- a head after as many items as there may be
+-- a head after the greatest number of items
 pub surplus : {A B : Type 0} (head : List ℕ → Option (B × List ℕ)) (item : B → List ℕ → Option (A × List ℕ)) (front : List A) (n : ℕ) (xs : List ℕ) (whole : Option (List A × List ℕ)) (most : ℕ)
     (b : B) (m : List ℕ) → head xs ≡ Some (b, m) → length xs < n → most ≤ length front → put front (many head item n xs) ≡ whole → (whole >>= at_most most) ≡ None
 unfolding many
@@ -84,7 +84,7 @@ from_rest OutOfMemory o h = tt
 from_rest (Refused r) None h = refl
 from_rest (Refused r) (Some p) h = cc h
 
--- what stands after a head and an item is shorter
+-- what follows a head and an item is shorter
 pub shorter : {A B : Type 0} (head : List ℕ → Option (B × List ℕ)) (read : List ℕ → Option (A × List ℕ)) (Is : A → List ℕ → List ℕ → Type 0) → Takes head → Exact read Is
     → (b : B) (a : A) (xs m ys : List ℕ) → head xs ≡ Some (b, m) → read m ≡ Some (a, ys) → length ys < length xs
 shorter head read Is t e b a xs m ys is one =

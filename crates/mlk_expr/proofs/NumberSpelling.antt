@@ -1,4 +1,4 @@
--- Pattern counts and numeric literals: what is spelled is read as far as it goes, and what is read is spelled.
+-- Pattern counts and numeric literals: what is spelled is read to its end, and what is read is spelled there.
 use Rattle.std.proofs.Common.{◌≡◌, ◌<◌, ◌+◌, ℕ, suc, ◌++◌, List, [], ◌∷◌, length, drop, Some, None, Bool, true, false, refl, sym, ap, ◌∙◌, arith, subst, inl, inr, append_assoc, length-append}
 use Rattle.std.specs.Prelude.{Option, ◌==◌, ◌&&◌, ◌||◌, if◌then◌else◌}
 use Rattle.std.proofs.lemmas.Bool.{cases_Bool, eqb-true, eqb-false, and_parts, or_cases}
@@ -17,7 +17,7 @@ count-length : (before rest : List ℕ) → are_digits before ≡ true → stops
     → count_len (digits (before ++ rest)) (byte_at 46 (drop (digits (before ++ rest)) (before ++ rest))) ≡ count_len (length before) (byte_at 46 rest)
 count-length before rest all stop = rw (digits-length before rest all stop) (rw (drop-append_seam before rest) refl)
 
--- no point stands here
+-- no point is here
 count-point : (ys : List ℕ) → after_count ys ≡ true → byte_at 46 ys ≡ None
 count-point [] h = refl
 count-point (b ∷ ys) h = let e : (b == 46) ≡ false = grind (arith, nat_tests) in rw e refl
@@ -31,7 +31,7 @@ count-pointed : (before after ys : List ℕ) → are_digits before ≡ true → 
     → count_len (digits (before ++ 46 ∷ (after ++ ys))) (byte_at 46 (drop (digits (before ++ 46 ∷ (after ++ ys))) (before ++ 46 ∷ (after ++ ys)))) ≡ length (before ++ 46 ∷ after)
 count-pointed before after ys first second stop = count-length before (46 ∷ (after ++ ys)) first refl ∙ pointed-length before after ys second stop
 
--- a count is read as far as it goes
+-- a count is read to its end
 pub count-reads : (c ys : List ℕ) → IsCount c → after_count ys ≡ true → count_at (c ++ ys) ≡ Some (c, ys)
 unfolding count_at
 count-reads c ys (before, after, first, second, inl (is, some)) stop =
@@ -46,7 +46,7 @@ count-reads c ys (before, after, first, second, inr is) stop =
     let some : 0 < length text = let e = length-append before (46 ∷ after) in omega arith in
     subst P (sym is) (cut-reads _ text ys size some)
 
--- the count that is read stands there
+-- a count that is read is spelled there
 pub count-spelled : (c xs ys : List ℕ) → count_at xs ≡ Some (c, ys) → IsCount c × (xs ≡ c ++ ys)
 unfolding count_at
 count-spelled c xs ys h = let (before, rest, is, first, stop) = digits-are xs in go before rest is first stop (byte_at 46 rest) refl
@@ -63,17 +63,17 @@ count-spelled c xs ys h = let (before, rest, is, first, stop) = digits-are xs in
         let r = cut-spelled _ (before ++ 46 ∷ after) more c xs ys (whole ∙ sym (append_assoc before (46 ∷ after) more)) size h in
         (subst IsCount r.0 (before, after, first, second, inr refl), r.3)
 
--- the length of digits with a point, of which these are the first
+-- the length of digits with a point, the first of them these
 mantissa-length : (before rest : List ℕ) → are_digits before ≡ true → stops is_digit rest ≡ true → mantissa_len (before ++ rest) ≡ point_len (length before) rest
 unfolding mantissa_len
 mantissa-length before rest all stop = rw (digits-length before rest all stop) (rw (drop-append_seam before rest) refl)
 
--- where no point stands, the digits are all
+-- without a point, the digits are all
 point-none : (n : ℕ) (zs : List ℕ) → after_count zs ≡ true → point_len n zs ≡ n
 point-none n [] h = refl
 point-none n (b ∷ zs) h = let e : (b == 46) ≡ false = grind (arith, nat_tests) in rw e refl
 
--- digits, a point and digits, one digit at least
+-- digits, a point and digits, with at least one digit
 point-some : (before after zs : List ℕ) → are_digits after ≡ true → stops is_digit zs ≡ true → 0 < length before + length after
     → point_len (length before) (46 ∷ (after ++ zs)) ≡ length (before ++ 46 ∷ after)
 point-some before after zs all stop some =
@@ -120,7 +120,7 @@ signed-length sign (d ∷ ds) ys (inr s) all some stop = elim s [
     digit-length : (if digits ((d ∷ ds) ++ ys) == 0 then 0 else suc (digits ((d ∷ ds) ++ ys))) ≡ suc (length (d ∷ ds))
     digit-length = let size = digits-length (d ∷ ds) ys all stop in rw size (some-suc (length (d ∷ ds)) some)
 
--- what stands after the digits of a literal
+-- what follows the digits of a literal
 exponent-length : (exponent ys : List ℕ) → IsExponent exponent → tame ys ≡ true
     → (exponent_len (exponent ++ ys) ≡ length exponent) × (lacks_exponent (exponent ++ ys) ≡ false) × (after_count (exponent ++ ys) ≡ true)
 exponent-length exponent ys (inl is) t =
@@ -146,7 +146,7 @@ numeral-reads mantissa exponent ys size some more lack =
     let p = parted (length mantissa + length exponent) (mantissa ++ exponent) ys (mantissa ++ (exponent ++ ys)) (sym (append_assoc mantissa exponent ys)) (sym (length-append mantissa exponent)) in
     rw size (rw (drop-append_seam mantissa (exponent ++ ys)) (rw (other, lack) (rw more (rw (p.0, p.1) refl))))
 
--- a number is read as far as it goes
+-- a number is read to its end
 pub number-reads : (text ys : List ℕ) → IsNumber text → tame ys ≡ true → numeral_at (text ++ ys) ≡ Some (text, ys)
 number-reads text ys (before, after, mantissa, exponent, numeral, ending, is) t =
     let P : List ℕ → Type 0 = λ l. numeral_at (l ++ ys) ≡ Some (l, ys) in
@@ -154,11 +154,11 @@ number-reads text ys (before, after, mantissa, exponent, numeral, ending, is) t 
     let reads = numeral-reads mantissa exponent ys (numeral-length before after mantissa (exponent ++ ys) numeral e.2) (numeral-some before after mantissa numeral) e.0 e.1 in
     subst P (sym is) (ap numeral_at (append_assoc mantissa exponent ys) ∙ reads)
 
--- what stands at the front where a literal's digits have a length
+-- what is at the front if a literal's digits have a length
 abbrev Mantissa : List ℕ → Type 0
 Mantissa xs = (before after mantissa zs : List ℕ) × IsNumeral before after mantissa × (xs ≡ mantissa ++ zs) × (mantissa_len xs ≡ length mantissa)
 
--- it stands there
+-- it is there
 mantissa-is : (xs : List ℕ) → (mantissa_len xs ≡ 0 → ⊥) → Mantissa xs
 mantissa-is xs some = let (before, rest, is, all, stop) = digits-are xs in go before rest is all (ap mantissa_len is ∙ mantissa-length before rest all stop)
   where
@@ -208,11 +208,11 @@ mantissa-is xs some = let (before, rest, is, all, stop) = digits-are xs in go be
           point before after zs (is ∙ ap (λ l. before ++ l) follows) all second end (size ∙ ap (point_len (length before)) follows) _ refl
     ]
 
--- what stands after `E` where its sign and digits have a length
+-- what follows `E` if its sign and digits have a length
 abbrev Signed : List ℕ → Type 0
 Signed zs = (sign ds ys : List ℕ) × (zs ≡ (sign ++ ds) ++ ys) × IsSign sign × (are_digits ds ≡ true) × (0 < length ds) × (signed_len zs ≡ length (sign ++ ds))
 
--- it stands there
+-- it is there
 signed-is : (zs : List ℕ) → (signed_len zs ≡ 0 → ⊥) → Signed zs
 signed-is [] some = absurd (some refl)
 signed-is (b ∷ zs) some = elim (cases_Bool ((b == 43) || (b == 45))) [
@@ -239,7 +239,7 @@ signed-is (b ∷ zs) some = elim (cases_Bool ((b == 43) || (b == 45))) [
       rw e (rw size (some-suc (length (d ∷ ds)) (omega arith))),
     )
 
--- what stands after a literal's digits, where no `E` lacks its digits
+-- what follows a literal's digits, if no `E` is without its digits
 exponent-is : (zs : List ℕ) → lacks_exponent zs ≡ false → (exponent ys : List ℕ) × (zs ≡ exponent ++ ys) × IsExponent exponent × (exponent_len zs ≡ length exponent)
 exponent-is [] h = ([], [], refl, inl refl, refl)
 exponent-is (b ∷ zs) h = elim (cases_Bool (b == 69)) [
@@ -251,7 +251,7 @@ exponent-is (b ∷ zs) h = elim (cases_Bool (b == 69)) [
       (b ∷ (sign ++ ds), ys, ap (λ l. b ∷ l) is, inr (sign, ds, ap (λ c. c ∷ (sign ++ ds)) (eqb-true b 69 e), s, all, some), one-more ∙ ap suc size)
 ]
 
--- the number that is read stands there
+-- a number that is read is spelled there
 pub number-spelled : (text xs ys : List ℕ) → numeral_at xs ≡ Some (text, ys) → IsNumber text × (xs ≡ text ++ ys)
 unfolding numeral_at
 number-spelled text xs ys h = elim (cases_Bool (mantissa_len xs == 0)) [

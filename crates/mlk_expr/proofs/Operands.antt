@@ -23,7 +23,7 @@ use Rattle.mlk_expr.proofs.LexemeLemmas.{numeral-after, word-after, kind-open, k
 use Rattle.mlk_expr.proofs.Parts.{list-exact, chain-exact, subs-exact, pattern-exact}
 use Rattle.mlk_expr.proofs.Arguments.{CalleeIs, actuals-exact, callee-exact, choice-exact, arguments-exact}
 
--- what lies one deeper, read exactly
+-- what is one level deeper, read exactly
 pub record Level (read : List ℕ → Option (Tree × List ℕ)) (Is : Tree → List ℕ → List ℕ → Type 0) (pattern : List ℕ → Option (List ℕ × List ℕ)) (Pattern : List ℕ → List ℕ → List ℕ → Type 0) : Type 0 where
   pub atoms : Exact read Is
   pub patterns : Exact pattern Pattern

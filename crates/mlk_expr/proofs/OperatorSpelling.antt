@@ -1,4 +1,4 @@
--- The longest operator that stands somewhere is the one that is spelled there.
+-- The longest operator at a place is the one that is spelled there.
 use Rattle.std.proofs.Common.{◌≡◌, ℕ, ◌++◌, List, [], ◌∷◌, Some, None, true, false, refl, sym, ap, ◌∙◌, arith, subst, inl, inr}
 use Rattle.std.specs.Prelude.{Option, ◌==◌, if◌then◌else◌}
 use Rattle.std.proofs.lemmas.Bool.{cases_Bool, eqb-true}
@@ -26,7 +26,7 @@ row P b k x a others here more h = elim (cases_Bool (b == k)) [
   | inr e ↦ more (rw e at h)
 ]
 
--- no operator goes on with a name, a number, a text or a parenthesis
+-- no operator continues a name, a number, a text or a parenthesis
 relation-tame : (r : Relation) (zs : List ℕ) → tame (relation_text r ++ zs) ≡ true
 relation-tame relation.Equals zs = refl
 relation-tame relation.Less zs = refl
@@ -51,7 +51,7 @@ op-tame op.Concatenate zs = refl
 op-tame (op.Is r) zs = relation-tame r zs
 op-tame (op.IsNot r) zs = refl
 
--- the longest operator is read where none can be made longer
+-- the longest operator is read if what follows makes none longer
 relation-reads : (r : Relation) (zs : List ℕ) → starts zs ≡ true → relation_at (relation_text r ++ zs) ≡ Some (r, zs)
 unfolding relation_at relation_of
 relation-reads r [] h = cc h
@@ -94,7 +94,7 @@ op-reads (op.Is r) (c ∷ zs) h =
     ap (op_by whole) (relation-quote r (c ∷ zs)) ∙ ap (λ o. or_else (with op.Is o) (arithmetic_at whole)) (relation-reads r (c ∷ zs) h)
 op-reads (op.IsNot r) (c ∷ zs) h = ap (with op.IsNot) (relation-reads r (c ∷ zs) h)
 
--- what one byte, or two, stand for is spelled so
+-- what one byte denotes, or two, is spelled by them
 one-spelled : {A : Type 0} (text : A → List ℕ) (o : Option A) (a : A) (b : ℕ) (xs ys : List ℕ) → ((c : A) → o ≡ Some c → text c ≡ b ∷ [])
     → one_byte o xs ≡ Some (a, ys) → b ∷ xs ≡ text a ++ ys
 one-spelled text None a b xs ys of h = cc h
@@ -139,7 +139,7 @@ arithmetic-byte b o =
     (row P b 35 op.Modulo o _ refl
     (row P b 95 op.Concatenate o _ refl (λ e. cc e)))))))
 
--- the relation that is read stands there
+-- a relation that is read is spelled there
 relation-spelled : (r : Relation) (xs ys : List ℕ) → relation_at xs ≡ Some (r, ys) → xs ≡ relation_text r ++ ys
 unfolding relation_at
 relation-spelled r [] ys h = cc h
@@ -148,7 +148,7 @@ relation-spelled r (b ∷ xs) ys h = elim (cases_Bool (b == 93)) [
   | inr e ↦ one-spelled relation_text (relation_of b) r b xs ys (relation-byte b) (rw e at h)
 ]
 
--- the arithmetic operator that is read stands there
+-- an arithmetic operator that is read is spelled there
 arithmetic-spelled : (o : Op) (xs ys : List ℕ) → arithmetic_at xs ≡ Some (o, ys) → xs ≡ op_text o ++ ys
 unfolding arithmetic_at
 arithmetic-spelled o [] ys h = cc h
@@ -157,7 +157,7 @@ arithmetic-spelled o (b ∷ xs) ys h = elim (cases_Bool (b == 42)) [
   | inr e ↦ one-spelled op_text (arithmetic_of b) o b xs ys (arithmetic-byte b) (rw e at h)
 ]
 
--- the operator that is read stands there
+-- an operator that is read is spelled there
 pub op-spelled : (o : Op) (xs ys : List ℕ) → op_at xs ≡ Some (o, ys) → xs ≡ op_text o ++ ys
 unfolding op_at
 op-spelled o xs ys h = go (byte_at 39 xs) refl h
@@ -181,7 +181,7 @@ unary-reads unary.Plus = (43, refl, refl)
 unary-reads unary.Minus = (45, refl, refl)
 unary-reads unary.Not = (39, refl, refl)
 
--- the unary operator of a byte is spelled so
+-- the unary operator of a byte is spelled by it
 pub unary-spelled : (o : UnaryOp) (b : ℕ) → unary_of b ≡ Some o → unary_text o ≡ b ∷ []
 unfolding unary_of
 unary-spelled o b =

@@ -1,4 +1,4 @@
--- Each part of an expression is read exactly where what lies in it is.
+-- Each part of an expression is read exactly if its own parts are.
 use Rattle.std.proofs.Common.{◌≡◌, ◌<◌, ◌≤◌, ◌+◌, ◌-◌, ℕ, zero, suc, ◌++◌, List, [], ◌∷◌, length, take, Some, None, true, false, Bool, refl, sym, ap, ◌∙◌, arith, subst, inl, inr, length-append, leb-true, le-leb}
 use Rattle.std.specs.Prelude.{Option, ◌==◌, nat_le}
 use Rattle.std.proofs.Math.Seq.{take-append_seam}
@@ -15,7 +15,7 @@ use Rattle.mlk_expr.proofs.Followed.{Next, IsList, IsMatcher, IsPattern, IsRight
 use Rattle.mlk_expr.specs.Reading.{kept, next, list_with, matcher_by, some_atoms, pattern_at, right_by, linked, chain_with, at_most, placed, subs_by, subs_with}
 use Rattle.mlk_expr.proofs.LexemeLemmas.{op-takes, count-takes, codes-after}
 
--- what may stand of what is read
+-- what is allowed of what is read
 pub kept-exact : {A : Type 0} (may : A → Bool) (read : List ℕ → Option (A × List ℕ)) (Is : A → List ℕ → List ℕ → Type 0) → Exact read Is
     → Exact (λ xs. kept may (read xs)) (λ a xs ys. Is a xs ys × (may a ≡ true))
 kept-exact may read Is e = record {
@@ -66,7 +66,7 @@ coded read count codes (b ∷ xs) ys h = elim (cases_Bool (b == 34)) [
   ]
 ]
 
--- what a pattern atom has after its count
+-- what follows the count of a pattern atom
 pub matcher-exact : (read : List ℕ → Option (List ℕ × List ℕ)) (Is : List ℕ → List ℕ → List ℕ → Type 0) → Exact read Is → (count : List ℕ) → Exact (matcher_by read count) (IsMatcher Is count)
 matcher-exact read Is e count = record { sound = go; complete = done; after = back }
   where
@@ -99,7 +99,7 @@ matcher-exact read Is e count = record { sound = go; complete = done; after = ba
     back c xs ys (same, inr (inr f)) =
         subst (λ l. After ys l) (sym f.2) (after_then (40 ∷ f.0) f.0 ys (after-one 40 f.0) ((list-exact read Is e).after f.1 f.0 ys f.3))
 
--- what stands before the rest
+-- what precedes the rest
 front-taken : (text xs ys : List ℕ) → xs ≡ text ++ ys → take (length xs - length ys) xs ≡ text
 front-taken text xs ys h =
     let size : length xs ≡ length text + length ys = ap length h ∙ length-append text ys in

@@ -32,7 +32,7 @@ whole-exact end = record {
   after = λ t xs ys h. (expr-exact end 64).after t xs ys h.0;
 }
 
--- what a reading that computes says of a line
+-- what a reading says of a line
 module _ {A : Type 0} (read : ℕ → List ℕ → Option (A × List ℕ)) (Is : ℕ → A → List ℕ → List ℕ → Type 0) (Text : ℕ → A → List ℕ → Type 0) (Ends : A → List ℕ → Type 0)
     (exact : (end : ℕ) → Exact (read end) (Is end)) (same : Same Is Text Ends) (line : List ℕ) (at : ℕ) where
   e : Exact (read (suc (length line))) (Is (suc (length line)))

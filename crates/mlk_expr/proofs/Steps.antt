@@ -1,4 +1,4 @@
--- What the steps of the code give.
+-- The results of the code's steps.
 use Rattle.std.proofs.Common.{◌≡◌, ◌<◌, ◌≤◌, ◌-◌, ℕ, suc, ◌++◌, List, [], ◌∷◌, length, map, take, Some, None, true, false, Bool, refl, sym, ap, ◌∙◌, arith, length-append, lt-ltb, leb-true, le-leb, inl, inr}
 use Rattle.std.specs.Prelude.{Option, nat_lt, nat_le, not, ◌==◌, ◌&&◌}
 use Rattle.std.proofs.lemmas.Bool.{cases_Bool, ne_eqb, ltb-false}
@@ -117,7 +117,7 @@ unfolding function_with
 function-fails OutOfMemory atom item quiet w xs f s g h = tt
 function-fails (Refused r) atom item quiet w xs f s g h = rw s (rw g (rw h refl))
 
--- a list with no more items than this
+-- a list with at most `most` items
 module _ {A : Type 0} (item : List ℕ → Option (A × List ℕ)) (most : ℕ) (xs : List ℕ) (first : A) (m : List ℕ) where
   abbrev listed : Option (List A × List ℕ)
   listed = put (first ∷ []) (many (byte_at 44) (next item) (suc (length m)) m)
@@ -157,7 +157,7 @@ unfolding list_with
 list-fails item most xs OutOfMemory h = tt
 list-fails item most xs (Refused r) h = rw h refl
 
--- a name and what stands after it
+-- a name and what follows it
 module _ (atom item quiet : List ℕ → Option (Tree × List ℕ)) (f : Function) (most : ℕ) (xs : List ℕ) (first : Tree) (m : List ℕ) where
   abbrev argued : Option (List Tree × List ℕ)
   argued = put (first ∷ []) (many (byte_at 44) (next quiet) (suc (length m)) m) >>= at_most (suc most)

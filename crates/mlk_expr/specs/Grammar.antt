@@ -1,5 +1,5 @@
--- The expressions of M, from trees to texts. `Is.. at t s` says that t is written as the text s, where s begins in the
--- column `at`; a tree keeps the columns of some of its parts. What follows each other is joined by `++`.
+-- The expressions of M, from trees to texts. `Is.. at t s` says that the text s spells the tree t, where s begins in the
+-- column `at`; a tree keeps the columns of some of its parts. Consecutive parts are joined by `++`.
 use Rattle.std.specs.Prelude.{ℕ, zero, suc, ◌≡◌, ◌≢◌, ◌<◌, ◌≤◌, ◌+◌, ◌⊎◌, Bool, true, false, List, [], ◌∷◌, ◌++◌}
 use Rattle.std.specs.Prelude.{length, Option, Some, None}
 use Rattle.mlk_numbers.specs.Numbers.{IsCanonical}
@@ -20,7 +20,7 @@ use Rattle.mlk_text.specs.Places.{column_at}
 use Rattle.mlk_text.specs.Spellings.{IsName, IsLabel, IsWord}
 use Rattle.mlk_expr.specs.Spellings.{IsNumber, IsStringLiteral, IsCount, IsCodes, op_text, unary_text}
 
--- how a thing is written, where its text begins in this column
+-- how a thing is spelled, given the column where its text begins
 abbrev pub Spelled : Type 0 → Type 1
 Spelled A = ℕ → A → List ℕ → Type 0
 
@@ -30,7 +30,7 @@ AreNext Item at [] s = s ≡ []
 AreNext Item at (a ∷ items) s = (front rest : List ℕ) × (s ≡ 44 ∷ (front ++ rest)) × Item (suc at) a front
     × AreNext Item (suc (at + length front)) items rest
 
--- one or more items with commas between them
+-- one or more items separated by commas
 abbrev pub IsList : {A : Type 0} → Spelled A → ℕ → List A → List ℕ → Type 0
 IsList {A = A} Item at items s = (first : A) × (others : List A) × (front rest : List ℕ)
     × (items ≡ first ∷ others) × (s ≡ front ++ rest) × Item at first front
@@ -40,8 +40,8 @@ IsList {A = A} Item at items s = (first : A) × (others : List A) × (front rest
 abbrev pub IsEnclosed : List ℕ → List ℕ → Type 0
 IsEnclosed inner s = s ≡ 40 ∷ (inner ++ 41 ∷ [])
 
--- What a pattern atom has after its count: codes, a text, or one of several patterns, whose columns nobody keeps.
--- Standard: pattern match, patatom.
+-- What follows the count of a pattern atom: codes, a text, or one of several patterns, whose columns are not kept. Standard:
+-- pattern match, patatom.
 abbrev pub IsMatcher : (List ℕ → Type 0) → List ℕ → Type 0
 IsMatcher Deep s = IsCodes s
     ⊎ ((value : List ℕ) × IsStringLiteral value s)
@@ -54,29 +54,29 @@ AreAtoms Deep [] s = s ≡ []
 AreAtoms Deep (count ∷ counts) s = (matcher rest : List ℕ) × (s ≡ count ++ (matcher ++ rest)) × IsCount count
     × IsMatcher Deep matcher × AreAtoms Deep counts rest
 
--- A pattern: one or more atoms; alternatives lie one deeper. Standard: pattern match.
+-- A pattern: one or more atoms; alternatives are one level deeper. Standard: pattern match.
 unfoldable pub IsPattern : ℕ → List ℕ → Type 0
 IsPattern zero s = ⊥
 IsPattern (suc k) s = (counts : List (List ℕ)) × (0 < length counts) × AreAtoms (IsPattern k) counts s
 
--- what stands after an operator: a pattern after a pattern match, an operand after any other
+-- the right operand of an operator: a pattern after a pattern match, an operand after any other
 abbrev pub IsRight : Spelled Tree → (List ℕ → Type 0) → Bool → ℕ → Tree → List ℕ → Type 0
 IsRight Atom Pattern false at t s = Atom at t s
 IsRight Atom Pattern true at t s = (t ≡ PatternText s) × Pattern s
 
--- operators, each with what stands after it
+-- operators, each with its right operand
 abbrev pub AreLinks : Spelled Tree → (List ℕ → Type 0) → ℕ → List (Op × Tree) → List ℕ → Type 0
 AreLinks Atom Pattern at [] s = s ≡ []
 AreLinks Atom Pattern at (l ∷ links) s = (right rest : List ℕ) × (s ≡ op_text l.0 ++ (right ++ rest))
     × IsRight Atom Pattern (is_match l.0) (at + length (op_text l.0)) l.1 right
     × AreLinks Atom Pattern (at + length (op_text l.0) + length right) links rest
 
--- one operand stands for itself, more for a chain, which is assigned from the left
+-- one operand is itself, several are a chain, which is left-associative
 abbrev pub chained : Tree → List (Op × Tree) → Tree
 chained t [] = t
 chained t (l ∷ ls) = Chain t (links_from (l ∷ ls))
 
--- Operands with operators between them. Standard: expr, without precedence.
+-- Operands separated by operators. Standard: expr, without precedence.
 abbrev pub IsChain : Spelled Tree → (List ℕ → Type 0) → ℕ → Tree → List ℕ → Type 0
 IsChain Atom Pattern at t s = (first : Tree) × (links : List (Op × Tree)) × (front rest : List ℕ)
     × (t ≡ chained first links) × (s ≡ front ++ rest) × Atom at first front
@@ -86,8 +86,8 @@ IsChain Atom Pattern at t s = (first : Tree) × (links : List (Op × Tree)) × (
 abbrev pub IsPlaced : Spelled Tree → ℕ → ℕ × Tree → List ℕ → Type 0
 IsPlaced Item at p s = (p.0 ≡ column_at at) × Item at p.1 s
 
--- Subscripts: none, or a list in parentheses; at most 32. Standard: local and global variables; the number is this
--- project's own choice.
+-- Subscripts: none, or a list in parentheses; at most 32. Standard: local and global variables; the limit is this project's own
+-- choice.
 abbrev pub IsSubs : Spelled Tree → ℕ → List (ℕ × Tree) → List ℕ → Type 0
 IsSubs Item at [] s = s ≡ []
 IsSubs Item at (p ∷ subs) s = (inner : List ℕ) × IsEnclosed inner s × IsList (IsPlaced Item) (suc at) (p ∷ subs) inner
@@ -105,7 +105,7 @@ IsActuals Item at [] s = s ≡ 40 ∷ 41 ∷ []
 IsActuals Item at (a ∷ more) s = (inner : List ℕ) × IsEnclosed inner s
     × IsList (IsActual Item) (suc at) (a ∷ more) inner × (inner ≢ [])
 
--- the first argument of these names a variable, and they have so many arguments after it at most
+-- the functions whose first argument is a variable, and the maximum number of arguments after it
 abbrev pub named : Function → Option ℕ
 named function.Data = Some 0
 named function.Get = Some 1
@@ -114,7 +114,7 @@ named function.Order = Some 1
 named function.Query = Some 0
 named f = None
 
--- `$ORDER` asks for a subscript
+-- `$ORDER` requires a subscript
 abbrev pub has_subscript : Tree → Bool
 has_subscript (LocalName name (sub column t more)) = true
 has_subscript (GlobalName column name (sub at t more)) = true
@@ -124,8 +124,8 @@ abbrev pub asks_subscript : Function → Bool
 asks_subscript function.Order = true
 asks_subscript f = false
 
--- Arguments: expressions, or a name and what may stand after it, which holds no global and no call, since it is not
--- certain whether the name's node or that is evaluated first. Standard: functions.
+-- Arguments: expressions, or a name and the arguments that may follow it, which contain no global and no call, since it is
+-- not certain whether the name's node or they are evaluated first. Standard: functions.
 abbrev pub AreArguments : Spelled Tree → Spelled Tree → Function → Option ℕ → ℕ → List Tree → List ℕ → Type 0
 AreArguments Atom Item f None at args s = IsList Item at args s
 AreArguments Atom Item f (Some most) at args s = (first : Tree) × (others : List Tree) × (front rest : List ℕ)
@@ -138,16 +138,16 @@ abbrev pub IsChoice : Spelled Tree → ℕ → Tree × Tree → List ℕ → Typ
 IsChoice Item at c s = (front rest : List ℕ) × (s ≡ front ++ 58 ∷ rest) × Item at c.0 front
     × Item (suc (at + length front)) c.1 rest
 
--- What a call names, after `$$`. Standard: extrinsic functions, labelref.
+-- A callee, after `$$`. Standard: extrinsic functions, labelref.
 abbrev pub IsCallee : Option (List ℕ) → Option (List ℕ) → List ℕ → Type 0
 IsCallee (Some label) None s = (s ≡ label) × IsLabel label
 IsCallee (Some label) (Some routine) s = (s ≡ label ++ 94 ∷ routine) × IsLabel label × IsName routine
 IsCallee None (Some routine) s = (s ≡ 94 ∷ routine) × IsName routine
 IsCallee None None s = ⊥
 
--- An operand without parentheses round it. `Atom` and `Pattern` are what lies one deeper. Standard: expratom. What has
--- no case here is left out: indirection, naked references, structured system variables, other functions and special
--- variables, external calls, environments.
+-- An operand without parentheses around it. `Atom` and `Pattern` are one level deeper. Standard: expratom. What has no case here
+-- is not read: indirection, naked references, structured system variables, other functions and special variables, external calls,
+-- environments.
 abbrev pub IsPlain : Spelled Tree → (List ℕ → Type 0) → ℕ → Tree → List ℕ → Type 0
 IsPlain Atom Pattern at (Lit value) s = IsCanonical s value ⊎ IsStringLiteral value s
 IsPlain Atom Pattern at Free s = IsNumber s × ((value : List ℕ) → IsCanonical s value → ⊥)
@@ -174,7 +174,7 @@ IsPlain Atom Pattern at (CallOf column callee actuals) s = (called part : List �
     × (s ≡ 36 ∷ 36 ∷ (called ++ part)) × (column ≡ column_at at) × IsCallee callee.label callee.routine called
     × IsActuals (IsChain Atom Pattern) (2 + (at + length called)) given part × (actuals ≡ actuals_from given)
 
--- an operand, perhaps in parentheses, which leave no node
+-- an operand, optionally in parentheses, which leave no node
 abbrev pub IsOperand : Spelled Tree → (List ℕ → Type 0) → ℕ → Tree → List ℕ → Type 0
 IsOperand Atom Pattern at t s = IsPlain Atom Pattern at t s
     ⊎ ((inner : List ℕ) × IsEnclosed inner s × IsChain Atom Pattern (suc at) t inner)
@@ -188,19 +188,19 @@ IsAtom (suc k) at t s = IsOperand (IsAtom k) (IsPattern k) at t s
 abbrev pub IsNested : ℕ → ℕ → Tree → List ℕ → Type 0
 IsNested k at t s = IsChain (IsAtom k) (IsPattern k) at t s
 
--- An expression: the outermost is the first of at most 64. The depth is this project's own choice.
+-- An expression: the outermost one is the first of at most 64 levels. The depth is this project's own choice.
 unfoldable pub IsExpr : ℕ → Tree → List ℕ → Type 0
 IsExpr at t s = IsNested 64 at t s
 
--- a local or a global name with its subscripts, as it stands in SET, KILL or LOCK: what it holds lies one deeper
+-- a local or a global with its subscripts, as in SET, KILL or LOCK: its subscripts are one level deeper
 unfoldable pub IsReference : ℕ → Tree → List ℕ → Type 0
 IsReference at t s = IsAtom 64 at t s × (starts_reference s ≡ true)
 
--- an actual list in parentheses, as it stands in DO and JOB: what it holds lies one deeper
+-- an actual list in parentheses, as in DO and JOB: its actuals are one level deeper
 unfoldable pub IsActualList : ℕ → List ActualTree → List ℕ → Type 0
 IsActualList at given s = IsActuals (IsNested 63) at given s
 
--- a name, a label, and what a call names, as they stand in commands; no column is kept of them
+-- a name, a label and a callee, as they occur in commands; their columns are not kept
 abbrev pub IsNameText : ℕ → List ℕ → List ℕ → Type 0
 IsNameText at name s = (s ≡ name) × IsName name
 
@@ -210,8 +210,8 @@ IsLabelText at label s = (s ≡ label) × IsLabel label
 abbrev pub IsCalleeText : ℕ → Callee → List ℕ → Type 0
 IsCalleeText at c s = IsCallee c.label c.routine s
 
--- the same where not everything may stand: in an expression; in the subscripts of a name; in an actual list, where it
--- may be that names can't be passed by reference either
+-- these, if not everything is allowed: in an expression; in the subscripts of a name; in an actual list, in which names by
+-- reference may also be forbidden
 abbrev pub IsExprWhere : Allows → ℕ → Tree → List ℕ → Type 0
 IsExprWhere a = Standing (may_stand a) IsExpr
 

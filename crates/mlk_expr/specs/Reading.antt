@@ -1,5 +1,5 @@
--- Reading expressions, as functions on lists: what the code's readers give. For private clauses alone: what public
--- calls promise stands in `Grammar` and `Theorem`.
+-- Reading expressions, as functions on lists: the results of the code's readers. For private clauses only: the contracts of
+-- public calls use `Grammar` and `Theorem`.
 use Rattle.std.specs.Prelude.{ℕ, zero, suc, ◌-◌, ◌==◌, ◌&&◌, nat_le, if◌then◌else◌, Bool, true, false, not, List, []}
 use Rattle.std.specs.Prelude.{◌∷◌, length, Option, Some, None, take}
 use Rattle.mlk_text.specs.Reading.{◌>>=◌, with, many}
@@ -25,16 +25,16 @@ use Rattle.mlk_expr_tokens.specs.Lexemes.{column_of, kind_of, op_at, is_match, n
 use Rattle.mlk_expr_tokens.specs.Lexemes.{lent_at, starts_reference, is_missing, ends}
 use Rattle.mlk_expr.specs.Grammar.{chained, named, has_subscript, asks_subscript}
 
--- what reads something gives it with what is after it, or nothing
+-- a reader returns what it read with the rest, or nothing
 abbrev pub Reader : Type 0 → Type 0
 Reader A = List ℕ → Option (A × List ℕ)
 
--- what was read, where it may stand
+-- what was read, if it is allowed
 abbrev pub kept : {A : Type 0} → (A → Bool) → Option (A × List ℕ) → Option (A × List ℕ)
 kept may None = None
 kept may (Some r) = if may r.0 then Some r else None
 
--- nothing, where nothing may stand
+-- nothing, if nothing is allowed
 abbrev pub where_may : {A : Type 0} → Bool → Option A → Option A
 where_may true read = read
 where_may false read = None
@@ -57,7 +57,7 @@ list_with item xs =
     many (byte_at 44) (next item) (suc (length first.1)) first.1 >>= λ others.
     with (λ _. first.0 ∷ others.0) (byte_at 41 others.1)
 
--- no more items than this
+-- at most `most` items
 abbrev pub at_most : {A : Type 0} → ℕ → List A × List ℕ → Option (List A × List ℕ)
 at_most most r = if nat_le (length r.0) most then Some r else None
 
@@ -80,7 +80,7 @@ unfoldable pub pattern_at : ℕ → Reader (List ℕ)
 pattern_at zero xs = None
 pattern_at (suc k) xs = many count_at (matcher_by (pattern_at k)) (suc (length xs)) xs >>= some_atoms xs
 
--- chains: what stands after an operator, and an expression that goes on after its first operand
+-- chains: the right operand of an operator, and the rest of an expression after its first operand
 abbrev pub right_by : Reader Tree → Reader (List ℕ) → Bool → Reader Tree
 right_by atom pattern false xs = atom xs
 right_by atom pattern true xs = with PatternText (pattern xs)
@@ -165,7 +165,7 @@ name_and item f most first =
     if asks_subscript f && not (has_subscript first.0) then None
     else many (byte_at 44) (next item) (suc (length first.1)) first.1 >>= others_by most first.0
 
--- `quiet` reads what stands after a name
+-- `quiet` reads the arguments after a name
 abbrev pub arguments_by : Reader Tree → Reader Tree → Reader Tree → Function → Option ℕ → Reader (List Tree)
 arguments_by atom item quiet f None xs = list_with item xs
 arguments_by atom item quiet f (Some most) xs = if starts_reference xs then atom xs >>= name_and quiet f most else None
@@ -207,7 +207,7 @@ global_with may end column item xs = where_may may (name_at xs) >>=
 abbrev pub enclosed_with : Reader Tree → Reader Tree
 enclosed_with item xs = item xs >>= λ inner. with (λ _. inner.0) (byte_at 41 inner.1)
 
--- an operand, by its first byte; `deep` reads what lies one deeper
+-- an operand, by its first byte; `deep` reads what is one level deeper
 abbrev pub atom_by : Allows → ℕ → Reader Tree → Reader Tree → Reader (List ℕ) → Kind → ℕ → Reader Tree
 atom_by a end deep quiet pattern kind.Numeral b xs = with number_of (numeral_at (b ∷ xs))
 atom_by a end deep quiet pattern kind.Quote b xs = with Lit (inside xs)
@@ -224,7 +224,7 @@ abbrev pub operand_with : Allows → ℕ → Reader Tree → Reader Tree → Rea
 operand_with a end deep quiet pattern [] = None
 operand_with a end deep quiet pattern (b ∷ xs) = atom_by a end deep quiet pattern (kind_of b) b xs
 
--- the same reading, of what holds no global and no call
+-- the same reading, of something without globals and calls
 abbrev pub quietly : Reader Tree → Reader Tree
 quietly item xs = kept (may_stand NoTouches) (item xs)
 
@@ -233,7 +233,7 @@ atom_at end zero xs = None
 atom_at end (suc k) xs =
     operand_with Everything end (atom_at end k) (quietly (chain_with (atom_at end k) (pattern_at k))) (pattern_at k) xs
 
--- the same where a reader is
+-- `atom_at` where a reader is
 unfoldable pub atom_in : Context → Reader Tree
 atom_in here xs = kept (may_stand here.allows) (atom_at here.end here.left xs)
 
@@ -246,7 +246,7 @@ quiet here = record { end = here.end; left = here.left; allows = NoTouches }
 abbrev pub operand_in : Context → Reader Tree
 operand_in here xs = operand_with here.allows here.end (atom_in here) (nested_in (quiet here)) (pattern_at here.left) xs
 
--- an expression that nests at most so deep
+-- an expression that nests at most k deep
 abbrev pub nested_at : ℕ → ℕ → Reader Tree
 nested_at end k xs = chain_with (atom_at end k) (pattern_at k) xs
 
@@ -261,19 +261,19 @@ after_open end (Some open') = actuals_with ByReference end (chain_with (atom_at 
 unfoldable pub actual_list_at : ℕ → Reader (List ActualTree)
 actual_list_at end xs = after_open end (byte_at 40 xs)
 
--- what is after a thing that was read
+-- the rest after what was read
 abbrev pub rest_of : {A : Type 0} → Option (A × List ℕ) → Option (List ℕ)
 rest_of None = None
 rest_of (Some r) = Some r.1
 
--- an expression that has an end
+-- an expression that may end here
 abbrev pub ended : Tree × List ℕ → Option (Tree × List ℕ)
 ended r = if ends r.1 then Some r else None
 
 unfoldable pub expr_at : ℕ → Reader Tree
 expr_at end xs = nested_at end 64 xs >>= ended
 
--- the same where a reader is
+-- an expression that may end here, where a reader is
 unfoldable pub expr_in : Context → Reader Tree
 expr_in here xs = nested_in here xs >>= ended
 

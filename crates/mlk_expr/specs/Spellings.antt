@@ -1,4 +1,4 @@
--- The smallest parts of expressions as they are written, but names, labels and words: numbers, texts, pattern counts and operators.
+-- The smallest parts of expressions, as written, except names, labels and words: numbers, texts, pattern counts and operators.
 use Rattle.std.specs.Prelude.{ℕ, ◌≡◌, ◌<◌, ◌⊎◌, true, List, [], ◌∷◌, ◌++◌, length, codes}
 use Rattle.std.specs.List.{list_all}
 use Rattle.mlk_text.specs.declared.operator.Op.{Op}
@@ -15,24 +15,22 @@ use Rattle.mlk_expr_tokens.specs.Lexemes.{is_pattern_code}
 abbrev pub IsSign : List ℕ → Type 0
 IsSign s = (s ≡ []) ⊎ (s ≡ codes "+") ⊎ (s ≡ codes "-")
 
--- Nothing, or `E`, perhaps a sign, and digits. Standard: numeric literals, exponent.
+-- Nothing, or `E`, an optional sign, and digits. Standard: numeric literals, exponent.
 abbrev pub IsExponent : List ℕ → Type 0
 IsExponent s = (s ≡ [])
     ⊎ ((sign digits : List ℕ) × (s ≡ 69 ∷ (sign ++ digits)) × IsSign sign × (are_digits digits ≡ true)
     × (0 < length digits))
 
--- A numeric literal: digits with a point before, after or among them, and perhaps an exponent. Standard: numeric
--- literals.
+-- A numeric literal: digits with a point before, after or among them, and an optional exponent. Standard: numeric literals.
 abbrev pub IsNumber : List ℕ → Type 0
 IsNumber text = (before after mantissa exponent : List ℕ) × IsNumeral before after mantissa × IsExponent exponent
     × (text ≡ mantissa ++ exponent)
 
--- A text in quotes, with each quote inside doubled. Standard: string literals.
+-- A quoted text, with each quote inside doubled. Standard: string literals.
 abbrev pub IsStringLiteral : List ℕ → List ℕ → Type 0
 IsStringLiteral value s = (s ≡ 34 ∷ (doubled value ++ 34 ∷ [])) × (is_text value ≡ true)
 
--- The count of a pattern atom: digits, or a point with digits or none on either side. Standard: pattern match,
--- repcount.
+-- The count of a pattern atom: digits, or a point with optional digits on either side. Standard: pattern match, repcount.
 abbrev pub IsCount : List ℕ → Type 0
 IsCount c = (before after : List ℕ) × (are_digits before ≡ true) × (are_digits after ≡ true)
     × (((c ≡ before) × (0 < length before)) ⊎ (c ≡ before ++ 46 ∷ after))
@@ -53,7 +51,7 @@ relation_text relation.And = codes "&"
 relation_text relation.Or = codes "!"
 relation_text relation.Matches = codes "?"
 
--- Standard: arithmetic binary operators, concatenation; a relation after `'` is not to hold
+-- Standard: arithmetic binary operators, concatenation; `'` negates a relation
 abbrev pub op_text : Op → List ℕ
 op_text op.Add = codes "+"
 op_text op.Subtract = codes "-"

@@ -1,5 +1,5 @@
--- What may stand where the order of evaluation is not certain: nothing that it could matter for. The standard says
--- little of that order; which places these are is this project's own choice.
+-- What is allowed where the order of evaluation is not certain: nothing for which it could matter. The standard says little about
+-- that order; which places these are is this project's own choice.
 use Rattle.std.specs.Prelude.{ℕ, ◌≡◌, ◌&&◌, Bool, true, false, List}
 use Rattle.std.specs.List.{list_all}
 use Rattle.mlk_expr.specs.declared.context.Allows.{Allows}
@@ -11,7 +11,7 @@ use Rattle.mlk_syntax.specs.ExprTrees.{Func, Selected, BareCall, CallOf, Trees, 
 use Rattle.mlk_syntax.specs.ExprTrees.{no_links, link, Choices, no_choices, choice, ActualTree, Given, ByRef, Missing}
 use Rattle.mlk_syntax.specs.ExprTrees.{Actuals, no_actuals, actual}
 
--- whether a global reference may stand there,
+-- whether a global reference is allowed there,
 abbrev pub globals_may : Allows → Bool
 globals_may allows.Everything = true
 globals_may allows.NoCalls = true
@@ -23,7 +23,7 @@ calls_may allows.Everything = true
 calls_may allows.NoCalls = false
 calls_may allows.NoTouches = false
 
--- Whether all that a tree holds may stand there, at any depth.
+-- Whether everything in a tree is allowed there, at any depth.
 abbrev mutual
   pub may_stand : Allows → Tree → Bool
   may_stand a (Lit value) = true
@@ -69,7 +69,7 @@ abbrev pub lends : Passing → Bool
 lends passing.ByReference = true
 lends passing.ByValue = false
 
--- what a name with subscripts holds
+-- the subscripts of a name
 abbrev pub subs_stand : Allows → Tree → Bool
 subs_stand a (LocalName name subs) = subs_may a subs
 subs_stand a (GlobalName column name subs) = subs_may a subs
@@ -83,6 +83,6 @@ passes p a = true
 abbrev pub given_stand : Allows → Passing → List ActualTree → Bool
 given_stand a p given = list_all (λ actual. actual_may a actual && passes p actual) given
 
--- a thing that is written so, and may stand there
+-- a thing that is spelled in a given way, and is allowed there
 abbrev pub Standing : {A : Type 0} → (A → Bool) → (ℕ → A → List ℕ → Type 0) → ℕ → A → List ℕ → Type 0
 Standing may Is at a s = Is at a s × (may a ≡ true)

@@ -1,16 +1,16 @@
-// What may stand in an expression, and where its reader is.
+// What is allowed in an expression, and where its reader is.
 
 ghost use Rattle.std.specs.Prelude.{◌≡◌};
 ghost use Rattle.mlk_expr.specs.Touches.{globals_may, calls_may, lends};
 
-/// What may stand in an expression, by how certain the order is in which its parts are evaluated.
+/// What is allowed in an expression, depending on how certain the order is in which its parts are evaluated.
 #[derive(Clone, Copy, Debug, Drop, PartialEq, Eq)]
 pub enum Allows {
-    /// global references and extrinsic calls too
+    /// everything, global references and extrinsic calls included
     Everything,
-    /// no extrinsic call
+    /// no extrinsic calls
     NoCalls,
-    /// no extrinsic call and no global reference
+    /// no extrinsic calls and no global references
     NoTouches,
 }
 
@@ -37,9 +37,9 @@ impl Allows {
 /// How actuals may be passed.
 #[derive(Clone, Copy, Debug, Drop, PartialEq, Eq)]
 pub enum Passing {
-    /// by reference too
+    /// by value or by reference
     ByReference,
-    /// by value alone
+    /// by value only
     ByValue,
 }
 
@@ -54,7 +54,7 @@ impl Passing {
     }
 }
 
-/// Where a reader is: in a line whose end has this column, with so many levels left, where this may stand.
+/// Where a reader is: in a line whose end has the column `end`, with `left` levels of nesting left, where `allows` is allowed.
 #[derive(Clone, Copy, Debug, Drop)]
 pub struct Context {
     pub end: usize,

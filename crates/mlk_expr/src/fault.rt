@@ -1,4 +1,4 @@
-// Why a part of a line was not read, as callers see it.
+// Why a part of a line was refused, as callers see it.
 
 ghost use Rattle.std.specs.Prelude.{◌≡◌, ◌≤◌, length, true, is_some, ◌==◌};
 ghost use Rattle.mlk_text.specs.Codes.{number_of};
@@ -10,7 +10,8 @@ use crate::refusal::{Offence, Wrong};
 use mlk_text::{Code, Column, Failure, Fault, LeftOut, LineNumber, Place, Value};
 use std::alloc::Global;
 
-// The code of what is wrong, and what is left out. A name by reference is refused only where it may not be passed.
+// The code for `wrong`, and the part of M that is not read. A name by reference is refused as such only if `passing` forbids
+// it.
 fn told(passing: Passing, wrong: Wrong) -> (Code, Option<LeftOut>)
     ensures coded { may_tell passing (number_of result.0) ≡ true }
     ensures worded { is_some result.1 ≡ (number_of result.0 == 102) }
@@ -25,7 +26,7 @@ fn told(passing: Passing, wrong: Wrong) -> (Code, Option<LeftOut>)
     }
 }
 
-/// The refusal with its place in the line, from this byte on.
+/// Gives a refusal its place in `line`, at byte `at` or after it.
 pub(crate) fn located(
     alloc: Global,
     passing: Passing,

@@ -1,8 +1,8 @@
-// What the grammar of expressions keeps to.
+// Laws of the grammar of expressions.
 
 ghost use Rattle.mlk_expr.specs.Theorem.{OneTree};
 
-/// What stands at a place of a line has at most one tree and one end.
+/// The text at a place of a line has at most one tree and one end.
 pub fn one_tree()
     ensures { OneTree }
 {}

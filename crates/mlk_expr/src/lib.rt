@@ -1,4 +1,4 @@
-//! The expressions of M: their trees, and the readers that are exact for their grammar.
+//! M's expressions: the exact readers of their grammar.
 #![tactic(auto)]
 
 mod context;

@@ -1,4 +1,4 @@
-// The readers of names, labels and what calls name, as they stand in commands.
+// The readers of names, labels and callees, as they occur in commands.
 
 ghost use Rattle.std.specs.Prelude.{◌≡◌, ◌≤◌, length, IfOk, IfErr};
 ghost use Rattle.mlk_expr.specs.declared.context.Passing.TheVariants.{ByReference};
@@ -12,7 +12,7 @@ use mlk_syntax::Callee;
 use mlk_text::{Failure, Fault, Name};
 use std::alloc::Global;
 
-/// The name that begins at this byte of a line, and the byte after it.
+/// Reads the name at byte `at` of `line`: the name, and the byte after it.
 pub fn read_name(alloc: Global, line: &[u8], at: usize) -> Result<(Name, usize), Failure<Fault>>
     requires { at ≤ length line.now }
     ensures found { IfOk result (λ r. Stands IsNameText LabelEnds line.now at r.0 r.1) }
@@ -27,7 +27,7 @@ pub fn read_name(alloc: Global, line: &[u8], at: usize) -> Result<(Name, usize),
     }
 }
 
-/// The label that begins at this byte of a line, a name or digits, and the byte after it.
+/// Reads the label, a name or digits, at byte `at` of `line`: the label, and the byte after it.
 pub fn read_label(alloc: Global, line: &[u8], at: usize) -> Result<(Name, usize), Failure<Fault>>
     requires { at ≤ length line.now }
     ensures found { IfOk result (λ r. Stands IsLabelText LabelEnds line.now at r.0 r.1) }
@@ -42,7 +42,7 @@ pub fn read_label(alloc: Global, line: &[u8], at: usize) -> Result<(Name, usize)
     }
 }
 
-/// What a call names that begins at this byte of a line, and the byte after it.
+/// Reads the callee at byte `at` of `line`: the callee, and the byte after it.
 pub fn read_callee(alloc: Global, line: &[u8], at: usize) -> Result<(Callee, usize), Failure<Fault>>
     requires { at ≤ length line.now }
     ensures found { IfOk result (λ r. Stands IsCalleeText CalleeEnds line.now at r.0 r.1) }

@@ -1,4 +1,4 @@
-// The readers of the parts that hold no expression.
+// The readers of parts without expressions.
 
 ghost use Rattle.std.specs.Prelude.{◌≡◌, ◌<◌, [], vec_len, vec_capacity, IfOk};
 ghost use Rattle.mlk_text.specs.Failures.{Reads, IsRefused};
@@ -22,7 +22,7 @@ use mlk_text::spelling::{label_text, name_text};
 use mlk_text::{Failure, Name, Value, likely_length, literal, make_room};
 use std::alloc::{AllocError, Global};
 
-/// An empty list, with room for as many items as the list seems to have that begins with these bytes.
+/// An empty list, with room for the number of items that the list at `bytes` seems to have.
 #[inline(always)]
 pub(crate) fn list_room<T: Drop>(alloc: Global, bytes: &[u8]) -> Result<Vec<T>, AllocError>
     ensures empty { IfOk result (λ v. v.items ≡ []) }
@@ -33,7 +33,7 @@ pub(crate) fn list_room<T: Drop>(alloc: Global, bytes: &[u8]) -> Result<Vec<T>, 
     Ok(room)
 }
 
-/// The name at the front, and what is after it.
+/// Reads the name at the front: the name, and the rest.
 #[inline(always)]
 pub(crate) fn name(alloc: Global, bytes: &[u8]) -> Result<(Name, &[u8]), Failure<Offence>>
     ensures { Reads (λ x. (x.0, x.1.now)) result (name_at bytes.now) }
@@ -44,7 +44,7 @@ pub(crate) fn name(alloc: Global, bytes: &[u8]) -> Result<(Name, &[u8]), Failure
     Ok((Name::of(alloc, text)?, rest))
 }
 
-// Why no text in quotes stands here, after the opening one: at a byte that can't stand in it, or at the line's end.
+// Why there is no quoted text after its opening quote: a byte that is not allowed in it, or the line's end.
 fn no_text(bytes: &[u8]) -> Failure<Offence>
     ensures { IsRefused result }
 {
@@ -57,7 +57,7 @@ fn no_text(bytes: &[u8]) -> Failure<Offence>
     refused(Wrong::Form, &[])
 }
 
-/// The value up to the closing quote, and what is after it.
+/// Reads the value up to the closing quote: the value, and the rest.
 #[inline(always)]
 pub(crate) fn quoted(alloc: Global, bytes: &[u8]) -> Result<(Value, &[u8]), Failure<Offence>>
     ensures { Reads (λ x. (x.0, x.1.now)) result (inside bytes.now) }
@@ -69,7 +69,7 @@ pub(crate) fn quoted(alloc: Global, bytes: &[u8]) -> Result<(Value, &[u8]), Fail
     }
 }
 
-/// The text up to the closing quote, and what is after it.
+/// Reads the text up to the closing quote: its tree, and the rest.
 #[inline(always)]
 pub(crate) fn text(alloc: Global, bytes: &[u8]) -> Result<(Expr, &[u8]), Failure<Offence>>
     ensures { Reads (λ x. (tree_of x.0, x.1.now)) result (with Lit (inside bytes.now)) }
@@ -89,7 +89,7 @@ fn number_of(alloc: Global, text: &[u8]) -> Result<Expr, AllocError>
     }
 }
 
-/// The numeric literal at the front, and what is after it.
+/// Reads the numeric literal at the front: its tree, and the rest.
 #[inline(always)]
 pub(crate) fn number(alloc: Global, bytes: &[u8]) -> Result<(Expr, &[u8]), Failure<Offence>>
     ensures { Reads (λ x. (tree_of x.0, x.1.now)) result (with number_of (numeral_at bytes.now)) }
@@ -100,7 +100,7 @@ pub(crate) fn number(alloc: Global, bytes: &[u8]) -> Result<(Expr, &[u8]), Failu
     Ok((number_of(alloc, text)?, rest))
 }
 
-/// The same where what is left out is told.
+/// Reads the name at the front; a refusal says which part of M is not read here.
 pub(crate) fn plain_name(alloc: Global, bytes: &[u8]) -> Result<(Name, &[u8]), Failure<Offence>>
     ensures { Reads (λ x. (x.0, x.1.now)) result (name_at bytes.now) }
 {
@@ -111,7 +111,7 @@ pub(crate) fn plain_name(alloc: Global, bytes: &[u8]) -> Result<(Name, &[u8]), F
     }
 }
 
-/// The label at the front, and what is after it.
+/// Reads the label at the front: the label, and the rest.
 pub(crate) fn label(alloc: Global, bytes: &[u8]) -> Result<(Name, &[u8]), Failure<Offence>>
     ensures { Reads (λ x. (x.0, x.1.now)) result (label_at bytes.now) }
 {
@@ -121,7 +121,7 @@ pub(crate) fn label(alloc: Global, bytes: &[u8]) -> Result<(Name, &[u8]), Failur
     Ok((Name::of(alloc, text)?, rest))
 }
 
-// The name of a routine after its caret, at which the whole begins, and what is after it.
+// Reads the name of a routine: the name, and the rest. `whole` begins at its caret, `bytes` after it.
 fn routine<'a>(
     alloc: Global,
     whole: &[u8],
@@ -136,7 +136,7 @@ fn routine<'a>(
     }
 }
 
-/// What a call names, after `$$`, and what is after it.
+/// Reads the callee after `$$`: the callee, and the rest.
 #[tactic(auto, unfolding(crate::specs::Reading::callee_at))]
 pub(crate) fn callee(alloc: Global, bytes: &[u8]) -> Result<(Callee, &[u8]), Failure<Offence>>
     ensures { Reads (λ x. (x.0, x.1.now)) result (callee_at bytes.now) }
@@ -163,7 +163,7 @@ pub(crate) fn callee(alloc: Global, bytes: &[u8]) -> Result<(Callee, &[u8]), Fai
     Ok((Callee { label, routine }, rest))
 }
 
-/// The name of a global after its caret, at which the whole begins, and what is after it.
+/// Reads the name of a global: the name, and the rest. `whole` begins at its caret, `bytes` after it.
 #[inline(always)]
 pub(crate) fn global_name<'a>(
     alloc: Global,
@@ -183,7 +183,7 @@ pub(crate) fn global_name<'a>(
     }
 }
 
-/// How many arguments may stand after the first, where that is a name.
+/// How many arguments `function` may have after the first, if the first must be a name; otherwise `None`.
 pub(crate) fn named(function: Function) -> Option<usize>
     ensures { result ≡ named function }
 {
@@ -194,7 +194,7 @@ pub(crate) fn named(function: Function) -> Option<usize>
     }
 }
 
-/// Whether the first argument must have a subscript.
+/// Whether the first argument of `function` must have a subscript.
 pub(crate) fn asks_subscript(function: Function) -> bool
     ensures { result ≡ asks_subscript function }
 {
@@ -204,7 +204,7 @@ pub(crate) fn asks_subscript(function: Function) -> bool
     }
 }
 
-/// Whether this is a name with a subscript.
+/// Whether `tree` is a name with a subscript.
 pub(crate) fn has_subscript(tree: &Expr) -> bool
     ensures { result ≡ has_subscript (tree_of tree.now) }
 {

@@ -14,7 +14,7 @@ use mlk_text::Failure;
 use mlk_text::lexeme::byte_of;
 use std::alloc::Global;
 
-/// The pattern at the front, as it is written, and what is after it; its alternatives nest so deep at most.
+/// Reads the pattern at the front: its text, and the rest. Its alternatives nest at most `left` deep.
 #[cycle(patterns)]
 pub(crate) fn pattern(
     alloc: Global,
@@ -34,7 +34,7 @@ pub(crate) fn pattern(
     Ok((text, rest))
 }
 
-// All pattern atoms at the front: whether there is one, and what is after them.
+// Reads all pattern atoms at the front: whether there is one, and the rest.
 #[cycle(patterns)]
 fn atoms(alloc: Global, deeper: u8, bytes: &[u8]) -> Result<(bool, &[u8]), Failure<Offence>>
     ensures { Reads (λ x. (x.0, x.1.now)) result
@@ -50,7 +50,7 @@ fn atoms(alloc: Global, deeper: u8, bytes: &[u8]) -> Result<(bool, &[u8]), Failu
     Ok((found, rest))
 }
 
-// What a pattern atom has after its count.
+// Reads what follows the count of a pattern atom.
 #[cycle(patterns)]
 fn matcher<'a>(
     alloc: Global,
@@ -77,7 +77,7 @@ fn matcher<'a>(
     Ok(rest)
 }
 
-// One or more patterns with commas between them, after an opening parenthesis: what is after the closing one.
+// Reads patterns separated by commas, after an opening parenthesis, and returns the rest after the closing one.
 #[tactic(auto, unfolding(crate::specs::Reading::list_with))]
 #[cycle(patterns)]
 fn alternatives(alloc: Global, deeper: u8, bytes: &[u8]) -> Result<&[u8], Failure<Offence>>

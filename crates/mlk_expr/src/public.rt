@@ -1,4 +1,4 @@
-// The readers that callers use.
+// The public readers.
 
 ghost use Rattle.std.specs.Prelude.{◌≡◌, ◌≤◌, length, IfOk, IfErr};
 ghost use Rattle.mlk_syntax.specs.ExprTrees.{tree_of, actual_trees};
@@ -78,7 +78,7 @@ fn actual_list<'a>(
     actuals(alloc, context, passing, after)
 }
 
-/// The expression that begins at this byte of a line, and the byte after it.
+/// Reads the expression at byte `at` of `line`: its tree, and the byte after it.
 pub fn read_expr(alloc: Global, line: &[u8], at: usize) -> Result<(Expr, usize), Failure<Fault>>
     requires { at ≤ length line.now }
     ensures found { IfOk result (λ r. Stands IsExpr ExprEnds line.now at (tree_of r.0) r.1) }
@@ -89,7 +89,7 @@ pub fn read_expr(alloc: Global, line: &[u8], at: usize) -> Result<(Expr, usize),
     read_expr_where(alloc, Allows::Everything, line, at)
 }
 
-/// The same where not everything may stand.
+/// Reads an expression in which only `allows` is allowed.
 #[inline(always)]
 pub fn read_expr_where(
     alloc: Global,
@@ -115,7 +115,7 @@ pub fn read_expr_where(
     }
 }
 
-/// The local or global name with its subscripts that begins at this byte of a line, and the byte after it.
+/// Reads the local or global with its subscripts at byte `at` of `line`: its tree, and the byte after it.
 pub fn read_ref(alloc: Global, line: &[u8], at: usize) -> Result<(Expr, usize), Failure<Fault>>
     requires { at ≤ length line.now }
     ensures found { IfOk result (λ r. Stands IsReference ReferenceEnds line.now at (tree_of r.0) r.1) }
@@ -126,7 +126,7 @@ pub fn read_ref(alloc: Global, line: &[u8], at: usize) -> Result<(Expr, usize), 
     read_ref_where(alloc, Allows::Everything, line, at)
 }
 
-/// The same where not everything may stand in its subscripts.
+/// Reads a local or global in whose subscripts only `allows` is allowed.
 #[inline(always)]
 pub fn read_ref_where(
     alloc: Global,
@@ -152,7 +152,7 @@ pub fn read_ref_where(
     }
 }
 
-/// The actual list that begins at this byte of a line, and the byte after it.
+/// Reads the actual list at byte `at` of `line`: the actuals, and the byte after it.
 pub fn read_actuals(
     alloc: Global,
     line: &[u8],
@@ -167,7 +167,7 @@ pub fn read_actuals(
     read_actuals_where(alloc, Allows::Everything, Passing::ByReference, line, at)
 }
 
-/// The same where not everything may stand in them, or be passed.
+/// Reads an actual list in which only `allows` is allowed, whose actuals are passed as `passing` says.
 pub fn read_actuals_where(
     alloc: Global,
     allows: Allows,

@@ -1,4 +1,4 @@
-// The readers of expressions: one cycle, whose depth counts down.
+// The readers of expressions: one cycle of functions, which terminates since `left` counts down.
 
 ghost use Rattle.std.specs.Prelude.{suc, length};
 ghost use Rattle.mlk_text.specs.Reading.{with, many};
@@ -23,7 +23,7 @@ use mlk_text::lexeme::byte_of;
 use mlk_text::{Failure, Op, UnaryOp, Value, giving_up, make_room};
 use std::alloc::Global;
 
-/// The expression at the front that nests so deep at most, and what is after it.
+/// Reads the expression at the front, nested at most `context.left` deep: its tree, and the rest.
 #[tactic(auto, unfolding(crate::specs::Reading::chain_with, mlk_text::specs::Reading::many))]
 #[cycle(reading)]
 pub(crate) fn chain<'a>(
@@ -40,7 +40,7 @@ pub(crate) fn chain<'a>(
     going_on(alloc, context, first, rest)
 }
 
-// The same in a function of its own, so that the place of its result is cleared only where it is called.
+// Calls `chain_after`, as a function of its own, so that the slot of the result is cleared only if an operator may follow.
 #[cycle(reading)]
 #[inline(always)]
 fn going_on<'a>(
@@ -55,7 +55,7 @@ fn going_on<'a>(
     chain_after(alloc, context, first, bytes)
 }
 
-// The expression that goes on after its first operand.
+// Reads the rest of an expression after its first operand.
 #[cycle(reading)]
 fn chain_after<'a>(
     alloc: Global,
@@ -96,7 +96,7 @@ fn chain_rest<'a>(
     Ok((found, rest))
 }
 
-// What stands after an operator.
+// Reads the right operand of `op`.
 #[cycle(reading)]
 fn right<'a>(
     alloc: Global,
@@ -114,7 +114,7 @@ fn right<'a>(
     atom(alloc, context, after)
 }
 
-// An expression and a closing parenthesis.
+// Reads an expression and a closing parenthesis.
 #[cycle(reading)]
 #[inline(always)]
 fn enclosed<'a>(
@@ -131,7 +131,7 @@ fn enclosed<'a>(
     Ok((inner, rest))
 }
 
-// What stands after a sign.
+// Reads the operand of a sign.
 #[cycle(reading)]
 fn prefixed<'a>(
     alloc: Global,
@@ -145,7 +145,7 @@ fn prefixed<'a>(
     Ok((Expr::Unary(op, Box::new(alloc, operand)?), rest))
 }
 
-// The same in a function of its own, so that the place of its result is cleared only where it is called.
+// Calls `prefixed`, as a function of its own, so that the slot of the result is cleared only if there is a sign.
 #[cycle(reading)]
 #[inline(always)]
 fn signed<'a>(
@@ -183,7 +183,7 @@ fn operand<'a>(
     }
 }
 
-/// The operand at the front that nests so deep at most, and what is after it.
+/// Reads the operand at the front, nested at most `context.left` deep: its tree, and the rest.
 #[cycle(reading)]
 #[inline(always)]
 pub(crate) fn atom<'a>(

@@ -1,4 +1,4 @@
-// Why nothing was read, and where.
+// Why a text was refused, and where.
 
 ghost use Rattle.std.specs.Prelude.{◌≡◌};
 ghost use Rattle.mlk_text.specs.Failures.{IsRefused, IsLike};
@@ -14,12 +14,12 @@ use mlk_text::{Failure, LeftOut};
 /// What is wrong.
 #[derive(Drop, Debug)]
 pub enum Wrong {
-    /// this byte can't stand here
+    /// a byte that is not allowed here
     Form,
     LeftOut(LeftOut),
     Deep,
     NameLong,
-    /// a name by reference where values alone may be passed
+    /// a name by reference where only values may be passed
     Lent,
 }
 
@@ -30,7 +30,7 @@ pub struct Offence {
     pub left: usize,
 }
 
-/// A fault where these bytes begin.
+/// A refusal at the first of `bytes`.
 pub(crate) fn refused(wrong: Wrong, bytes: &[u8]) -> Failure<Offence>
     ensures { IsRefused result }
 {
@@ -46,7 +46,7 @@ fn leaves_out(what: LeftOut, bytes: &[u8]) -> Failure<Offence>
     refused(Wrong::LeftOut(what), bytes)
 }
 
-/// Why no name stands here: it is too long, or there is none.
+/// Why there is no name here: it is too long, or no name begins.
 pub(crate) fn no_name(bytes: &[u8]) -> Failure<Offence>
     ensures { IsRefused result }
 {
@@ -59,7 +59,7 @@ pub(crate) fn no_name(bytes: &[u8]) -> Failure<Offence>
     }
 }
 
-// What is after a sign, where one stands.
+// The bytes after a sign, or all of them if there is no sign.
 fn after_sign(bytes: &[u8]) -> &[u8] {
     match bytes.split_first() {
         Some((first, after)) if *first == b'+' || *first == b'-' => after,
@@ -67,7 +67,7 @@ fn after_sign(bytes: &[u8]) -> &[u8] {
     }
 }
 
-/// Why no number stands here, at the byte that should be a digit.
+/// Why there is no number here, at the byte that should be a digit.
 #[inline(always)]
 pub(crate) fn no_number(bytes: &[u8]) -> Failure<Offence>
     ensures { IsRefused result }
@@ -82,7 +82,7 @@ pub(crate) fn no_number(bytes: &[u8]) -> Failure<Offence>
     refused(Wrong::Form, after)
 }
 
-/// Why an expression neither goes on nor ends here: after `'` a relation is asked for.
+/// Why an expression neither continues nor ends here: after `'` a relation is expected.
 pub(crate) fn no_end(bytes: &[u8]) -> Failure<Offence>
     ensures { IsRefused result }
 {
@@ -103,8 +103,8 @@ fn begins_name(bytes: &[u8]) -> bool {
     }
 }
 
-/// Why no actual stands here, where an expression is refused so: after a point stands neither a name that is short enough
-/// nor a digit. Where a name may not be passed by reference, the point is what is wrong before one of any length.
+/// Why there is no actual here, if reading it as an expression was refused: after a point there is neither a digit nor a name
+/// that is short enough. If names may not be passed by reference, the point before a name of any length is refused instead.
 pub(crate) fn no_actual(
     passing: Passing,
     refusal: Failure<Offence>,
@@ -126,7 +126,7 @@ pub(crate) fn no_actual(
     }
 }
 
-/// Why arguments of which the first is a name neither go on nor end after these.
+/// Why a list of arguments that begins with a name neither continues nor ends after `args`.
 pub(crate) fn no_arguments_end(args: &[Expr], bytes: &[u8]) -> Failure<Offence>
     ensures { IsRefused result }
 {
@@ -136,7 +136,7 @@ pub(crate) fn no_arguments_end(args: &[Expr], bytes: &[u8]) -> Failure<Offence>
     no_end(bytes)
 }
 
-/// Why actuals neither go on nor end after these.
+/// Why an actual list neither continues nor ends after `given`.
 pub(crate) fn no_actuals_end(given: &[Actual], bytes: &[u8]) -> Failure<Offence>
     ensures { IsRefused result }
 {
@@ -146,7 +146,7 @@ pub(crate) fn no_actuals_end(given: &[Actual], bytes: &[u8]) -> Failure<Offence>
     }
 }
 
-/// Why no global stands here, after its caret, at which the whole begins.
+/// Why there is no global here, after its caret, at which `whole` begins.
 pub(crate) fn no_global(allows: Allows, whole: &[u8], after: &[u8]) -> Failure<Offence>
     ensures { IsRefused result }
 {
@@ -160,14 +160,14 @@ pub(crate) fn no_global(allows: Allows, whole: &[u8], after: &[u8]) -> Failure<O
     }
 }
 
-/// A call where none may stand, from its `$$`.
+/// The refusal of a call where calls are not allowed, at its `$$`.
 pub(crate) fn no_call(whole: &[u8]) -> Failure<Offence>
     ensures { IsRefused result }
 {
     leaves_out(LeftOut::Order, whole)
 }
 
-/// Why no label stands here.
+/// Why there is no label here.
 pub(crate) fn no_label(bytes: &[u8]) -> Failure<Offence>
     ensures { IsRefused result }
 {
@@ -177,7 +177,7 @@ pub(crate) fn no_label(bytes: &[u8]) -> Failure<Offence>
     }
 }
 
-/// Why no name of a routine stands here, after its caret, at which the whole begins.
+/// Why there is no routine's name here, after its caret, at which `whole` begins.
 pub(crate) fn no_routine(whole: &[u8], after: &[u8]) -> Failure<Offence>
     ensures { IsRefused result }
 {
@@ -187,7 +187,7 @@ pub(crate) fn no_routine(whole: &[u8], after: &[u8]) -> Failure<Offence>
     }
 }
 
-/// Why no function and no special variable stands here, after its `$`.
+/// Why there is no function and no special variable here, after its `$`.
 pub(crate) fn no_word(bytes: &[u8], after: &[u8]) -> Failure<Offence>
     ensures { IsRefused result }
 {
@@ -204,7 +204,7 @@ pub(crate) fn no_word(bytes: &[u8], after: &[u8]) -> Failure<Offence>
     }
 }
 
-/// Why no function of this word stands here, from its `$`.
+/// Why there is no function `word` here, from its `$` on.
 pub(crate) fn no_function(bytes: &[u8], word: &[u8]) -> Failure<Offence>
     ensures { IsRefused result }
 {
@@ -224,7 +224,7 @@ pub(crate) fn no_operand(bytes: &[u8]) -> Failure<Offence>
     }
 }
 
-/// Why a pattern here would be too deep; that it begins with no count comes before that.
+/// Why a pattern is nested too deep here; a missing count is refused first.
 pub(crate) fn too_deep_pattern(bytes: &[u8]) -> Failure<Offence>
     ensures { IsRefused result }
 {
@@ -234,7 +234,7 @@ pub(crate) fn too_deep_pattern(bytes: &[u8]) -> Failure<Offence>
     }
 }
 
-// Whether what stands after a `$` is refused at the `$`, however deep it lies.
+// Whether the text after a `$` is refused at the `$`, at any depth.
 fn is_left_out(after: &[u8]) -> bool {
     let (word, rest) = word_at(after);
     if word.is_empty() {
@@ -246,7 +246,7 @@ fn is_left_out(after: &[u8]) -> bool {
     }
 }
 
-/// Why an operand here would be too deep; another fault of its first byte comes before that.
+/// Why an operand is nested too deep here; another fault of its first byte is refused first.
 #[inline(always)]
 pub(crate) fn too_deep(allows: Allows, bytes: &[u8]) -> Failure<Offence>
     ensures { IsRefused result }

@@ -1,4 +1,4 @@
--- The smallest parts of expressions, each as long as it goes.
+-- The smallest parts of expressions, each as long as possible.
 use Rattle.std.specs.Prelude.{ℕ, suc, ◌+◌, ◌-◌, ◌==◌, ◌&&◌, ◌||◌, if◌then◌else◌, Bool, true, false, List, [], ◌∷◌}
 use Rattle.std.specs.Prelude.{length, Option, Some, None, take, drop}
 use Rattle.std.specs.List.{prefix_len}
@@ -14,7 +14,7 @@ use Rattle.mlk_text.specs.declared.operator.UnaryOp.TheVariants as unary
 use Rattle.mlk_expr_tokens.specs.declared.lexeme.Kind.{Kind}
 use Rattle.mlk_expr_tokens.specs.declared.lexeme.Kind.TheVariants as kind
 
--- the column where xs begins, in a line whose end has this column
+-- the column where xs begins, in a line whose end has the column `end`
 abbrev pub column_of : ℕ → List ℕ → ℕ
 column_of end xs = column_at (end - length xs)
 
@@ -43,12 +43,12 @@ relation_of b =
     else if b == 63 then Some relation.Matches
     else None
 
--- what a byte stands for, with what is after it
+-- what a byte spells, with the rest
 abbrev pub one_byte : {A : Type 0} → Option A → List ℕ → Option (A × List ℕ)
 one_byte None xs = None
 one_byte (Some a) xs = Some (a, xs)
 
--- the same byte twice stands for something else
+-- a byte that spells something else if it is doubled
 abbrev pub twice_or : {A : Type 0} → A → Option (ℕ × List ℕ) → Option (A × List ℕ) → Option (A × List ℕ)
 twice_or two None one = one
 twice_or two (Some second) one = Some (two, second.1)
@@ -65,7 +65,7 @@ arithmetic_at [] = None
 arithmetic_at (b ∷ xs) = if b == 42 then twice_or op.Power (byte_at 42 xs) (Some (op.Multiply, xs))
     else one_byte (arithmetic_of b) xs
 
--- the longest operator at the front: a relation may stand after `'`
+-- the longest operator at the front: `'` may precede a relation
 abbrev pub op_by : List ℕ → Option (ℕ × List ℕ) → Option (Op × List ℕ)
 op_by xs None = or_else (with op.Is (relation_at xs)) (arithmetic_at xs)
 op_by xs (Some quote) = with op.IsNot (relation_at quote.1)
@@ -73,7 +73,7 @@ op_by xs (Some quote) = with op.IsNot (relation_at quote.1)
 unfoldable pub op_at : List ℕ → Option (Op × List ℕ)
 op_at xs = op_by xs (byte_at 39 xs)
 
--- the right side of these is a pattern
+-- the right operand of these is a pattern
 abbrev pub is_match : Op → Bool
 is_match (op.Is relation.Matches) = true
 is_match (op.IsNot relation.Matches) = true
@@ -87,7 +87,7 @@ unary_of b =
     else if b == 39 then Some unary.Not
     else None
 
--- what a byte begins
+-- what a byte may begin
 abbrev pub kind_by : ℕ → Option UnaryOp → Kind
 kind_by b (Some op) = kind.Prefix op
 kind_by b None =
@@ -103,13 +103,13 @@ kind_of b =
     else if is_letter b || (b == 37) then kind.Letter
     else kind_by b (unary_of b)
 
--- the length of digits with a point among, before or after them: 0 where no digit stands
+-- the length of digits with a point among, before or after them: 0 if there is no digit
 abbrev pub point_len : ℕ → List ℕ → ℕ
 point_len whole [] = whole
 point_len whole (b ∷ xs) = if b == 46 then (if (whole == 0) && (digits xs == 0) then 0 else whole + suc (digits xs))
     else whole
 
--- the length of `E`, an optional sign and digits: 0 where it stands not whole. Standard: numeric literals, exponent
+-- the length of `E`, an optional sign and digits: 0 if it is not complete. Standard: numeric literals, exponent
 abbrev pub signed_len : List ℕ → ℕ
 signed_len [] = 0
 signed_len (b ∷ xs) = if (b == 43) || (b == 45) then (if digits xs == 0 then 0 else suc (digits xs))
@@ -119,12 +119,12 @@ abbrev pub exponent_len : List ℕ → ℕ
 exponent_len [] = 0
 exponent_len (b ∷ xs) = if b == 69 then (if signed_len xs == 0 then 0 else suc (signed_len xs)) else 0
 
--- whether an `E` stands here that no exponent follows
+-- whether there is an `E` here without an exponent after it
 abbrev pub lacks_exponent : List ℕ → Bool
 lacks_exponent [] = false
 lacks_exponent (b ∷ xs) = (b == 69) && (signed_len xs == 0)
 
--- A numeric literal as it is written; with an `E` after it that has no digits it is none. Standard: numeric literals.
+-- A numeric literal, as written; it is none if an `E` without digits follows. Standard: numeric literals.
 unfoldable pub mantissa_len : List ℕ → ℕ
 mantissa_len xs = point_len (digits xs) (drop (digits xs) xs)
 
@@ -165,12 +165,12 @@ lent_by (Some p) = name_at p.1
 unfoldable pub lent_at : List ℕ → Option (List ℕ × List ℕ)
 lent_at xs = lent_by (byte_at 46 xs)
 
--- whether a name stands here, or a global's: a letter, `%` or `^`
+-- whether the name of a local or a global begins here: a letter, `%` or `^`
 abbrev pub starts_reference : List ℕ → Bool
 starts_reference [] = false
 starts_reference (b ∷ xs) = is_letter b || (b == 37) || (b == 94)
 
--- whether an actual is left out here
+-- whether an actual is missing here
 abbrev pub is_missing : List ℕ → Bool
 is_missing [] = false
 is_missing (b ∷ xs) = (b == 44) || (b == 41)

@@ -35,7 +35,7 @@ special_from_quit w =
 unfoldable pub special_of : List ℕ → Option Special
 special_of w = or_else (special_to_principal w) (special_from_quit w)
 
--- functions but `$SELECT`, in three tables
+-- functions other than `$SELECT`, in three tables
 unfoldable pub function_to_fnumber : List ℕ → Option Function
 function_to_fnumber w =
     if is_either (codes "A") (codes "ASCII") w then Some function.Ascii

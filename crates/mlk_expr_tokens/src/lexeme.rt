@@ -1,4 +1,4 @@
-// The smallest parts of expressions: operators, counts and codes of patterns, and what a byte begins.
+// The smallest parts of expressions: operators, the counts and codes of patterns, and what a byte may begin.
 
 ghost use Rattle.std.specs.Prelude.{◌≡◌, ◌≤◌, length, option_map, None, false};
 ghost use Rattle.mlk_expr_tokens.specs.Lexemes.{column_of, arithmetic_of, relation_of, relation_at, arithmetic_at, op_at};
@@ -8,7 +8,7 @@ ghost use Rattle.mlk_expr_tokens.specs.Lexemes.{pattern_codes_at, starts_referen
 use mlk_text::lexeme::{byte_of, digits, is_digit, is_letter};
 use mlk_text::{Column, Op, Relation, UnaryOp};
 
-/// What a byte begins.
+/// What a byte may begin.
 #[derive(Clone, Copy, Debug, Drop, PartialEq, Eq)]
 pub enum Kind {
     Numeral,
@@ -21,7 +21,7 @@ pub enum Kind {
     Other,
 }
 
-/// The column where these bytes begin, in a line whose end has this column.
+/// The column where `bytes` begin, in a line whose end has the column `end`.
 pub fn column_of(end: usize, bytes: &[u8]) -> Column
     ensures { result ≡ column_of end bytes.now }
 {
@@ -62,7 +62,7 @@ fn relation_of(b: u8) -> Option<Relation>
     }
 }
 
-// The relation at the front, and what is after it.
+// Reads the relation at the front: the relation, and the rest. `None` if there is none.
 #[tactic(auto, unfolding(crate::specs::Lexemes::relation_at))]
 #[inline(always)]
 fn relation_at(bytes: &[u8]) -> Option<(Relation, &[u8])>
@@ -98,7 +98,7 @@ fn arithmetic_at(bytes: &[u8]) -> Option<(Op, &[u8])>
     Some((op, rest))
 }
 
-/// The longest operator at the front, and what is after it.
+/// Reads the longest operator at the front: the operator, and the rest. `None` if there is none.
 #[tactic(auto, unfolding(crate::specs::Lexemes::op_at))]
 pub fn op_at(bytes: &[u8]) -> Option<(Op, &[u8])>
     ensures { option_map (λ x. (x.0, x.1.now)) result ≡ op_at bytes.now }
@@ -115,7 +115,7 @@ pub fn op_at(bytes: &[u8]) -> Option<(Op, &[u8])>
     }
 }
 
-/// Whether an operator may stand at the front: not at the end of a text, nor before a byte that stands after most operands.
+/// Whether an operator may begin here: `false` at the end of a text and before a byte that usually follows an operand.
 #[tactic(auto, unfolding(crate::specs::Lexemes::op_at, crate::specs::Lexemes::relation_at, crate::specs::Lexemes::arithmetic_at, crate::specs::Lexemes::relation_of, crate::specs::Lexemes::arithmetic_of))]
 #[inline(always)]
 pub fn may_go_on(bytes: &[u8]) -> bool
@@ -132,7 +132,7 @@ pub fn may_go_on(bytes: &[u8]) -> bool
     }
 }
 
-/// Whether the right side of an operator is a pattern.
+/// Whether the right operand of `op` is a pattern.
 pub fn is_match(op: Op) -> bool
     ensures { result ≡ is_match op }
 {
@@ -143,7 +143,7 @@ pub fn is_match(op: Op) -> bool
     }
 }
 
-/// The operator of one operand that this byte is.
+/// The unary operator that `b` spells, or `None`.
 #[tactic(auto, unfolding(crate::specs::Lexemes::unary_of))]
 pub fn unary_of(b: u8) -> Option<UnaryOp>
     ensures { result ≡ unary_of b }
@@ -156,7 +156,7 @@ pub fn unary_of(b: u8) -> Option<UnaryOp>
     }
 }
 
-/// What this byte begins.
+/// What `b` begins.
 #[tactic(auto, unfolding(crate::specs::Lexemes::kind_of))]
 #[inline(always)]
 pub fn kind_of(b: u8) -> Kind
@@ -180,7 +180,7 @@ pub fn kind_of(b: u8) -> Kind
     }
 }
 
-/// The count of a pattern atom, and what is after it.
+/// Reads the count of a pattern atom: its text, and the rest. `None` if there is none.
 #[tactic(auto, unfolding(crate::specs::Lexemes::count_at))]
 pub fn count_at(bytes: &[u8]) -> Option<(&[u8], &[u8])>
     ensures { option_map (λ x. (x.0.now, x.1.now)) result ≡ count_at bytes.now }
@@ -210,7 +210,7 @@ fn pattern_codes(bytes: &[u8]) -> usize
     bytes.iter().take_while(|b| is_pattern_code(**b)).count()
 }
 
-/// The pattern codes at the front, and what is after them.
+/// Reads the pattern codes at the front: their text, and the rest. `None` if there are none.
 #[tactic(auto, unfolding(crate::specs::Lexemes::pattern_codes_at))]
 pub fn pattern_codes_at(bytes: &[u8]) -> Option<(&[u8], &[u8])>
     ensures { option_map (λ x. (x.0.now, x.1.now)) result ≡ pattern_codes_at bytes.now }
@@ -223,7 +223,7 @@ pub fn pattern_codes_at(bytes: &[u8]) -> Option<(&[u8], &[u8])>
     }
 }
 
-/// Whether a local's or a global's name stands here.
+/// Whether the name of a local or a global begins here.
 pub fn starts_reference(bytes: &[u8]) -> bool
     ensures { result ≡ starts_reference bytes.now }
 {
@@ -233,7 +233,7 @@ pub fn starts_reference(bytes: &[u8]) -> bool
     }
 }
 
-/// Whether an actual is left out here.
+/// Whether an actual is missing here.
 pub fn is_missing(bytes: &[u8]) -> bool
     ensures { result ≡ is_missing bytes.now }
 {

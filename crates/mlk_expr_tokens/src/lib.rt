@@ -1,4 +1,4 @@
-//! The smallest parts of M's expressions: operators, numeric literals, what patterns count and name, and words after `$`.
+//! The smallest parts of M's expressions: operators, numeric literals, the counts and codes of patterns, and words after `$`.
 #![tactic(auto)]
 
 pub mod lexeme;

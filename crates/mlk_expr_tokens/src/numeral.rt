@@ -1,11 +1,11 @@
-// Numeric literals as they are written.
+// Numeric literals, as written.
 
 ghost use Rattle.std.specs.Prelude.{◌≡◌, ◌≤◌, length, option_map};
 ghost use Rattle.mlk_expr_tokens.specs.Lexemes.{signed_len, exponent_len, mantissa_len, lacks_exponent, numeral_at};
 
 use mlk_text::lexeme::digits;
 
-/// How many bytes of a numeric literal stand before its exponent: 0 where no digit does.
+/// The length of the numeric literal at the front without its exponent: 0 if it has no digit.
 #[tactic(auto, unfolding(crate::specs::Lexemes::mantissa_len))]
 pub fn mantissa_len(bytes: &[u8]) -> usize
     ensures value { result ≡ mantissa_len bytes.now }
@@ -54,7 +54,7 @@ fn exponent_len(bytes: &[u8]) -> usize
     if n == 0 { 0 } else { n + 1 }
 }
 
-// Whether an `E` stands here that no exponent follows.
+// Whether there is an `E` here without an exponent after it.
 fn lacks_exponent(bytes: &[u8]) -> bool
     ensures { result ≡ lacks_exponent bytes.now }
 {
@@ -64,7 +64,7 @@ fn lacks_exponent(bytes: &[u8]) -> bool
     }
 }
 
-/// The numeric literal at the front, as it is written, and what is after it.
+/// Reads the numeric literal at the front: its text, and the rest. `None` if there is none.
 #[tactic(auto, unfolding(crate::specs::Lexemes::numeral_at))]
 #[inline(always)]
 pub fn numeral_at(bytes: &[u8]) -> Option<(&[u8], &[u8])>

@@ -7,7 +7,7 @@ ghost use Rattle.mlk_expr_tokens.specs.Words.{function_of, is_select};
 
 use mlk_syntax::{Function, Special};
 
-/// Whether a word is this one, short or whole, in either case.
+/// Whether `word` is `short` or `whole`, in either case.
 #[inline(always)]
 pub fn is_either(short: &[u8], whole: &[u8], word: &[u8]) -> bool
     ensures { result ≡ is_either short.now whole.now word.now }
@@ -15,7 +15,7 @@ pub fn is_either(short: &[u8], whole: &[u8], word: &[u8]) -> bool
     word.eq_ignore_ascii_case(short) || word.eq_ignore_ascii_case(whole)
 }
 
-// What the word stands for, where it is this one, short or whole.
+// `found`, if `word` is `short` or `whole`.
 fn if_either<T: Drop>(found: T, short: &[u8], whole: &[u8], word: &[u8]) -> Option<T>
     ensures { result ≡ (if is_either short.now whole.now word.now then Some found else None) }
 {
@@ -62,7 +62,7 @@ fn special_from_quit(word: &[u8]) -> Option<Special>
     }
 }
 
-/// The special variable of a word.
+/// The special variable that `word` names, or `None`.
 #[tactic(auto, unfolding(crate::specs::Words::special_of))]
 pub fn special_of(word: &[u8]) -> Option<Special>
     ensures { result ≡ special_of word.now }
@@ -127,7 +127,7 @@ fn function_from_qlength(word: &[u8]) -> Option<Function>
     }
 }
 
-/// The function of a word; `$SELECT` is none of these.
+/// The function that `word` names, or `None`; `$SELECT` is not one of them.
 #[tactic(auto, unfolding(crate::specs::Words::function_of))]
 pub fn function_of(word: &[u8]) -> Option<Function>
     ensures { result ≡ function_of word.now }
@@ -141,7 +141,7 @@ pub fn function_of(word: &[u8]) -> Option<Function>
     }
 }
 
-/// Whether this is the word of `$SELECT`.
+/// Whether `word` is that of `$SELECT`.
 #[tactic(auto, unfolding(crate::specs::Words::is_select))]
 pub fn is_select(word: &[u8]) -> bool
     ensures { result ≡ is_select word.now }

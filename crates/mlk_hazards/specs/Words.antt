@@ -1,4 +1,4 @@
--- The words by which hazards are told. This project's own choice.
+-- The words in which hazards are printed. This project's own choice.
 use Rattle.std.specs.Prelude.{ℕ, List, codes}
 use Rattle.mlk_hazards.specs.declared.hazard.Hazard.{Hazard}
 use Rattle.mlk_hazards.specs.declared.hazard.Hazard.TheVariants as hazard

@@ -6,7 +6,7 @@ use mlk_syntax::{Line, Routine};
 use mlk_text::push_sparing;
 use std::alloc::AllocError;
 
-// The last line of a line's block, at whatever level; the line itself, where it has none.
+// The last line of a line's block, at any level; the line itself, if it has none.
 fn last_line(head: &Line) -> &Line {
     match head.block.last() {
         None => head,
@@ -14,7 +14,7 @@ fn last_line(head: &Line) -> &Line {
     }
 }
 
-// Adds the hazard of a line and the one after it.
+// Adds the hazard of a line and the next one, if there is one.
 fn add_block<'a>(
     hazards: &mut Vec<HazardAt<'a>>,
     routine: &'a [u8],

@@ -1,18 +1,18 @@
-// Places where a system may differ from the model that a `yes` speaks of.
+// Places where a real system may differ from the model that a `yes` is about.
 
 ghost use Rattle.std.specs.Prelude.{◌≡◌};
 ghost use Rattle.mlk_hazards.specs.Words.{hazard_word};
 
 use mlk_survey_trees::Position;
 
-/// Why a place is one where a system may differ.
+/// Why a real system may differ at a place.
 #[derive(Clone, Copy, Drop, PartialEq, Eq)]
 pub enum Hazard {
     /// an extrinsic call right of `&`, `!`, `'&` or `'!`: it may not run
     SkippedCall,
     /// two names of a LOCK argument without sign that may be one name: it may be counted once
     PerhapsOneName,
-    /// a name that stands twice in one LOCK argument
+    /// a name that occurs twice in one LOCK argument
     RepeatedName,
     /// a block that ends directly before a line with a formal list: its end may be an error
     BlockBeforeFormals,
@@ -37,7 +37,7 @@ impl Hazard {
         }
     }
 
-    /// What to do.
+    /// What can be done about it.
     pub fn advice(self) -> &'static str {
         match self {
             Hazard::SkippedCall => {
@@ -52,7 +52,7 @@ impl Hazard {
     }
 }
 
-/// A place where a system may differ, and why.
+/// A place where a real system may differ, and why.
 #[derive(Clone, Copy, Drop)]
 pub struct HazardAt<'a> {
     pub position: Position<'a>,

@@ -1,4 +1,4 @@
-//! Places in routines where a real system may differ from the model that a `yes` speaks of.
+//! Places in routines where a real system may differ from the model that a `yes` is about.
 #![tactic(auto)]
 
 mod block;

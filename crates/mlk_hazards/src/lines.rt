@@ -6,10 +6,10 @@ use mlk_syntax::{Line, Routine};
 use mlk_text::{Column, LineNumber, push_sparing};
 use std::alloc::{AllocError, Global};
 
-/// How many bytes of a line GT.M reads.
+/// The number of bytes of a line that GT.M reads.
 const LONGEST_LINE: u32 = 8192;
 
-/// How many characters of a label GT.M reads.
+/// The number of characters of a label that GT.M reads.
 const LONGEST_LABEL: usize = 31;
 
 // Adds a hazard of `routine`.
@@ -44,21 +44,21 @@ pub(crate) fn add_long_lines<'a>(
     Ok(())
 }
 
-// What a system reads of a line's label, if that may be less than the label.
+// The part of a line's label that a system reads, if that may be less than the label.
 fn cut_label(line: &Line) -> Option<&[u8]> {
     let label = line.label.as_ref()?.as_bytes();
     let (read, _) = label.split_at_checked(LONGEST_LABEL)?;
     Some(read)
 }
 
-// The line of the label at `place`, counted from 0, if the one before it is read as the same.
+// The line of the label at `place`, if the label before it is read as the same.
 fn line_alike(labels: &[(&[u8], LineNumber)], place: usize) -> Option<LineNumber> {
     let (label, line) = labels.get(place)?;
     let (before, _) = labels.get(place.checked_sub(1)?)?;
     if label == before { Some(*line) } else { None }
 }
 
-/// Adds the labels of `routine` that are one with an earlier label in their first `LONGEST_LABEL` characters.
+/// Adds the labels of `routine` whose first `LONGEST_LABEL` characters are those of an earlier label.
 pub(crate) fn add_labels_alike<'a>(
     alloc: Global,
     hazards: &mut Vec<HazardAt<'a>>,

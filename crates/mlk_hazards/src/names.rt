@@ -6,8 +6,8 @@ use mlk_syntax::{LockArgument, Sign, Variable};
 use mlk_text::{Column, push_sparing};
 use std::alloc::AllocError;
 
-// How many names of an argument are compared with each other: a case can't list more than 16 locks, so if more names than
-// that can be claimed at once, one stands twice among the first 17.
+// The maximum number of names of an argument that are compared: a case can't list more than 16 locks, so if more names than
+// that can be claimed at once, one of them occurs twice among the first 17.
 const MOST_COMPARED: usize = 17;
 
 // The names that are compared.
@@ -17,7 +17,7 @@ fn compared(argument: &LockArgument) -> &[Variable] {
     first
 }
 
-// The first name that is so like one before it, by its column.
+// The column of the first name that compares as `wanted` with one before it, or `None`.
 fn first_like(argument: &LockArgument, wanted: Likeness) -> Option<Column> {
     let mut left = compared(argument);
     while let Some((name, rest)) = left.split_first() {
@@ -29,7 +29,7 @@ fn first_like(argument: &LockArgument, wanted: Likeness) -> Option<Column> {
     None
 }
 
-// Adds a hazard, where the argument has two names that are so like each other.
+// Adds a hazard if two names of the argument compare as `wanted`.
 fn add_like<'a>(
     hazards: &mut Vec<HazardAt<'a>>,
     mention: &MentionAt<'a>,

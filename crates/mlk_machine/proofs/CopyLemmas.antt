@@ -15,7 +15,7 @@ use Rattle.mlk_machine_jobs.specs.JobViews.{frame_of, pending_of, tasks_of, job_
 use Rattle.mlk_machine_jobs.specs.Sound.{IsWithin, AreNested, Stands, Sound}
 use Rattle.mlk_machine.specs.Copies.{Shown, ToDo, BlockEnd, FrameEnd, shown_of, values_in}
 
--- what the definition sees of what is pending rests on what is shown of it
+-- what the definition sees of pending items depends on what is shown of them
 abbrev by_shown : List Binder → Shown → Task
 by_shown binders (ToDo t) = t
 by_shown binders (BlockEnd back test) = task.EndBlock (bindings_of (take back.binders binders)) back.next test
@@ -87,7 +87,7 @@ same_values ts us h i c =
 same_count : (ts us : List CellTable) → map values_in us ≡ map values_in ts → length us ≡ length ts
 same_count ts us h = sym (length-map us values_in) ∙ ap length h ∙ length-map ts values_in
 
--- A copy is the same job, and as sound.
+-- A copy is the same job, and just as sound.
 pub same_job : (j k : JobIn) → k.number ≡ j.number → k.test ≡ j.test → k.routine ≡ j.routine
     → k.binders.items ≡ j.binders.items → map values_in k.tables.items ≡ map values_in j.tables.items → k.values ≡ j.values
     → k.held ≡ j.held → map shown_of k.pending.items ≡ map shown_of j.pending.items → k.stopped ≡ j.stopped

@@ -44,7 +44,7 @@ was_read : (routines : List RoutineTree) (xs ys : List ℕ) (a : Asked) → aske
 unfolding asked_at
 was_read routines xs ys a h = read_by routines (line_at xs) xs ys a refl h
 
--- what a line asks for, by what was read
+-- what a line requests, from what was read
 pub asks : (routines : List RoutineTree) (xs rest : List ℕ) (o : Order) (a : Asked) → line_at xs ≡ Some (o, rest)
     → Some a ≡ asked routines o → asked_at routines xs ≡ Some (a, rest)
 unfolding asked_at

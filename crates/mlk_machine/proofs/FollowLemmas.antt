@@ -22,7 +22,7 @@ use Rattle.mlk_machine.specs.declared.instruction.Instruction.{Instruction}
 use Rattle.mlk_machine.specs.InstructionViews.{asked_of}
 use Rattle.mlk_machine.specs.Files.{Asked, GoesOn, SaysEvents, IsFirstOther, made, then_next, in_turn, StopsSo, FollowedSo, IsRefusedAt, IsStopped, ReplayedFile}
 
--- What is left says what the whole says, where the first of it has this number.
+-- The rest has the result of the whole, if its first line has this number.
 pub record Half (first now : Running) (all left : List Asked) (line : ℕ) : Type 0 where
   pub same : IsSame first now
   pub at : ℕ
@@ -76,7 +76,7 @@ pub none_left : (lines : List Instruction) → length lines ≡ 0 → map asked_
 none_left [] h = refl
 none_left (x ∷ lines) h = absurd (omega (arith, h))
 
--- a job that goes on by itself
+-- a job that runs by itself
 pub goes_on : (m : Machine Job Choice EntryId) (routines : List RoutineTree) (k count : ℕ) (old new : List Job)
     → settled_in routines k old ≡ Ok (new, count) → made m routines (GoesOn k) old ≡ Ok new
 goes_on m routines k count old new h = ap (and_then (λ r. Ok r.0)) h

@@ -1,4 +1,4 @@
--- What a line leaves.
+-- The length of what follows a line.
 use Rattle.std.proofs.Common.{◌≡◌, ◌<◌, ◌≤◌, ℕ, List, [], ◌∷◌, ◌++◌, length, Some, ap, arith, length-append}
 use Rattle.mlk_cert_lexemes.specs.Texts.{constant_text}
 use Rattle.mlk_cert_lexemes.specs.Reading.{constant_at}

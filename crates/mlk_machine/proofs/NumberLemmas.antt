@@ -1,4 +1,4 @@
--- The first job of a number, by its place.
+-- The first job of a number, by its index.
 use Rattle.std.proofs.Common.{◌≡◌, ◌∙◌, ◌<◌, ◌==◌, ◌||◌, subst, IfSome, length, ℕ, suc, Bool, List, [], ◌∷◌, map, get_or, Option, Some, None, Result, Ok, Err, refl, sym, ap, inl, inr, arith}
 use Rattle.std.specs.Prelude.{slice_set, position, option_map}
 use Rattle.std.proofs.lemmas.Bool.{cases_Bool}
@@ -115,7 +115,7 @@ module _ (k : ℕ) (js : List JobIn) (o : Option ℕ) (is : IsPlaceOf k js o) wh
       one_settled k routines (map job_of js) i (job_of j) (job_of h) n (sym is.first ∙ p) (job_at js i j e) r
       ∙ ap (λ (is : List Job). Ok (is, n)) (jobs_set js i h)
 
--- The place of a number among numbers.
+-- The index of a number among numbers.
 turned : (a b : ℕ) → (a == b) ≡ (b == a)
 turned a b = grind arith
 
@@ -143,7 +143,7 @@ pub is_used : (ns : List ℕ) (k : ℕ) (b : Bool) → b ≡ list_any (λ n. k =
     → b ≡ is_numbered seen (map job_of js) k
 is_used ns k b e js a = e ∙ ap (list_any (λ n. k == n)) a ∙ used_among (map job_of js) k
 
--- What an event of one job does to the numbers.
+-- The effect of an event of one job on the numbers.
 module _ {J C E : Type 0} (m : Machine J C E) where
   abbrev all_numbers : List J → List ℕ
   all_numbers js = map (number m) js
@@ -195,7 +195,7 @@ module _ (routines : List RoutineTree) (declared : EntryId → Bool) (js is : Li
       joined_numbers (machine routines declared) k js is _
       (λ j e. (is_machine routines declared).begin_number entry test values k j e) h
 
--- a job keeps its number as it goes on by itself
+-- a job keeps its number while it runs by itself
 module _ (routines : List RoutineTree) where
   silent_number : (j i : Job) (s : State) → silent_step routines j s ≡ Ok i → i.number ≡ j.number
   silent_number j i Silent e = (is_machine routines (λ e. false)).go_number (λ n. true) choice.None j i e
@@ -234,7 +234,7 @@ pub where_ok : {A E : Type 0} {P : Type 0} (r : Result A E) → IsOk r → IfOk 
 where_ok (Ok a) o h = h
 where_ok (Err e) o h = cc
 
--- the number of a job that has begun stands after the others
+-- the number of a job that has begun comes after the others
 pub added_number : (routines : List RoutineTree) (declared : EntryId → Bool) (js is : List JobIn) (k : ℕ) (entry : EntryId)
     (test : Bool) (values : List (Option (List ℕ))) (old keys new : List ℕ) → AreNumbers old js → keys ≡ old
     → happens (machine routines declared) (map job_of js) k (Begin entry test values) ≡ Ok (map job_of is)

@@ -14,7 +14,7 @@ use Rattle.mlk_machine.specs.Systems.{jobs_in, machine_in, machine_of, IsSame}
 use Rattle.mlk_machine.specs.declared.replaying.Refused.{Refused as RefusedAt}
 use Rattle.mlk_machine.specs.Replays.{event_of, FailsAt, Replayed}
 
--- What is left says what the whole says, so many events later.
+-- The rest has the result of the whole, `past` events later.
 pub record Half (program : List Routine) (entries : List EntryId) (all left : List (Event Choice EntryId)) (past : ℕ)
     (s : Running) : Type 0 where
   pub program_is : s.program ≡ program

@@ -1,4 +1,4 @@
--- The ring of jobs of the code is that of the definition's.
+-- The code's ring of jobs is the definition's.
 use Rattle.std.proofs.Common.{◌≡◌, ◌∙◌, ℕ, zero, suc, Bool, List, [], ◌∷◌, length, map, filter, refl, sym, ap}
 use Rattle.std.specs.List.{list_any}
 use Rattle.std.proofs.lemmas.List.{length-map}
@@ -15,7 +15,7 @@ module _ {X Y : Type 0} (g : X → Y) (waits : Y → Y → Bool) where
   abbrev of_those : X → X → Bool
   of_those x y = waits (g x) (g y)
 
-  -- those that wait for one of them all
+  -- those that wait for one of all of them
   waiting_of_map : (xs : List X) → map g (filter (λ x. list_any (λ y. waits (g x) (g y)) xs) xs) ≡ waiting waits (map g xs)
   waiting_of_map xs = filter_of_map g (λ x. list_any (λ y. waits (g x) (g y)) xs) (λ y. list_any (waits y) (map g xs)) xs (λ x. sym (any_of_map g (waits (g x)) xs))
 

@@ -1,4 +1,4 @@
--- Each line of a file stands for events: what goes on by itself makes so many steps, whatever the other jobs hold.
+-- Each line of a file denotes events: a job that runs by itself makes a number of steps, whatever the other jobs hold.
 use Rattle.std.proofs.Common.{◌≡◌, ◌∙◌, ◌++◌, ◌==◌, ℕ, zero, suc, Bool, true, false, List, [], ◌∷◌, Result, Ok, Err, refl, sym, ap, inl, inr, append_assoc}
 use Rattle.std.specs.Prelude.{replicate}
 use Rattle.std.specs.List.{flat_map}
@@ -29,7 +29,7 @@ lack_more : (k : ℕ) (before : List Job) (j : Job) → Lack k before → (j.num
 lack_more k [] j l n = (n, tt)
 lack_more k (b ∷ before) j l n = (l.0, lack_more k before j l.1 n)
 
--- what is answered behind a job, and after a line
+-- the result after a job, and after a line
 same_answer : {A : Type 0} (a b : A) → ◌≡◌ {A = Result A Refusal} (Ok a) (Ok b) → a ≡ b
 same_answer a b h = cc
 

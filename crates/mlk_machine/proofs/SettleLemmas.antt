@@ -16,7 +16,7 @@ module _ (routines : List RoutineTree) where
   abbrev more : ℕ → Job → Job × ℕ
   more n i = settled routines n i
 
-  -- none were made yet
+  -- none was made yet
   pub none_made : (j : Job) → settled routines zero j ≡ (j, 0)
   unfolding settled
   none_made j = refl

@@ -1,5 +1,5 @@
--- What a copy of a job keeps: of a task what the definition sees of it, of an end all, of a table its values. It serves
--- clauses of calls that are not public. This project's own.
+-- What a copy of a job preserves: of a task what the definition sees of it, of an end everything, of a table its values. For
+-- clauses of private calls. This project's own.
 use Rattle.std.specs.Prelude.{ℕ, Bool, List, Option}
 use Rattle.mlk_machine_jobs.specs.declared.cell.CellTable.{CellTable}
 use Rattle.mlk_machine_jobs.specs.declared.pending.Back.{Back}

@@ -1,5 +1,5 @@
--- Reading the parts of a file of events, as functions on lists: what is read, and what is left after it. For private
--- clauses alone: what public calls promise is in `Texts` and `Files`, and proofs tie the two.
+-- Reading the parts of a file of events, as functions on lists: what is read, and the rest. For private clauses only: the
+-- contracts of public calls use `Texts` and `Files`, and proofs connect the two.
 use Rattle.std.specs.Prelude.{ℕ, suc, ◌==◌, Bool, true, false, if◌then◌else◌, List, [], ◌∷◌, length, Option, Some, None, codes}
 use Rattle.mlk_text.specs.Reading.{◌>>=◌, with, many}
 use Rattle.mlk_text.specs.Lexemes.{byte_at}
@@ -15,7 +15,7 @@ abbrev pub test_at : List ℕ → Option (Bool × List ℕ)
 test_at [] = None
 test_at (b ∷ xs) = if b == 48 then Some (false, xs) else if b == 49 then Some (true, xs) else None
 
--- what comes before the values of a job that begins
+-- the part of a `begin` line before the values
 unfoldable pub head_at : List ℕ → Option ((ℕ × List ℕ × Bool) × List ℕ)
 head_at xs =
     job_at xs >>= λ job.
@@ -32,7 +32,7 @@ begin_at xs =
     head_at xs >>= λ head.
     with (beginning_of head.0) (many (byte_at 32) (next constant_at) (suc (length head.1)) head.1)
 
--- what is chosen at a step, after its space
+-- the choice of a step, after its space
 abbrev pub no_by : ℕ → List ℕ → Option (List ℕ × List ℕ) → Option (Order × List ℕ)
 no_by job xs (Some word) = Some (GoTruth job false, word.1)
 no_by job xs None = with (GoValue job) (constant_at xs)
@@ -52,7 +52,7 @@ choice_by job xs None = Some (Go job, xs)
 unfoldable pub go_at : List ℕ → Option (Order × List ℕ)
 go_at xs = job_at xs >>= λ job. choice_by job.0 job.1 (byte_at 32 job.1)
 
--- what a line says, by its first word
+-- the order of a line, by its first word
 abbrev pub abort_by : Option (List ℕ × List ℕ) → Option (Order × List ℕ)
 abort_by (Some word) = with Abort (job_at word.1)
 abort_by None = None

@@ -1,5 +1,5 @@
--- What lines of a file of events say, and their texts, part joined to part: each has one text. This project's own format;
--- names are those of ISO/IEC 11756.
+-- The lines of a file of events, and their texts, as joined parts: each has one text. This project's own format; names are those
+-- of ISO/IEC 11756.
 use Rattle.std.specs.Prelude.{ℕ, ◌≤◌, Bool, true, false, List, [], ◌∷◌, ◌++◌, codes}
 use Rattle.std.specs.Fmt.{decimal}
 use Rattle.mlk_cert_lexemes.specs.Lists.{Each, flat, more}
@@ -9,7 +9,7 @@ use Rattle.mlk_machine.specs.declared.order.Beginning.{Beginning}
 use Rattle.mlk_machine.specs.declared.order.Order.{Order}
 use Rattle.mlk_machine.specs.declared.order.Order.TheVariants.{Begin, Go, GoValue, GoTruth, Run, Abort}
 
--- a job: its number, from 1 to this
+-- the number of a job, from 1 to this
 abbrev pub greatest_job : ℕ
 greatest_job = 4294967295
 
@@ -26,11 +26,11 @@ abbrev pub test_digit : Bool → ℕ
 test_digit true = 49
 test_digit false = 48
 
--- a job that begins: its number, its entry, `$TEST`, and values, with a space between them
+-- the begin of a job: its number, its entry, `$TEST`, and values, separated by spaces
 abbrev pub begin_text : Beginning → List ℕ
 begin_text b = decimal b.job ++ 32 ∷ (b.entry ++ 32 ∷ (test_digit b.test ∷ more 32 constant_text b.values))
 
--- what a line says
+-- the order of a line
 abbrev pub order_text : Order → List ℕ
 order_text (Begin b) = codes "begin " ++ begin_text b
 order_text (Go job) = codes "go " ++ decimal job
@@ -43,7 +43,7 @@ order_text (Abort job) = codes "abort " ++ decimal job
 abbrev pub line_text : Order → List ℕ
 line_text o = order_text o ++ 10 ∷ []
 
--- a file: line after line
+-- a file: its lines, one after another
 abbrev pub file_text : List Order → List ℕ
 file_text orders = flat line_text orders
 

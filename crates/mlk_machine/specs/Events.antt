@@ -1,4 +1,4 @@
--- The definition's events of the code's. This project's own.
+-- The definition's events, from those of the code. This project's own.
 use Rattle.std.specs.Prelude.{Some, map}
 use Rattle.mlk_machine_locks.specs.Systems as systems
 use Rattle.mlk_machine_locks.specs.Systems.{Act}

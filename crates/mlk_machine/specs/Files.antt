@@ -1,4 +1,4 @@
--- What is replayed of a file of events. This project's own.
+-- The replay of a file of events. This project's own.
 use Rattle.std.specs.Prelude.{◌≡◌, ◌≢◌, ℕ, suc, List, [], ◌∷◌, ◌++◌, length, map, min, Option, Some, option_map, Result, Ok, Err}
 use Rattle.mlk_text.specs.declared.failure.Failure.{Failure}
 use Rattle.mlk_text.specs.declared.failure.Failure.TheVariants.{OutOfMemory, Refused}
@@ -23,7 +23,7 @@ use Rattle.mlk_machine.specs.declared.fault.EventsFault.{EventsFault}
 use Rattle.mlk_machine.specs.declared.fault.EventsRefusal.{EventsRefusal}
 use Rattle.mlk_machine.specs.declared.fault.EventsRefusal.TheVariants as refusal
 
--- What a line asks for: that an event happens, or that a job runs by itself.
+-- The meaning of a line: an event happens, or a job runs by itself.
 pub data Asked : Type 0 where
   Happens : (event : Event Choice EntryId) → Asked
   GoesOn : (job : ℕ) → Asked
@@ -31,7 +31,7 @@ pub data Asked : Type 0 where
 abbrev pub goes : ℕ → Choice → Option Asked
 goes k c = Some (Happens (record { job = k; act = Go c }))
 
--- What it asks for of these routines: nothing, where a job is to begin at an entry that they don't have.
+-- The meaning of an order for these routines: none if a job is to begin at an entry that they don't have.
 abbrev pub asked : List RoutineTree → Order → Option Asked
 asked routines (order.Begin b) =
     option_map (λ e. Happens (record { job = b.job; act = Begin e b.test (map Some b.values) })) (entry_by routines b.entry)
@@ -44,14 +44,14 @@ asked routines (order.Abort k) = Some (Happens (record { job = k; act = Abort })
 abbrev pub AsksFor : List RoutineTree → Order → Asked → Type 0
 AsksFor routines o a = IsOrder o × (asked routines o ≡ Some a)
 
--- What the lines of a file ask for.
+-- The meanings of the lines of a file.
 pub record SaysEvents (routines : List RoutineTree) (bytes : List ℕ) (asks : List Asked) : Type 0 where
   pub orders : List Order
   pub whole : bytes ≡ file_text orders
   pub each : EachPair (AsksFor routines) orders asks
 
--- The first line that asks for nothing: before it are only lines that ask for something, their number is given, and no line
--- that does begins what is left.
+-- The first line without a meaning: before it are only lines with a meaning, their number is given, and no line with a meaning
+-- begins the rest.
 pub record IsFirstOther (routines : List RoutineTree) (bytes : List ℕ) (line : ℕ) : Type 0 where
   pub before : List Order
   pub asks : List Asked
@@ -62,12 +62,13 @@ pub record IsFirstOther (routines : List RoutineTree) (bytes : List ℕ) (line :
   pub other : (o : Order) (a : Asked) (later : List ℕ) → AsksFor routines o a → rest ≡ line_text o ++ later → ⊥
   pub number : line ≡ min (suc (length before)) 4294967295
 
--- What a line makes of the jobs.
+-- The effect of a line on the jobs.
 abbrev pub made : Machine Job Choice EntryId → List RoutineTree → Asked → List Job → Result (List Job) Refusal
 made m routines (Happens e) jobs = happens m jobs e.job e.act
 made m routines (GoesOn k) jobs = and_then (λ r. Ok r.0) (settled_in routines k jobs)
 
--- What lines in turn make of them, where the first has this number: or the number of the line that can't happen, and why.
+-- The effect of lines one after another, numbered from a given number on: the jobs, or the number of the line that can't happen,
+-- and why.
 abbrev pub then_next : (List Job → Result (List Job) (ℕ × Refusal)) → ℕ → Result (List Job) Refusal
     → Result (List Job) (ℕ × Refusal)
 then_next later line (Ok jobs) = later jobs
@@ -83,7 +84,7 @@ abbrev pub StopsSo : Result (List Job) (ℕ × Refusal) → ℕ → EventsRefusa
 StopsSo answer line refusal.Form = ⊥
 StopsSo answer line (refusal.Refused why) = (at : ℕ) × (answer ≡ Err (at, why)) × (line ≡ min at 4294967295)
 
--- what lines in turn leave of old jobs; want of memory says nothing
+-- the jobs after lines one after another; out of memory says nothing
 abbrev pub FollowedSo : Machine Job Choice EntryId → List RoutineTree → List Asked → List Job → List Job
     → Result (Unit {0}) (Failure EventsFault) → Type 0
 FollowedSo m routines asks old new (Ok done) = in_turn m routines 1 asks old ≡ Ok new
@@ -94,14 +95,14 @@ abbrev pub IsRefusedAt : List RoutineTree → List ℕ → Failure EventsFault �
 IsRefusedAt routines bytes OutOfMemory = Unit {0}
 IsRefusedAt routines bytes (Refused fault) = (fault.why ≡ refusal.Form) × IsFirstOther routines bytes fault.line
 
--- why a file isn't replayed: a line asks for nothing, or all ask for something and one can't happen
+-- why a file isn't replayed: a line has no meaning, or all have one and one can't happen
 abbrev pub IsStopped : List Routine → List EntryId → List ℕ → ℕ → EventsRefusal → Type 0
 IsStopped program entries bytes line refusal.Form = IsFirstOther (map routine_of program) bytes line
 IsStopped program entries bytes line (refusal.Refused why) =
     (asks : List Asked) × SaysEvents (map routine_of program) bytes asks
     × StopsSo (in_turn (machine_in program entries) (map routine_of program) 1 asks []) line (refusal.Refused why)
 
--- What is left after all lines of a file, from no jobs on; or the line at which that stops, and why.
+-- The jobs after all lines of a file, starting without jobs; or the line at which the replay stops, and why.
 abbrev pub ReplayedFile : List Routine → List EntryId → List ℕ → Result Running (Failure EventsFault) → Type 0
 ReplayedFile program entries bytes (Ok s) =
     (s.program ≡ program) × (s.entries ≡ entries)

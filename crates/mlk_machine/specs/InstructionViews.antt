@@ -1,4 +1,4 @@
--- The definition's words of the code's, for clauses of calls that are not public. This project's own.
+-- The definition's instructions, from those of the code, for clauses of private calls. This project's own.
 use Rattle.std.specs.Prelude.{ℕ, List, Option, Some, None, option_map}
 use Rattle.mlk_syntax.specs.Trees.{RoutineTree}
 use Rattle.mlk_machine.specs.declared.order.Order.{Order}

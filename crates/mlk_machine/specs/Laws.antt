@@ -1,4 +1,4 @@
--- What a replay comes to is a moment of a run. This project's own.
+-- The result of a replay is a moment of a run. This project's own.
 use Rattle.std.specs.Prelude.{◌≡◌, ℕ, Bool, List, [], ◌∷◌, replicate, Ok}
 use Rattle.std.specs.List.{flat_map}
 use Rattle.mlk_machine_locks.specs.Systems.{Machine, Event, Go, after}
@@ -20,25 +20,25 @@ abbrev pub StandFor : Asked → List (Event Choice EntryId) → Type 0
 StandFor (Happens e) events = events ≡ e ∷ []
 StandFor (GoesOn k) events = (count : ℕ) × (events ≡ replicate count (record { job = k; act = Go choice.None }))
 
--- Events, some for each of these lines, make new jobs of old ones.
+-- Events, some for each of these lines, lead from old jobs to new ones.
 pub record AreMade (m : Machine Job Choice EntryId) (asks : List Asked) (old new : List Job) : Type 0 where
   pub events : List (List (Event Choice EntryId))
   pub each : EachPair StandFor asks events
   pub come_to : after m (flat_map (λ es. es) events) old ≡ Ok new
 
--- What lines in turn make of jobs, the events that they denote make of them.
+-- The effect of lines on jobs is that of the events that they denote.
 abbrev pub LinesAreEvents : Type 0
 LinesAreEvents =
     (routines : List RoutineTree) (declared : EntryId → Bool) (line : ℕ) (asks : List Asked) (old new : List Job)
     → in_turn (machine routines declared) routines line asks old ≡ Ok new
     → AreMade (machine routines declared) asks old new
 
--- Some events in turn, from no jobs on, come to these jobs.
+-- Some events, starting without jobs, lead to these jobs.
 abbrev pub IsMoment : List Routine → List EntryId → List Job → Type 0
 IsMoment program entries jobs =
     (events : List (Event Choice EntryId)) × (after (machine_in program entries) events [] ≡ Ok jobs)
 
--- What is left after events, or after all lines of a file of them, is a moment of a run of the program.
+-- The result of events, or of all lines of a file of them, is a moment of a run of the program.
 pub record ReplaysAreRuns : Type 0 where
   pub of_events : (program : List Routine) (entries : List EntryId) (events : List (Event Choice EntryId)) (s : Running)
       → Replayed program entries events (Ok s) → IsMoment program entries (jobs_in s)

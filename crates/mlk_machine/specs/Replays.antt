@@ -1,4 +1,4 @@
--- What events in turn make of a system. This project's own.
+-- The effect of events, one after another, on a system. This project's own.
 use Rattle.std.specs.Prelude.{◌≡◌, ℕ, List, [], Result, Ok, Err}
 use Rattle.mlk_text.specs.declared.failure.Failure.{Failure}
 use Rattle.mlk_text.specs.declared.failure.Failure.TheVariants.{OutOfMemory, Refused}
@@ -17,12 +17,12 @@ use Rattle.mlk_machine.specs.declared.replaying.Refused.{Refused as RefusedAt}
 abbrev pub event_of : EventIn → Event Choice EntryId
 event_of e = record { job = e.job; act = act_of e.act }
 
--- it can't happen, and this is why; want of memory says nothing
+-- it can't happen, for this reason; out of memory says nothing
 abbrev pub FailsAt : ℕ → Failure RefusedAt → Result (List Job) Refusal → Type 0
 FailsAt index OutOfMemory answer = Unit {0}
 FailsAt index (Refused at) answer = (answer ≡ Err at.why) × (at.index ≡ index)
 
--- What is left after events in turn, or which of them can't happen, and why.
+-- The jobs after events, or the first of them that can't happen, and why.
 abbrev pub Replayed : List Routine → List EntryId → List (Event Choice EntryId) → Result Running (Failure RefusedAt)
     → Type 0
 Replayed program entries events (Ok s) =

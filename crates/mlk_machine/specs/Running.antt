@@ -1,5 +1,4 @@
--- What a system is: routines, the entries at which jobs may begin, and the jobs, in the order in which they began. This
--- project's own.
+-- A system: routines, the entries at which jobs may begin, and the jobs, in the order in which they began. This project's own.
 use Rattle.std.specs.Prelude.{List}
 use Rattle.mlk_syntax.specs.declared.routine.Routine.{Routine}
 use Rattle.mlk_program.specs.declared.entry.EntryId.{EntryId}

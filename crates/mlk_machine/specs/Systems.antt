@@ -1,4 +1,4 @@
--- What a system says, in the definition's words. This project's own.
+-- A system, in the words of the definition. This project's own.
 use Rattle.std.specs.Prelude.{◌≡◌, List, map}
 use Rattle.mlk_machine_locks.specs.Systems.{Machine}
 use Rattle.mlk_syntax.specs.declared.routine.Routine.{Routine}
@@ -24,11 +24,11 @@ machine_in program entries = machine (map routine_of program) (is_listed entries
 abbrev pub machine_of : Running → Machine Job Choice EntryId
 machine_of s = machine_in s.program s.entries
 
--- the routines and the entries stay
+-- the routines and the entries are unchanged
 pub record IsSame (old new : Running) : Type 0 where
   pub program : new.program ≡ old.program
   pub entries : new.entries ≡ old.entries
 
--- all jobs are as they were
+-- all jobs are unchanged
 abbrev pub Stays : Running → Running → Type 0
 Stays old new = jobs_in new ≡ jobs_in old

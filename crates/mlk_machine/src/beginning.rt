@@ -19,14 +19,14 @@ use mlk_program::{EntryId, Program};
 use mlk_text::{Failure, Value};
 use std::alloc::Global;
 
-// Whether jobs may begin at this entry.
+// Whether jobs may begin at `entry`.
 fn is_declared(entries: &[EntryId], entry: EntryId) -> bool
     ensures { result ≡ is_listed entries.now entry }
 {
     entries.iter().any(|declared| *declared == entry)
 }
 
-/// A new job begins at an entry, after the others, where the entry is one of these.
+/// Adds a job that begins at `entry`, which must be one of `entries`.
 pub(crate) fn begin<'a>(
     alloc: Global,
     program: &Program<'a>,

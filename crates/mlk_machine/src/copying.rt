@@ -1,4 +1,4 @@
-// Jobs, copied.
+// Copies of jobs.
 
 ghost use Rattle.std.specs.Prelude.{◌≡◌, IfOk, map};
 ghost use Rattle.mlk_machine_jobs.specs.JobViews.{job_of};
@@ -80,7 +80,7 @@ fn copy_tables<'a>(
     Ok(copies)
 }
 
-/// An equal job.
+/// Copies a job.
 pub(crate) fn copy_job<'a>(alloc: Global, job: &Job<'a>) -> Result<Job<'a>, AllocError>
     ensures same { IfOk result (λ copy. job_of copy ≡ job_of job.now) }
     ensures sound { Sound job.now → IfOk result Sound }

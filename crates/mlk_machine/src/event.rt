@@ -10,22 +10,22 @@ use std::alloc::AllocError;
 /// What a job does at an event.
 #[derive(Drop, Debug)]
 pub enum Act {
-    /// It begins at an entry, with this `$TEST` and values for the first formals.
+    /// It begins at an entry, with the given `$TEST` and values for the first formals.
     Begin(EntryId, bool, List<Value>),
-    /// It makes a step, with this choice.
+    /// It makes a step, with the given choice.
     Go(Choice),
-    /// It stops, and holds no lock then.
+    /// It is aborted, and then holds no lock.
     Abort,
 }
 
-/// An event: what the job of a number does.
+/// An event: the number of a job, and what that job does.
 #[derive(Drop, Debug)]
 pub struct Event {
     pub job: u32,
     pub act: Act,
 }
 
-/// An equal choice.
+/// Copies `choice`.
 pub(crate) fn copy_of_choice(choice: &Choice) -> Result<Choice, AllocError>
     ensures { IfOk result (λ copy. copy ≡ choice.now) }
 {

@@ -7,10 +7,10 @@ use thiserror::Error;
 /// What is wrong with a line.
 #[derive(Clone, Copy, Debug, Drop, PartialEq, Eq, Error)]
 pub enum EventsRefusal {
-    /// It is no event, or lets a job begin at an entry that is not in the program.
+    /// It is not an event, or a job begins at an entry that is not in the program.
     #[error("no event, or a job at an entry that is not in the program")]
     Form,
-    /// It can't happen then.
+    /// It can't happen at that moment.
     #[error("{0}")]
     Refused(Refusal),
 }

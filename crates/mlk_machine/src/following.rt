@@ -1,4 +1,4 @@
-// Files of events, replayed.
+// Replay of files of events.
 
 ghost use Rattle.std.specs.Prelude.{map};
 ghost use Rattle.mlk_text.specs.Failures.{Answers};
@@ -15,7 +15,7 @@ use mlk_program::{EntryId, Program};
 use mlk_text::{Failure, LineNumber};
 use std::alloc::Global;
 
-// What a line makes of a system.
+// Applies one line to a system.
 #[tactic(auto, using(crate::proofs::FollowLemmas::goes_on, crate::proofs::FollowLemmas::stays_there))]
 fn follow_one<'a>(system: &mut System<'a>, asked: &Instruction) -> Result<(), Failure<Refusal>>
     ensures answer { Answers (λ _. jobs_in system.new) result
@@ -31,7 +31,7 @@ fn follow_one<'a>(system: &mut System<'a>, asked: &Instruction) -> Result<(), Fa
     }
 }
 
-// What lines in turn make of a system.
+// Applies lines to a system, one after another.
 fn follow<'a>(system: &mut System<'a>, lines: &[Instruction]) -> Result<(), Failure<EventsFault>>
     ensures same { IsSame system.old system.new }
     ensures followed { FollowedSo (machine_of system.old) (routines_in system.old) (map asked_of lines.now)
@@ -56,8 +56,9 @@ fn follow<'a>(system: &mut System<'a>, lines: &[Instruction]) -> Result<(), Fail
     Ok(())
 }
 
-/// The system after all lines of a file of events, from no jobs on; or the line at which that stops, and why. A line that is
-/// no event, or that lets a job begin at an entry that is not in the program, is reported before anything is replayed.
+/// The system after all lines of a file of events, starting without jobs. The error is the line at which the replay stops, and
+/// why. A line that is not an event, or at which a job begins at an entry that is not in the program, is reported before anything
+/// is replayed.
 #[tactic(auto, using(crate::proofs::FollowLemmas::form_refused, crate::proofs::FollowLemmas::all_followed, crate::proofs::FollowLemmas::follow_stopped))]
 pub fn replay_events<'a>(
     alloc: Global,

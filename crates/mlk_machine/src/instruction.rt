@@ -1,4 +1,4 @@
-// What the lines of a file of events ask for.
+// The instructions in the lines of a file of events.
 
 ghost use Rattle.std.specs.Prelude.{◌≡◌, map, option_map};
 ghost use Rattle.mlk_syntax.specs.Views.{routine_of};
@@ -12,12 +12,12 @@ use crate::order::{Beginning, Order};
 use mlk_machine_jobs::Choice;
 use mlk_program::Program;
 
-/// What a line asks for.
+/// The instruction in a line.
 #[derive(Drop, Debug)]
 pub(crate) enum Instruction {
-    /// that an event happens
+    /// an event happens
     Happens(Event),
-    /// that the job of this number runs by itself
+    /// the job with this number runs by itself
     GoesOn(u32),
 }
 
@@ -28,7 +28,7 @@ fn happens(job: u32, act: Act) -> Instruction
     Instruction::Happens(Event { job, act })
 }
 
-// A job that begins, where the program has the entry.
+// The instruction to begin a job, or `None` if the program does not have the entry.
 fn beginning(program: &Program, order: Beginning) -> Option<Instruction>
     ensures { option_map asked_of result ≡ asked (map routine_of program.now) (Begin order) }
 {
@@ -42,7 +42,7 @@ fn beginning(program: &Program, order: Beginning) -> Option<Instruction>
     Some(happens(job, Act::Begin(entry, test, values)))
 }
 
-/// What a line asks for, where the program has the entry at which a job is to begin.
+/// The instruction in a line, or `None` if a job is to begin at an entry that the program does not have.
 pub(crate) fn instruction_of(program: &Program, order: Order) -> Option<Instruction>
     ensures { option_map asked_of result ≡ asked (map routine_of program.now) order }
 {

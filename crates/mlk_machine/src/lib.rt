@@ -1,4 +1,4 @@
-//! Systems: the jobs of a program, what is asked of them, and what becomes of them by events, also by those of a file.
+//! Systems: the jobs of a program, queries on them, and the effect of events, also of those in a file.
 #![tactic(auto)]
 
 mod beginning;

@@ -1,4 +1,4 @@
-// Lines of a file of events, read.
+// The readers of lines of a file of events.
 
 ghost use Rattle.std.specs.Prelude.{◌≡◌, suc, length, option_map};
 ghost use Rattle.mlk_text.specs.Reading.{many};
@@ -15,14 +15,14 @@ use std::alloc::Global;
 
 const GREATEST_JOB: u32 = 4_294_967_295;
 
-// The number of a job at the front, and what is left after it.
+// Reads the number of a job at the front: the number, and the rest; otherwise `None`.
 fn job(bytes: &[u8]) -> Option<(u32, &[u8])>
     ensures { option_map (λ x. (x.0, x.1.now)) result ≡ job_at bytes.now }
 {
     counted(GREATEST_JOB, bytes)
 }
 
-// `$TEST`, and what is left after it.
+// Reads `$TEST`: its value, and the rest; otherwise `None`.
 fn test(bytes: &[u8]) -> Option<(bool, &[u8])>
     ensures { option_map (λ x. (x.0, x.1.now)) result ≡ test_at bytes.now }
 {
@@ -36,7 +36,7 @@ fn test(bytes: &[u8]) -> Option<(bool, &[u8])>
     }
 }
 
-// Values, each after a space, as far as they go.
+// Reads values, each after a space, as many as there are.
 fn values(alloc: Global, bytes: &[u8]) -> Result<(Vec<Value>, &[u8]), Failure<NotThere>>
     ensures { Reads (λ x. (x.0.items, x.1.now)) result (many (byte_at 32) (next constant_at) (suc (length bytes.now)) bytes.now) }
 {
@@ -50,7 +50,7 @@ fn values(alloc: Global, bytes: &[u8]) -> Result<(Vec<Value>, &[u8]), Failure<No
     Ok((found, rest))
 }
 
-// What comes before the values of a job that begins.
+// Reads the part of a `begin` line before the values.
 #[tactic(auto, unfolding(crate::specs::EventReading::head_at))]
 fn begin_head(alloc: Global, bytes: &[u8]) -> Result<(u32, Value, bool, &[u8]), Failure<NotThere>>
     ensures { Reads (λ x. ((x.0, x.1, x.2), x.3.now)) result (head_at bytes.now) }
@@ -71,7 +71,7 @@ fn begin_head(alloc: Global, bytes: &[u8]) -> Result<(u32, Value, bool, &[u8]), 
     Ok((job, entry, test, rest))
 }
 
-// A job that begins, after its word.
+// Reads the rest of a `begin` line after its word.
 #[tactic(auto, unfolding(crate::specs::EventReading::begin_at))]
 fn begin(alloc: Global, bytes: &[u8]) -> Result<(Order, &[u8]), Failure<NotThere>>
     ensures { Reads (λ x. (x.0, x.1.now)) result (begin_at bytes.now) }
@@ -87,7 +87,7 @@ fn begin(alloc: Global, bytes: &[u8]) -> Result<(Order, &[u8]), Failure<NotThere
     Ok((Order::Begin(beginning), rest))
 }
 
-// What is chosen at a step, after its space.
+// Reads the choice of a step, after its space.
 #[tactic(auto, unfolding(crate::specs::EventReading::chosen_at))]
 fn chosen(alloc: Global, job: u32, bytes: &[u8]) -> Result<(Order, &[u8]), Failure<NotThere>>
     ensures { Reads (λ x. (x.0, x.1.now)) result (chosen_at job bytes.now) }
@@ -102,7 +102,7 @@ fn chosen(alloc: Global, job: u32, bytes: &[u8]) -> Result<(Order, &[u8]), Failu
     Ok((Order::GoValue(job, value), rest))
 }
 
-// A step, after its word.
+// Reads the rest of a `go` line after its word.
 #[tactic(auto, unfolding(crate::specs::EventReading::go_at))]
 fn go(alloc: Global, bytes: &[u8]) -> Result<(Order, &[u8]), Failure<NotThere>>
     ensures { Reads (λ x. (x.0, x.1.now)) result (go_at bytes.now) }
@@ -116,7 +116,7 @@ fn go(alloc: Global, bytes: &[u8]) -> Result<(Order, &[u8]), Failure<NotThere>>
     }
 }
 
-// What a line says.
+// Reads the order of a line, without the line's end.
 #[tactic(auto, unfolding(crate::specs::EventReading::order_at))]
 fn order(alloc: Global, bytes: &[u8]) -> Result<(Order, &[u8]), Failure<NotThere>>
     ensures { Reads (λ x. (x.0, x.1.now)) result (order_at bytes.now) }
@@ -138,7 +138,7 @@ fn order(alloc: Global, bytes: &[u8]) -> Result<(Order, &[u8]), Failure<NotThere
     Err(Failure::Refused(NotThere))
 }
 
-/// What the line at the front of a file says, and what is left after the line's end; or that there is no event.
+/// Reads the line at the front of a file: its order, and the rest after the line's end. `NotThere` if it is not an event.
 #[tactic(auto, unfolding(crate::specs::EventReading::line_at))]
 pub fn read_line(alloc: Global, bytes: &[u8]) -> Result<(Order, &[u8]), Failure<NotThere>>
     ensures { Reads (λ x. (x.0, x.1.now)) result (line_at bytes.now) }

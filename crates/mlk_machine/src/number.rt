@@ -12,7 +12,7 @@ ghost use Rattle.mlk_machine.specs.Numbers.{AreNumbers};
 use indexmap::IndexSet;
 use mlk_machine_jobs::Job;
 
-/// The place of the job of this number, counted from 0.
+/// The index of the job with the number `number`, or `None`.
 #[tactic(auto, using(crate::proofs::NumberLemmas::is_place))]
 pub(crate) fn place_in(numbers: &IndexSet<u32>, number: u32) -> Option<usize>
     ensures { (jobs : List JobIn) → AreNumbers numbers.now.keys jobs → IsPlaceOf number jobs result }
@@ -20,7 +20,7 @@ pub(crate) fn place_in(numbers: &IndexSet<u32>, number: u32) -> Option<usize>
     numbers.get_index_of(&number)
 }
 
-/// Whether a job has this number.
+/// Whether a job has the number `number`.
 #[tactic(auto, using(crate::proofs::NumberLemmas::is_used))]
 pub(crate) fn is_used(numbers: &IndexSet<u32>, number: u32) -> bool
     ensures { (jobs : List JobIn) → AreNumbers numbers.now.keys jobs
@@ -29,7 +29,7 @@ pub(crate) fn is_used(numbers: &IndexSet<u32>, number: u32) -> bool
     numbers.contains(&number)
 }
 
-/// The first job of this number.
+/// The first job with the number `number`, or `None`.
 pub(crate) fn job_numbered<'j, 'a>(
     numbers: &IndexSet<u32>,
     jobs: &'j [Job<'a>],

@@ -1,8 +1,8 @@
-// What the lines of a file of events say.
+// The contents of the lines of a file of events.
 
 use mlk_text::{List, Value};
 
-/// A job that begins.
+/// The begin of a job.
 #[derive(Drop, Debug)]
 pub struct Beginning {
     pub job: u32,
@@ -14,15 +14,15 @@ pub struct Beginning {
     pub values: List<Value>,
 }
 
-/// What a line of a file of events says of the job of a number.
+/// The content of a line of a file of events: what the job with a given number does.
 #[derive(Drop, Debug)]
 pub enum Order {
     Begin(Beginning),
-    /// It makes a step that asks nothing.
+    /// It makes a step that asks for no choice.
     Go(u32),
-    /// It makes a step, where this value is chosen.
+    /// It makes a step, with this value as its choice.
     GoValue(u32, Value),
-    /// It makes a step, where this truth is chosen.
+    /// It makes a step, with this truth value as its choice.
     GoTruth(u32, bool),
     /// It runs by itself as far as it can.
     Run(u32),

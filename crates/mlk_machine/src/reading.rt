@@ -1,4 +1,4 @@
-// Files of events, read.
+// The reader of files of events.
 
 ghost use Rattle.std.specs.Prelude.{◌≡◌, IfOk, IfErr, map};
 ghost use Rattle.mlk_text.specs.Failures.{Reads};
@@ -13,7 +13,7 @@ use mlk_program::Program;
 use mlk_text::{Failure, LineNumber, NotThere};
 use std::alloc::Global;
 
-// What the line at the front asks for, and what is left after the line's end.
+// Reads the line at the front: its instruction, and the rest after the line's end.
 #[tactic(auto, using(crate::proofs::FileLemmas::asks, crate::proofs::FileLemmas::asks_nothing, crate::proofs::FileLemmas::no_line))]
 fn line<'b>(
     alloc: Global,
@@ -29,7 +29,7 @@ fn line<'b>(
     Ok((asked, rest))
 }
 
-/// What the lines of a file ask for; or the first line that asks for nothing.
+/// Reads the instructions of a file. The error is the first line that is not one.
 pub(crate) fn read_events(
     alloc: Global,
     program: &Program,

@@ -1,4 +1,4 @@
-// Events in turn.
+// Events, one after another.
 
 ghost use Rattle.std.specs.Prelude.{◌≡◌, Ok, OnOk, IfErr, map};
 ghost use Rattle.mlk_machine_locks.specs.Systems.{happens};
@@ -13,14 +13,14 @@ use mlk_program::{EntryId, Program};
 use mlk_text::Failure;
 use std::alloc::Global;
 
-/// An event that can't happen: which one it is, counted from 0, and why.
+/// An event that can't happen: its index, and why.
 #[derive(Clone, Copy, Debug, Drop, PartialEq, Eq)]
 pub struct Refused {
     pub index: usize,
     pub why: Refusal,
 }
 
-// What the event at a place makes of a system.
+// Applies the event at an index to a system.
 fn happen<'a>(system: &mut System<'a>, event: &Event, index: usize) -> Result<(), Failure<Refused>>
     ensures ok { OnOk result (happens (machine_of system.old) (jobs_in system.old) event.now.job (act_of event.now.act)
         ≡ Ok (jobs_in system.new)) }
@@ -35,7 +35,7 @@ fn happen<'a>(system: &mut System<'a>, event: &Event, index: usize) -> Result<()
     }
 }
 
-/// The system after these events, from no jobs on; or the first event that can't happen, and why.
+/// The system after `events`, starting without jobs. The error is the first event that can't happen, and why.
 pub fn replay<'a>(
     alloc: Global,
     program: &'a Program<'a>,

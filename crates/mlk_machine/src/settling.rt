@@ -1,4 +1,4 @@
-// How far a job goes by itself.
+// How far a job runs by itself.
 
 ghost use Rattle.std.specs.Prelude.{◌≡◌, IfOk, OnErr, map};
 ghost use Rattle.mlk_text.specs.Failures.{Answers};
@@ -19,10 +19,10 @@ use mlk_program::Program;
 use mlk_text::Failure;
 use std::alloc::{AllocError, Global};
 
-/// How many steps a job makes by itself at most.
+/// The maximum number of steps that a job makes by itself.
 pub const MOST_SILENT_STEPS: u32 = 65_536;
 
-/// A job runs by itself while its next task is silent, up to the greatest number of steps: how many it made.
+/// Lets a job run by itself while its next task is silent, up to the maximum number of steps; returns how many it made.
 pub(crate) fn settle<'a>(
     alloc: Global,
     program: &Program<'a>,
@@ -45,8 +45,8 @@ pub(crate) fn settle<'a>(
     Ok(count)
 }
 
-/// The first job of this number runs by itself: how many steps it made. It works on a copy of the job: where memory runs
-/// out amid the steps, all jobs are as they were.
+/// Lets the first job with the number `number` run by itself; returns how many steps it made. It works on a copy of the job: if
+/// memory runs out between steps, all jobs are unchanged.
 pub(crate) fn settle_numbered<'a>(
     alloc: Global,
     program: &Program<'a>,

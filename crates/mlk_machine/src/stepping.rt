@@ -1,4 +1,4 @@
-// What the job of a number does.
+// The acts of the job with a given number.
 
 ghost use Rattle.std.specs.Prelude.{◌≡◌, OnErr, Bool, List, map};
 ghost use Rattle.mlk_text.specs.Failures.{Answers};
@@ -22,7 +22,7 @@ use mlk_program::Program;
 use mlk_text::Failure;
 use std::alloc::Global;
 
-/// The job of this number makes a step, with this choice.
+/// Makes a step of the job `number`, with the choice `choice`.
 pub(crate) fn go_numbered<'a>(
     alloc: Global,
     program: &Program<'a>,
@@ -46,7 +46,7 @@ pub(crate) fn go_numbered<'a>(
     go(alloc, program, table, jobs, place, number, choice)
 }
 
-/// The job of this number is aborted.
+/// Aborts the job `number`.
 pub(crate) fn abort_numbered(
     alloc: Global,
     numbers: &IndexSet<u32>,

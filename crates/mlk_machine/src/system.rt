@@ -1,4 +1,4 @@
-// Systems.
+// Systems: the jobs of a program at one moment.
 
 ghost use Rattle.std.specs.Prelude.{◌≡◌, [], IfOk, OnErr, Some, map, option_map, option_and_then};
 ghost use Rattle.mlk_text.specs.Failures.{Answers};
@@ -27,16 +27,16 @@ use mlk_text::{Failure, Value};
 use std::alloc::{AllocError, Global};
 use std::marker::Model;
 
-/// The jobs of a program, which begin at these entries and share locks. The program and the entries are borrowed.
+/// The jobs of a program, which begin at `entries` and share locks. The program and the entries are borrowed.
 #[derive(Drop)]
 pub struct System<'a> {
     alloc: Global,
     program: &'a Program<'a>,
     entries: &'a [EntryId],
-    // of the jobs, in their order
+    // the numbers of the jobs, in order
     numbers: IndexSet<u32>,
     jobs: Vec<Job<'a>>,
-    // finds the jobs by the names that they hold
+    // finds jobs by the names that they hold
     table: LockTable,
 }
 
@@ -72,7 +72,7 @@ impl<'a> Model for System<'a> {
 }
 
 impl<'a> System<'a> {
-    /// No jobs yet. It takes no memory.
+    /// A system without jobs. Allocates nothing.
     pub fn start(alloc: Global, program: &'a Program<'a>, entries: &'a [EntryId]) -> System<'a>
         ensures { result ≡ record { program = program.now; entries = entries.now; jobs = [] } }
     {
@@ -86,7 +86,7 @@ impl<'a> System<'a> {
         }
     }
 
-    // A job begins.
+    // Begins a job.
     fn begin(
         &mut self,
         number: u32,
@@ -112,7 +112,7 @@ impl<'a> System<'a> {
         )
     }
 
-    // A job makes a step.
+    // Makes a step of a job.
     fn go(&mut self, number: u32, choice: &Choice) -> Result<(), Failure<Refusal>>
         ensures answer { Answers (λ _. jobs_in self.new) result
             (happens (machine_of self.old) (jobs_in self.old) number (Go choice.now)) }
@@ -131,7 +131,7 @@ impl<'a> System<'a> {
         )
     }
 
-    // A job is aborted.
+    // Aborts a job.
     fn abort(&mut self, number: u32) -> Result<(), Failure<Refusal>>
         ensures answer { Answers (λ _. jobs_in self.new) result
             (happens (machine_of self.old) (jobs_in self.old) number Abort) }
@@ -141,7 +141,7 @@ impl<'a> System<'a> {
         abort_numbered(self.alloc, &self.numbers, &mut self.jobs, number)
     }
 
-    /// What an event makes of the jobs. Where it can't happen, or there is no memory, all jobs are as they were.
+    /// Applies an event. If it can't happen, or memory runs out, all jobs are unchanged.
     pub fn step(&mut self, event: &Event) -> Result<(), Failure<Refusal>>
         ensures answer { Answers (λ _. jobs_in self.new) result
             (happens (machine_of self.old) (jobs_in self.old) event.now.job (act_of event.now.act)) }
@@ -157,8 +157,8 @@ impl<'a> System<'a> {
         }
     }
 
-    /// The job of this number runs by itself while its next task is silent, up to the greatest number of steps: how
-    /// many it made. Where there is no memory all jobs are as they were.
+    /// Lets the job `number` run by itself while its next task is silent, up to the maximum number of steps; returns how many it
+    /// made. If memory runs out, all jobs are unchanged.
     pub fn settle(&mut self, number: u32) -> Result<u32, Failure<Refusal>>
         ensures answer { Answers (λ count. (jobs_in self.new, count)) result
             (settled_in (routines_in self.old) number (jobs_in self.old)) }
@@ -174,28 +174,28 @@ impl<'a> System<'a> {
         )
     }
 
-    /// The jobs, in the order in which they began. It takes no memory.
+    /// The jobs, in the order in which they began. Allocates nothing.
     pub fn jobs(&self) -> &[Job<'a>]
         ensures { result.now ≡ self.now.jobs }
     {
         self.jobs.as_slice()
     }
 
-    /// The program that the jobs run. It takes no memory.
+    /// The program that the jobs run. Allocates nothing.
     pub fn program(&self) -> &'a Program<'a>
         ensures { result.now ≡ self.now.program }
     {
         self.program
     }
 
-    /// The job of this number. It takes no memory.
+    /// The job `number`, or `None`. Allocates nothing.
     pub fn job(&self, number: u32) -> Option<&Job<'a>>
         ensures { option_map (λ j. job_of j.now) result ≡ job_numbered number (jobs_in self.now) }
     {
         job_numbered(&self.numbers, self.jobs.as_slice(), number)
     }
 
-    /// The reference that the job of this number is ready to touch. It takes no memory.
+    /// The reference that the job `number` is ready to touch, or `None`. Allocates nothing.
     pub fn ready(&self, number: u32) -> Option<&Touch>
         ensures { option_map (λ t. touch_of t.now) result
             ≡ option_and_then ready (job_numbered number (jobs_in self.now)) }
@@ -203,7 +203,7 @@ impl<'a> System<'a> {
         self.job(number)?.ready()
     }
 
-    /// Whether the first of these jobs waits for the second. It takes no memory.
+    /// Whether the job `number` waits for the job `other`. Allocates nothing.
     pub fn waits_for(&self, number: u32, other: u32) -> bool
         ensures { result ≡ one_waits (job_numbered number (jobs_in self.now)) (job_numbered other (jobs_in self.now)) }
     {
@@ -213,7 +213,7 @@ impl<'a> System<'a> {
         }
     }
 
-    /// How often the job of this number holds the name; not at all where there is no such job. It takes no memory.
+    /// How often the job `number` holds `name`; 0 if there is no such job. Allocates nothing.
     pub fn holds(&self, number: u32, name: &LockName) -> u32
         ensures { result ≡ count_held name.now (job_numbered number (jobs_in self.now)) }
     {
@@ -223,14 +223,14 @@ impl<'a> System<'a> {
         }
     }
 
-    /// The names that the job of this number holds, each with its count. It takes no memory.
+    /// The names that the job `number` holds, each with its count; `None` if there is no such job. Allocates nothing.
     pub fn held(&self, number: u32) -> Option<&[(LockName, u32)]>
         ensures { option_map (λ h. h.now) result ≡ option_map (λ j. j.held) (job_numbered number (jobs_in self.now)) }
     {
         Some(self.job(number)?.held.entries())
     }
 
-    /// Whether some of the jobs wait in a ring: each for one of them.
+    /// Whether some of the jobs wait in a ring, each for one of them.
     pub fn has_ring(&self) -> Result<bool, AllocError>
         ensures { IfOk result (λ found. found ≡ has_ring_of seen (jobs_in self.now)) }
     {

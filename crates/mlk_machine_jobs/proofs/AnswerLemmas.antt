@@ -1,4 +1,4 @@
--- The frame that QUIT with a value gives it to.
+-- The frame that receives the value of a QUIT.
 use Rattle.std.proofs.Common.{◌≡◌, true, false, List, [], ◌∷◌, refl, sym, ap}
 use Rattle.std.proofs.lemmas.Bool.{false≢true}
 use Rattle.mlk_machine_jobs.specs.Tasks.{Task, Job, EndFrame, AwaitsValue}
@@ -17,7 +17,7 @@ dropped_answer j [] us h e = ap (λ (z : List Task). doing z (dropped 1 j)) e
 dropped_answer j (EndFrame (AwaitsValue test) back next routine ∷ ts) us h e = absurd (false≢true (sym h))
 dropped_answer j (t ∷ ts) us h e = ap (λ (z : List Task). doing z (dropped 1 j)) e
 
--- the tasks that a job has meanwhile say nothing
+-- the job's present tasks do not matter
 pub answered_again : (j : Job) (us ts : List Task) → answered (doing us j) ts ≡ answered j ts
 answered_again j us [] = refl
 answered_again j us (EndFrame (AwaitsValue test) back next routine ∷ ts) = refl

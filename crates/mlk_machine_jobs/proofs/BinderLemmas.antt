@@ -31,7 +31,7 @@ past_look (ByReference formal cell) bs n h = elim (cases_Bool (bytes_eq formal n
   | inr e ↦ rw e refl
 ]
 
--- the binders up to a place, the newest first
+-- the binders up to an index, the newest first
 pub turned : (bs : List BinderIn) (count : ℕ) (b : BinderIn) → 0 < count → count ≤ length bs → b ≡ get_or bs (count - 1) b
     → bindings_of (take count bs) ≡ binder_of b ∷ bindings_of (take (count - 1) bs)
 turned bs count b p l e =

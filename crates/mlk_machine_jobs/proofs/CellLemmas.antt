@@ -1,4 +1,4 @@
--- What cells hold, table by table.
+-- The contents of cells, table by table.
 use Rattle.std.proofs.Common.{◌≡◌, ◌≤◌, ◌<◌, ◌==◌, ℕ, zero, suc, Bool, true, false, List, [], ◌∷◌, ◌++◌, length, take, get_or, Option, Some, None, refl, sym, ap, ◌∙◌, inl, inr, arith}
 use Rattle.std.specs.Prelude.{bytes_eq, if◌then◌else◌, ◌&&◌, not, nat_lt, slice_get, slice_set, filter}
 use Rattle.std.specs.List.{AllZip}
@@ -11,7 +11,7 @@ use Rattle.mlk_machine_jobs.specs.declared.cell.CellTable.{CellTable}
 use Rattle.mlk_machine_jobs.specs.Bindings.{Cell, Cells, put_value, forgotten}
 use Rattle.mlk_machine_jobs.specs.Views.{in_table, PutsValue, value_in, value_at, without}
 
--- functions that agree everywhere are one
+-- functions that agree everywhere are equal
 pub one_function : (f g : Cells) → ((c : Cell) → f c ≡ g c) → f ≡ g
 one_function f g h i c = h c i
 
@@ -106,7 +106,7 @@ neither_of : {V : Type 0} (b : Bool) → none_of {V = V} ≡ (if b then None els
 neither_of true = refl
 neither_of false = refl
 
--- what is looked up where all keys are left out that a test takes
+-- a look-up after all keys that pass a test were removed
 pub kept_lookup : {K V : Type 0} (name_of : K → List ℕ) (test : List ℕ → Bool) (n : List ℕ) (es : List (K × V))
     → lookup (λ k. bytes_eq n (name_of k)) (filter (λ e. not (test (name_of e.0))) es)
     ≡ (if test n then None else lookup (λ k. bytes_eq n (name_of k)) es)
@@ -128,7 +128,7 @@ kept_lookup {K} {V} name_of test n (e ∷ es) = elim (cases_Bool (test (name_of 
   ]
 ]
 
--- one table after another is left without what a test takes
+-- what passes a test is removed from one table after another
 set_in : (ts : List CellTable) (g : ℕ) (u : CellTable) → g < length ts → (k : ℕ) (n : List ℕ)
     → value_in n (slice_get (slice_set ts g u) k) ≡ (if g == k then in_table u n else value_in n (slice_get ts k))
 set_in [] g u l k n = absurd (omega arith)

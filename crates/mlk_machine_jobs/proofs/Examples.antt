@@ -1,4 +1,4 @@
--- Worked examples, whose answers were found by hand: names, calls, blocks, FOR. Each program stands above its example,
+-- Worked examples, whose answers were found by hand: names, calls, blocks, FOR. Each program is above its example,
 -- ` / ` ends a line.
 use Rattle.std.proofs.Common.{◌≡◌, refl, List, [], ◌∷◌, Some, None}
 use Rattle.std.specs.Prelude.{codes, true}
@@ -28,13 +28,13 @@ pub spares_the_shared : played spared [] ≡ writes_at (codes "1" ∷ [])
 unfolding settled
 spares_the_shared = refl
 
--- and takes the others, in the caller too
+-- and kills the others, in the caller too
 pub kills_the_others : played spared (choice.None ∷ []) ≡ Stuck
 unfolding settled
 kills_the_others = refl
 
 -- A SET X=1 DO F(.X) SET ^A(X)=1 / F(Z) KILL  QUIT
--- KILL of all takes the cells of formals by reference, which are the caller's.
+-- KILL of all kills the cells of formals by reference, which are the caller's.
 pub kills_all : played (routine ((
   at_label (codes "A") None (commands (set (local (codes "X")) (Lit (codes "1"))
       ∷ do_label (codes "F") (Some (by_reference (codes "X") ∷ [])) ∷ set (global_at (codes "A") (value_of (codes "X"))) (Lit (codes "1")) ∷ [])),
@@ -45,7 +45,7 @@ unfolding settled
 kills_all = refl
 
 -- A IF 1 DO  ELSE  SET ^A=1 / . IF 0
--- A block puts `$TEST` back.
+-- A block restores `$TEST`.
 pub block_restores : played (routine ((
   at_label (codes "A") None (commands (If (Lit (codes "1") ∷ []) ∷ Do [] ∷ Else ∷ set (global (codes "A")) (Lit (codes "1")) ∷ [])),
   lines ((unlabelled (commands (If (Lit (codes "0") ∷ []) ∷ [])), no_lines) ∷ []),
@@ -93,7 +93,7 @@ unfolding settled
 no_third_round = refl
 
 -- A FOR I=1:1:9,20 QUIT / SET ^A(I)=1
--- QUIT ends the whole FOR, with the parameters that are left.
+-- QUIT ends the whole FOR, including the remaining parameters.
 pub quits_all : played (routine (
     (at_label (codes "A") None (for_each (Some (Runs 0 (codes "I") (Limited (Lit (codes "1")) (Lit (codes "1")) (Lit (codes "9")) ∷ Once (Lit (codes "20")) ∷ []))) (Quit None ∷ [])), no_lines)
     ∷ (unlabelled (commands (set (global_at (codes "A") (value_of (codes "I"))) (Lit (codes "1")) ∷ [])), no_lines) ∷ [])) (choice.Truth true ∷ []) ≡ writes_at (codes "1" ∷ [])
@@ -116,7 +116,7 @@ unfolding settled
 formal_is_new = refl
 
 -- A DO F DO G QUIT / F NEW X SET X=5 QUIT / G NEW X SET ^A(X)=1 QUIT
--- What F's X had is forgotten, though G's X is made where F's was.
+-- The value of F's X is gone, though G's X is created where F's was.
 pub forgets : played (routine (
     (at_label (codes "A") None (commands (do_label (codes "F") None ∷ do_label (codes "G") None ∷ Quit None ∷ [])), no_lines)
     ∷ (at_label (codes "F") None (commands (New (NewOne 0 (codes "X") ∷ []) ∷ set (local (codes "X")) (Lit (codes "5")) ∷ Quit None ∷ [])), no_lines)
@@ -125,7 +125,7 @@ unfolding settled
 forgets = refl
 
 -- A DO F(.X,.X) SET ^A(X)=1 QUIT / F(P,Q) SET P=7 SET ^A(Q)=1 QUIT
--- One cell by two formals, of a name that had no value before.
+-- Two formals share one cell, that of a name without a value.
 abbrev twice : List RoutineTree
 twice = routine (
     (at_label (codes "A") None (commands (do_label (codes "F") (Some (by_reference (codes "X") ∷ by_reference (codes "X") ∷ [])) ∷ set (global_at (codes "A") (value_of (codes "X"))) (Lit (codes "1")) ∷ Quit None ∷ [])), no_lines)

@@ -1,4 +1,4 @@
--- Worked examples, whose answers were found by hand: locks, what is read and written, runs of two jobs.
+-- Worked examples, whose answers were found by hand: locks, reads and writes, runs of two jobs.
 use Rattle.std.proofs.Common.{◌≡◌, refl, ℕ, Bool, true, false, List, [], ◌∷◌, ◌++◌, Option, Some, None}
 use Rattle.std.specs.Prelude.{codes, map, Result, Ok, Err}
 use Rattle.mlk_text.specs.declared.root.Root.TheVariants as root
@@ -52,7 +52,7 @@ abbrev held_of : Stepped → Option Counts
 held_of (Ok j) = Some j.held
 held_of (Err why) = None
 
--- what a lone job holds after these choices, each taken once it goes on by itself no more
+-- what a lone job holds after these choices, each made when the job no longer runs by itself
 abbrev goes_on : (Job → Option Counts) → Stepped → Option Counts
 goes_on f (Ok j) = f j
 goes_on f (Err why) = None
@@ -66,7 +66,7 @@ abbrev pub held_after : List RoutineTree → List Choice → Option Counts
 held_after routines choices = goes_on (holds_after routines choices) (begun routines first_entry 1 false [])
 
 -- A LOCK ^A
--- Without a sign all is released in a step of its own, also where nothing is held.
+-- Without a sign all is released in a step of its own, even if nothing is held.
 pub releases_first : played (straight (lock (global (codes "A") ∷ []) ∷ [])) [] ≡ Releases
 unfolding settled
 releases_first = refl
@@ -76,7 +76,7 @@ unfolding settled
 then_claims = refl
 
 -- A LOCK +(^A,^A) LOCK -^A
--- A name that stands twice counts twice.
+-- A name that occurs twice counts twice.
 pub counts_twice : held_after (straight (claim (global (codes "A") ∷ global (codes "A") ∷ []) ∷ [])) (choice.None ∷ []) ≡ Some ((a, 2) ∷ [])
 unfolding settled same_name is_above
 counts_twice = refl
@@ -89,13 +89,13 @@ pub takes_two : held_after (straight (claim (global (codes "A") ∷ global (code
 unfolding settled same_name is_above
 takes_two = refl
 
--- a claim past the greatest count is never granted
+-- a claim that would exceed the maximum count is never granted
 pub has_no_room : granted (λ n. true) (a ∷ []) (record (blank 1 false []) { held = (a, 4294967295) ∷ [] }) ≡ Err NotEnabled
 unfolding same_name is_above
 has_no_room = refl
 
 -- A LOCK +^A:1
--- With a timeout an event says whether it was granted, and a refusal keeps nothing.
+-- With a timeout an event says whether the claim was granted; if not, nothing is held.
 pub asks_whether : held_after (straight (claim_within (Lit (codes "1")) (global (codes "A") ∷ []) ∷ [])) (choice.Truth true ∷ []) ≡ Some ((a, 1) ∷ [])
 unfolding settled same_name is_above
 asks_whether = refl
@@ -140,7 +140,7 @@ unfolding settled
 merge_writes = refl
 
 -- A WRITE X
--- A local without a value leaves nothing to do but to be aborted, whatever is chosen.
+-- If a local has no value, the job can only be aborted, whatever is chosen.
 pub unread : played (straight (Write (WriteValue (value_of (codes "X")) ∷ []) ∷ [])) [] ≡ Stuck
 unfolding settled
 unread = refl
@@ -165,8 +165,8 @@ abbrev ring_after : Result (List Job) Refusal → Option Bool
 ring_after (Ok jobs) = Some (has_ring_of seen jobs)
 ring_after (Err why) = None
 
--- three steps to hold the first name: the command, the name, the claim; three more to its next claim: after the argument, the
--- command, the name
+-- three steps until the first name is held: the command, the name, the claim; three more to its next claim: after the argument,
+-- the command, the name
 abbrev write_a : Touch
 write_a = record { region = record { node = record { root = codes "A"; subs = [] }; extent = extent.Node }; access = Writes }
 
@@ -178,12 +178,12 @@ pub meets_a_ring : ring_after (after (machine crossed (λ e. true)) both_begin [
 unfolding is_above in_conflict same_name
 meets_a_ring = refl
 
--- each claim is then held up
+-- then each claim is blocked
 pub is_held_up : after (machine crossed (λ e. true)) (both_begin ++ goes 7 ∷ []) [] ≡ Err NotEnabled
 unfolding is_above in_conflict same_name
 is_held_up = refl
 
--- and is granted once the other job was aborted
+-- and is granted once the other job is aborted
 pub goes_on_after_abort : ring_after (after (machine crossed (λ e. true)) (both_begin ++ event 8 Abort ∷ goes 7 ∷ []) []) ≡ Some false
 unfolding is_above in_conflict same_name
 goes_on_after_abort = refl

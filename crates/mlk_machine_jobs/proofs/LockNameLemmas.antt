@@ -28,7 +28,7 @@ global_count v column name subs slice is same =
     ap tree_of is ∙ tree_global column name subs in
     rw (e, same) (count_is subs.items)
 
--- a count that stops at the greatest number
+-- a count that saturates at the greatest number
 pub counted_up : (left : List Variable) (count whole : ℕ) → length left ≡ 0 → count ≤ 2 ^ 64 - 1
     → min (count_all (map variable_of left) + count) (2 ^ 64 - 1) ≡ whole → count ≡ whole
 counted_up [] count whole e l h =

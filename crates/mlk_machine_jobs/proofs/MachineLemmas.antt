@@ -1,4 +1,4 @@
--- The machine of a program's jobs is one, so that all that is proved of machines holds of it.
+-- The machine of a program's jobs is a machine, so all that is proved of machines holds of it.
 use Rattle.std.proofs.Common.{◌≡◌, ℕ, Bool, true, false, List, [], ◌∷◌, ◌++◌, refl, ap, arith, inl, inr, drop, length, Option}
 use Rattle.std.specs.Prelude.{◌&&◌, nat_lt, Ok, Err}
 use Rattle.std.specs.List.{list_all}
@@ -79,7 +79,7 @@ steps routines free c j (task.HaltJob ∷ ts) = unasked free j c _ (same free j 
 steps routines free c j (EndBlock back next test ∷ ts) = unasked free j c _ (same free j _ refl refl)
 steps routines free c j (EndFrame frame back next routine ∷ ts) = of_end free j c frame _ refl refl
 
--- With more names free, a claim comes out the same.
+-- With more names free, a granted claim has the same result.
 granted_more : (free more : LockName → Bool) → ((n : LockName) → free n ≡ true → more n ≡ true) → (names : List LockName)
     → (j i : Job) → granted free names j ≡ Ok i → granted more names j ≡ Ok i
 granted_more free more f names j i h = on _ refl

@@ -68,7 +68,7 @@ left_none is ps count e h binders =
     ap (λ k. tasks_of binders (take k ps)) e
     ∙ sym (ap (λ k. from_first is (tasks_of binders (take k ps))) e) ∙ h binders
 
--- one task is taken from the end of some, and is done first
+-- one task is removed from the end of some, and is done first
 pub one_pushed : (binders : List Binder) (ps : List Pending) (left all : List TaskIn) (t : TaskIn) (whole : List Task)
     → all ≡ left ++ t ∷ [] → map task_of all ++ tasks_of binders ps ≡ whole
     → map task_of left ++ tasks_of binders (ps ++ pending.Task t ∷ []) ≡ whole
@@ -79,7 +79,7 @@ one_pushed binders ps left all t whole e h =
     ∙ ap (λ (z : List TaskIn). map task_of z ++ tasks_of binders ps) (sym e)
     ∙ h
 
--- the last one, where it is a round, and where it is none
+-- the last one, if it is a round, and if it is not
 whole : (ps : List Pending) (count : ℕ) (p : Pending) → count ≡ length ps → 0 < count → p ≡ get_or ps (count - 1) p
     → ps ≡ take (count - 1) ps ++ p ∷ []
 whole ps count p e some stands =

@@ -1,4 +1,4 @@
--- A job that goes on by itself makes steps, whatever names are free.
+-- A job that runs by itself makes steps, whatever names are free.
 use Rattle.std.proofs.Common.{◌≡◌, ℕ, zero, suc, Bool, true, false, List, [], ◌∷◌, refl, sym, ap, ◌∙◌, subst, inl, inr}
 use Rattle.std.specs.Prelude.{◌⊎◌, Ok, Err}
 use Rattle.mlk_names.specs.declared.lock_name.LockName.{LockName}
@@ -19,7 +19,7 @@ ended_is_not_silent : (b : Bool) → done b ≡ Silent → ⊥
 ended_is_not_silent true h = cc
 ended_is_not_silent false h = cc
 
--- no silent step asks which names are free
+-- no silent step depends on which names are free
 alike : (routines : List RoutineTree) (free : LockName → Bool) (j : Job) (ts : List Task) → state_in routines j ts ≡ Silent
     → advance routines free choice.None j ts ≡ advance routines (λ n. true) choice.None j ts
 alike routines free j [] is = absurd (ended_is_not_silent j.stopped is)

@@ -1,4 +1,4 @@
--- Blocks and frames within each other: what keeps them so.
+-- Nested blocks and frames: what preserves their nesting.
 use Rattle.std.proofs.Common.{◌≡◌, ◌∙◌, ◌≤◌, ℕ, List, [], ◌∷◌, ◌++◌, length, take, drop, reverse, sym, ap, subst, arith}
 use Rattle.std.proofs.lemmas.List.{reverse-append, take-append-drop}
 use Rattle.mlk_machine_jobs.specs.declared.binding.Binder.{Binder as BinderIn}
@@ -61,7 +61,7 @@ stands_before bs n ps p h = record {
       (subst (λ (z : List Pending). AreNested bs (length bs) n z) (turned ps p) h.nested);
 }
 
--- where the binders of the ends stay, others may come or go
+-- if the binders of the ends stay, others may come or go
 same_within : (bs cs : List BinderIn) (c n : ℕ) (back : Back)
     → ((k : ℕ) → k ≤ c → take k bs ≡ take k cs) → IsWithin bs c n back → IsWithin cs c n back
 same_within bs cs c n back e h = record {

@@ -1,4 +1,4 @@
--- What steps leave as it was: a job's number, and what it holds but for claims and releases.
+-- What steps leave unchanged: a job's number, and what it holds, except by claims and releases.
 use Rattle.std.proofs.Common.{◌≡◌, ℕ, ◌<◌, Bool, true, false, List, [], ◌∷◌, Option, Some, None, refl, sym, subst, arith, inl}
 use Rattle.std.specs.Prelude.{◌⊎◌, ◌&&◌, if◌then◌else◌, Ok, Err}
 use Rattle.std.specs.List.{list_all}
@@ -22,7 +22,7 @@ use Rattle.mlk_machine_jobs.specs.Locking.{claim_step, timed_claim, if_free}
 use Rattle.mlk_machine_jobs.specs.Lines.{selected, chosen, next_line, answered}
 use Rattle.mlk_machine_jobs.specs.Calling.{entered, called, called_if, frame_end}
 
--- what a step does to number and names
+-- the effect of a step on number and names
 pub record Steps (free : LockName → Bool) (j i : Job) : Type 0 where
   pub number : i.number ≡ j.number
   pub holds : (n : LockName) → 0 < count_of i.held n → (0 < count_of j.held n) ⊎ (free n ≡ true)

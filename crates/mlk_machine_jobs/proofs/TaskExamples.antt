@@ -1,5 +1,5 @@
--- Worked examples, whose answers were found by hand: a run for each kind of task that the other examples do not meet. Each
--- program stands above its example, ` / ` ends a line.
+-- Worked examples, whose answers were found by hand: a run for each kind of task that does not occur in the other examples. Each
+-- program is above its example, ` / ` ends a line.
 use Rattle.std.proofs.Common.{◌≡◌, refl, ℕ, List, [], ◌∷◌, Option, Some, None}
 use Rattle.std.specs.Prelude.{codes, true, false}
 use Rattle.mlk_names.specs.References.{Touch}
@@ -18,7 +18,7 @@ use Rattle.mlk_machine_jobs.specs.Seen.{State, Ready, AsksChoice, Releases, Stuc
 use Rattle.mlk_machine_jobs.proofs.Trees.{value_of, local, global, global_at, set, callee, do_label, commands, for_each, at_label, unlabelled, routine, played, writes_at}
 use Rattle.mlk_machine_jobs.proofs.LockExamples.{release, straight, held_after}
 
--- a reference to `^A` at these subscripts is read
+-- a read of `^A` at these subscripts
 abbrev reads : List (List ℕ) → Extent → State
 reads subs e = Ready (record { region = record { node = record { root = codes "A"; subs = subs }; extent = e }; access = Reads })
 
@@ -59,7 +59,7 @@ unfolding settled
 too_late = refl
 
 -- A SET ^A($SELECT(0:1,1:2))=1
--- The value beside the first true condition.
+-- The value next to the first true condition.
 pub select_first_true : played (straight (set_a (Selected (choice (Lit (codes "0")) (Lit (codes "1")) (choice (Lit (codes "1")) (Lit (codes "2")) no_choices))) ∷ [])) [] ≡ writes_at (codes "2" ∷ [])
 unfolding settled
 select_first_true = refl
@@ -106,7 +106,7 @@ unfolding settled
 forever_quit = refl
 
 -- A FOR I=1:1:2 SET ^A(I)=1
--- Before each round it is asked whether the limit is passed; what the variable has in a later round may be anything.
+-- Before each round a choice says whether the limit is passed; in later rounds the variable may have any value.
 abbrev limited : List RoutineTree
 limited = routine ((
   at_label (codes "A") None (for_each (Some (Runs 0 (codes "I") (Limited (Lit (codes "1")) (Lit (codes "1")) (Lit (codes "2")) ∷ []))) (set_a (value_of (codes "I")) ∷ [])),
@@ -146,7 +146,7 @@ unfolding settled
 call_without_value = refl
 
 -- A DO F SET ^A=1 QUIT / F QUIT 5
--- A frame of DO has no use for a value.
+-- A frame of DO ignores a value.
 pub value_of_do : played (routine (
     (at_label (codes "A") None (commands (do_label (codes "F") None ∷ set (global (codes "A")) (Lit (codes "1")) ∷ Quit None ∷ [])), no_lines)
     ∷ (at_label (codes "F") None (commands (Quit (Some (Lit (codes "5"))) ∷ [])), no_lines) ∷ [])) [] ≡ writes_at []
@@ -154,7 +154,7 @@ unfolding settled
 value_of_do = refl
 
 -- A JOB F(1) SET ^A=1 QUIT / F(X) QUIT
--- The job that is started is another one.
+-- The started job is another one.
 pub job_goes_on : played (routine (
     (at_label (codes "A") None (commands (Job (Called 0 (callee (codes "F")) (Some (Given (Lit (codes "1")) ∷ [])) ∷ []) ∷ set (global (codes "A")) (Lit (codes "1")) ∷ Quit None ∷ [])), no_lines)
     ∷ (at_label (codes "F") (Some (codes "X" ∷ [])) (commands (Quit None ∷ [])), no_lines) ∷ [])) [] ≡ writes_at []
@@ -187,7 +187,7 @@ unfolding settled
 name_reads_nothing = refl
 
 -- A LOCK -^A SET ^A=1
--- A release of what is not held is a step that changes nothing.
+-- A release of a name that is not held is a step that changes nothing.
 abbrev released : List RoutineTree
 released = straight (release (global (codes "A") ∷ []) ∷ set (global (codes "A")) (Lit (codes "1")) ∷ [])
 

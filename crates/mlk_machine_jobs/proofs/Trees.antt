@@ -39,7 +39,7 @@ do_label label given = Do (DoCall (Called 0 (callee label) given) None ∷ [])
 abbrev pub by_reference : List ℕ → ActualTree
 by_reference name = ByRef 0 name
 
--- the commands of a line, and after a FOR those that it holds
+-- the commands of a line, and those that a FOR contains
 abbrev pub commands : List ActionTree → CommandTrees
 commands [] = finished
 commands (a ∷ actions) = then_command (Does 0 None a) (commands actions)
@@ -64,7 +64,7 @@ routine ls = Named_routine (82 ∷ []) (lines ls) ∷ []
 abbrev pub first_entry : EntryId
 first_entry = record { routine = 0; line = 0 }
 
--- A lone job from the first line on: it goes on by itself, takes a choice, and so on.
+-- A lone job from the first line on: it runs by itself, makes a choice, and so on.
 abbrev pub then_state : (Job → State) → Stepped → State
 then_state f (Ok j) = f j
 then_state f (Err why) = Stuck

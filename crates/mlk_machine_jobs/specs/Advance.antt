@@ -1,5 +1,5 @@
--- One step of a job: what its first task makes of it, each kind of task by a clause. Restates ISO/IEC 11756, commands
--- and expressions.
+-- One step of a job: the effect of its first task, with a clause for each kind of task. Restates ISO/IEC 11756, commands and
+-- expressions.
 use Rattle.std.specs.Prelude.{suc, ◌+◌, Bool, if◌then◌else◌, List, [], ◌∷◌, ◌++◌, take, drop, Ok, Err}
 use Rattle.std.specs.Fmt.{decimal}
 use Rattle.mlk_names.specs.declared.lock_name.LockName.{LockName}
@@ -23,7 +23,7 @@ use Rattle.mlk_machine_jobs.specs.Lines.{skipped, to_end, quit, answered, tasks_
 use Rattle.mlk_machine_jobs.specs.Lines.{parameter_parts, first_round, later_round}
 use Rattle.mlk_machine_jobs.specs.Calling.{count_given, call_frame, called, called_if, back_to, frame_end}
 
--- What a job's first task makes of it, where these names are free. The tasks after it are `ts`.
+-- The effect of a job's first task, given which names are free. The tasks after it are `ts`.
 abbrev pub advance : List RoutineTree → (LockName → Bool) → Choice → Job → List Task → Stepped
 advance routines free c j [] = Err NotEnabled
 advance routines free c j (task.Evaluate t ∷ ts) = without_choice c (Ok (doing (parts_of t ++ ts) j))

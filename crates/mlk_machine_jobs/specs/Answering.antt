@@ -1,4 +1,4 @@
--- The frame that QUIT with a value gives it to. This project's own.
+-- The frame that receives the value of QUIT. This project's own.
 use Rattle.std.specs.Prelude.{Bool, true, false, List, [], ◌∷◌}
 use Rattle.mlk_machine_jobs.specs.Tasks.{Task, EndFrame, AwaitsValue, HasValue}
 

@@ -1,4 +1,4 @@
--- What SET and MERGE do once all that they need was computed. Restates ISO/IEC 11756, SET, MERGE.
+-- SET and MERGE once everything that they need was computed. Restates ISO/IEC 11756, SET, MERGE.
 use Rattle.std.specs.Prelude.{ℕ, ◌+◌, List, [], ◌∷◌, ◌++◌, length, take, drop}
 use Rattle.mlk_names.specs.declared.reference.Extent.TheVariants as extent
 use Rattle.mlk_names.specs.declared.reference.Access.TheVariants.{Reads, Writes}
@@ -9,9 +9,9 @@ use Rattle.mlk_machine_jobs.specs.Tasks.{Task}
 use Rattle.mlk_machine_jobs.specs.Commands.{count_in}
 use Rattle.mlk_machine_jobs.specs.Choices.{touch_at}
 
--- The assignments of SET, from left to right, of a value and the values that the targets need: a target that is part of
--- a global is read, and then written; a local that is assigned a part may have any value then. Nothing is kept of what
--- a local with subscripts has.
+-- The assignments of SET, from left to right, of a value, given the values that the targets need: a target that is part of a
+-- global is read, and then written; a local to a part of which a value is assigned may have any value then. The values of locals
+-- with subscripts are not tracked.
 abbrev pub assigned : List ℕ → List (List ℕ) → TargetTree → List Task
 assigned value subs (SetWhole (Named column (LocalName name no_subs))) = task.Store name value ∷ []
 assigned value subs (SetWhole (Named column (GlobalName caret name ss))) =
@@ -39,8 +39,8 @@ assignments value needs [] = []
 assignments value needs (t ∷ ts) =
     assigned value (take (subs_of_target t) needs) t ++ assignments value (drop (parts_in t) needs) ts
 
--- MERGE, of the subscripts of both sides: the tree on the right is read, then the left one is written. What a local
--- without subscripts is merged with may have any value.
+-- MERGE, given the subscripts of both sides: the tree on the right is read, then the left one is written. A local without
+-- subscripts may have any value then.
 abbrev pub merge_source : List (List ℕ) → VariableTree → List Task
 merge_source subs (Named column (GlobalName caret name ss)) = task.DoTouch (touch_at name subs extent.Tree Reads) ∷ []
 merge_source subs v = []

@@ -1,5 +1,5 @@
--- Calls: what formals are bound to, and what the end of a block or of a frame puts back. Restates ISO/IEC 11756,
--- parameter passing, DO, extrinsic functions, QUIT.
+-- Calls: the bindings of formals, and what the end of a block or frame restores. Restates ISO/IEC 11756, parameter passing, DO,
+-- extrinsic functions, QUIT.
 use Rattle.std.specs.Prelude.{ℕ, suc, Bool, true, false, List, [], ◌∷◌, ◌++◌, drop, Option, Some, None, Ok, Err, slice_get}
 use Rattle.mlk_machine_locks.specs.declared.refusal.Refusal.TheVariants.{NotEnabled}
 use Rattle.mlk_syntax.specs.ExprTrees.{ActualTree, Given, ByRef, Missing}
@@ -21,7 +21,7 @@ abbrev pub later_actuals : List ActualTree → List ActualTree
 later_actuals [] = []
 later_actuals (a ∷ given) = given
 
--- A formal is bound to the cell of a name that is given by reference, and else to a new one.
+-- A formal is bound to the cell of a name that is passed by reference, otherwise to a new one.
 abbrev pub binder : Bindings → ℕ → List ℕ → ActualTree → Binder
 binder caller g f (ByRef column name) = ByReference f (look caller name)
 binder caller g f (Given t) = Fresh g (Only f)
@@ -32,7 +32,7 @@ binders caller g [] given = []
 binders caller g (f ∷ formals) given =
     binder caller g f (next_actual given) ∷ binders caller g formals (later_actuals given)
 
--- The cell of a formal that is given a value has that value.
+-- The cell of a formal that is passed by value has that value.
 abbrev pub with_actuals : ℕ → List (List ℕ) → List ActualTree → List (List ℕ) → Cells → Cells
 with_actuals g (f ∷ formals) (Given t ∷ given) (v ∷ values) cells =
     with_actuals g formals given values (put_value (record { generation = g; name = f }) v cells)
@@ -40,7 +40,7 @@ with_actuals g (f ∷ formals) (ByRef column name ∷ given) values cells = with
 with_actuals g (f ∷ formals) (Missing ∷ given) values cells = with_actuals g formals given values cells
 with_actuals g formals given values cells = cells
 
--- how many actuals are values
+-- the number of actuals that are passed by value
 abbrev pub count_given : List ActualTree → ℕ
 count_given [] = 0
 count_given (Given t ∷ given) = suc (count_given given)
@@ -66,7 +66,7 @@ abbrev pub call_frame : Bool → Job → Frame
 call_frame true j = AwaitsValue j.test
 call_frame false j = NoValue
 
--- A call: the formals are bound, the lines run, and at the frame's end all is as it was.
+-- A call: the formals are bound, the lines run, and the frame's end restores everything.
 abbrev pub entered : Frame → ℕ → List ActualTree → List LineTree → List Task → Job → Stepped
 entered frame r given [] ts j = Err NotEnabled
 entered frame r given ((head, block) ∷ lines) ts j =
@@ -84,16 +84,16 @@ abbrev pub called : List RoutineTree → Frame → Option EntryId → List Actua
 called routines frame None given ts j = Err NotEnabled
 called routines frame (Some e) given ts j = entered frame e.routine given (lines_after routines e) ts j
 
--- DO of a label with a postconditional: where that is false, the actuals were computed for nothing
+-- DO with a label and a postconditional: if that is false, the values of the actuals are dropped
 abbrev pub called_if : Bool → List RoutineTree → Option EntryId → List ActualTree → List Task → Job → Stepped
 called_if true routines entry given ts j = called routines NoValue entry given ts j
 called_if false routines entry given ts j = Ok (doing ts (dropped (count_given given) j))
 
--- the bindings as they were, and the cells made since then forgotten
+-- the bindings are restored, and the cells that were created since then are removed
 abbrev pub back_to : Bindings → ℕ → Job → Job
 back_to back next j = record j { bindings = back; next = next; cells = forgotten next j.cells }
 
--- The end of a frame: one of `$$` puts `$TEST` back, and gives any value where QUIT gave none.
+-- The end of a frame: that of an extrinsic call restores `$TEST`, and returns any value if QUIT provided none.
 abbrev pub frame_end : Choice → Frame → Job → Stepped
 frame_end c NoValue j = without_choice c (Ok j)
 frame_end c (AwaitsValue test) j = with_value c (λ v. Ok (pushed v (tested test j)))

@@ -1,4 +1,4 @@
--- What a command is replaced by, argument by argument. Restates ISO/IEC 11756, commands.
+-- The tasks of a command, argument by argument. Restates ISO/IEC 11756, commands.
 use Rattle.std.specs.Prelude.{ℕ, suc, true, false, List, [], ◌∷◌, ◌++◌, flat_map, is_some, Option, Some, None}
 use Rattle.mlk_syntax.specs.ExprTrees.{Tree, LocalName, GlobalName, Subs, no_subs, ActualTree, count_subs}
 use Rattle.mlk_syntax.specs.Trees.{VariableTree, Named, CallTree, Called, DoTree, DoCall, KillTree, KillOne, KillAllBut, NewTree, NewOne, NewAllBut, LockTree, LockNames, MergeTree, MergeInto}
@@ -11,7 +11,7 @@ use Rattle.mlk_machine_jobs.specs.Tasks as task
 use Rattle.mlk_machine_jobs.specs.Tasks.{Task, Evaluate, AskValue, Drop, FormReference, NextArgument}
 use Rattle.mlk_machine_jobs.specs.Expressions.{each_sub, each_actual}
 
--- an expression whose value is not used, and one that may be missing
+-- an expression whose value is not used, and an optional one
 abbrev pub evaluated : Tree → List Task
 evaluated t = Evaluate t ∷ Drop 1 ∷ []
 
@@ -42,12 +42,12 @@ do_parts (DoCall (Called column callee given) None) =
 do_parts (DoCall (Called column callee given) (Some condition)) =
     each_actual (given_in given) ++ Evaluate condition ∷ task.CallIf callee (given_in given) ∷ []
 
--- a block; where the line has none there is nothing to do
+-- a block; nothing if the line has none
 abbrev pub block_parts : LineTrees → List Task
 block_parts no_lines = []
 block_parts (line head block rest) = task.Block (line head block rest) ∷ []
 
--- JOB evaluates its actuals: the job that it starts is another one
+-- JOB evaluates its actuals; the job that it starts is a separate one
 abbrev pub job_parts : CallTree → List Task
 job_parts (Called column callee given) = each_actual (given_in given) ++ task.StartJob callee (given_in given) ∷ []
 
@@ -67,7 +67,7 @@ abbrev pub new_parts : NewTree → List Task
 new_parts (NewOne column name) = task.NewNames (Only name) ∷ []
 new_parts (NewAllBut names) = task.NewNames (AllBut names) ∷ []
 
--- LOCK: the names, then the timeout, then what the sign says
+-- LOCK: the names, then the timeout, then the effect by the sign
 abbrev pub lock_parts : LockTree → List Task
 lock_parts (LockNames sign names timeout) =
     flat_map in_variable names ++ evaluated_if timeout ++ task.LockNamed sign names (is_some timeout) ∷ []
@@ -75,7 +75,7 @@ lock_parts (LockNames sign names timeout) =
 abbrev pub merge_parts : MergeTree → List Task
 merge_parts (MergeInto target source) = in_variable target ++ in_variable source ++ task.Merge target source ∷ []
 
--- the last value is stored in a local without subscripts
+-- stores the last value in a local without subscripts
 abbrev pub store_last : VariableTree → List Task
 store_last (Named column (LocalName name no_subs)) = task.StoreLast name ∷ []
 store_last (Named column _) = Drop 1 ∷ []
@@ -109,13 +109,13 @@ write_parts (WriteValue t) = evaluated t
 write_parts (WriteCharacter t) = evaluated t
 write_parts (WriteFormat tab) = evaluated_if tab
 
--- The arguments of a command one after another, each a command of its own: so many are done before these.
+-- The arguments of a command one after another, each like a command of its own; `done` of them precede these.
 abbrev pub in_turn : {A : Type 0} → (A → List Task) → ActionTree → ℕ → List A → List Task
 in_turn parts action done [] = []
 in_turn parts action done (a ∷ more) = parts a ++ NextArgument action (suc done) ∷ in_turn parts action (suc done) more
 
--- The parts of a command on a line with this block. Without arguments DO runs the block, IF asks `$TEST`, KILL and NEW
--- are of all locals, LOCK releases all.
+-- The tasks of a command on a line with a given block. Without arguments DO runs the block, IF tests `$TEST`, KILL and NEW
+-- affect all locals, LOCK releases all locks.
 abbrev pub action_parts : LineTrees → ActionTree → List Task
 action_parts block (Do []) = block_parts block
 action_parts block (Do (c ∷ calls)) = in_turn do_parts (Do (c ∷ calls)) 0 (c ∷ calls)

@@ -1,6 +1,6 @@
--- What an expression is replaced by. All is from left to right, and the subscripts of a name come before it is touched.
--- Restates ISO/IEC 11756, expressions, functions, special variables. Which values are known is this project's own
--- choice: all others may be any.
+-- The tasks of an expression. Everything is from left to right, and the subscripts of a name come before its touch. Restates
+-- ISO/IEC 11756, expressions, functions, special variables. Which values are known is this project's own choice: all others may
+-- be any.
 use Rattle.std.specs.Prelude.{ℕ, suc, ◌-◌, ◌+◌, Bool, true, false, List, [], ◌∷◌, ◌++◌}
 use Rattle.mlk_syntax.specs.declared.expr.Special.{Special}
 use Rattle.mlk_syntax.specs.declared.expr.Special.TheVariants as special
@@ -13,7 +13,7 @@ use Rattle.mlk_names.specs.declared.reference.Extent.TheVariants as extent
 use Rattle.mlk_names.specs.declared.reference.Access.TheVariants.{Reads}
 use Rattle.mlk_machine_jobs.specs.Tasks.{Task, Evaluate, Push, Fetch, PushJob, PushTest, ApplyUnary, ApplyBinary, AskValue, Drop, Select, FormReference, Call}
 
--- subscripts, and how many there are
+-- subscripts, and their number
 abbrev pub each_sub : Subs → List Task
 each_sub no_subs = []
 each_sub (sub column t rest) = Evaluate t ∷ each_sub rest
@@ -26,11 +26,11 @@ abbrev pub count_trees : Trees → ℕ
 count_trees no_trees = 0
 count_trees (tree t ts) = suc (count_trees ts)
 
--- a global is read, to this extent
+-- a global is read, with the given extent
 abbrev pub read_global : List ℕ → Subs → Extent → List Task
 read_global name subs e = each_sub subs ++ FormReference name (count_subs subs) e Reads ∷ []
 
--- a local has a value of its own where it has no subscripts
+-- only a local without subscripts has a value of its own
 abbrev pub read_local : List ℕ → Subs → List Task
 read_local name no_subs = Fetch name ∷ []
 read_local name (sub column t rest) = each_sub (sub column t rest) ++ AskValue (count_subs (sub column t rest)) ∷ []
@@ -50,7 +50,7 @@ special_parts _ = AskValue 0 ∷ []
 abbrev pub unused : Trees → List Task
 unused ts = each_tree ts ++ Drop (count_trees ts) ∷ []
 
--- how many subscripts a name has besides its last one
+-- the number of subscripts of a name except its last one
 abbrev pub above : Subs → ℕ
 above subs = count_subs subs - 1
 
@@ -68,7 +68,7 @@ of_global function.Name name subs more =
 of_global f name subs more =
     read_global name subs extent.Node ++ each_tree more ++ AskValue (suc (count_trees more)) ∷ []
 
--- functions that are given a name, and no value
+-- functions whose first argument is a name, not a value
 abbrev pub takes_name : Function → Bool
 takes_name function.Data = true
 takes_name function.Get = true
@@ -77,7 +77,7 @@ takes_name function.Query = true
 takes_name function.Name = true
 takes_name _ = false
 
--- A local is not touched, so a function of one asks for one value, after all its arguments; a function of values too.
+-- A local is not touched, so a function of one asks for one value, after all its arguments; so does a function of values.
 abbrev pub function_parts : Function → Bool → Trees → List Task
 function_parts f true (tree (GlobalName column name subs) more) = of_global f name subs more
 function_parts f true (tree (LocalName name subs) more) =

@@ -1,4 +1,4 @@
--- The definition's jobs of the code's. This project's own.
+-- The definition's jobs, from those of the code. This project's own.
 use Rattle.std.specs.Prelude.{◌≡◌, ◌≤◌, ℕ, List, [], map, reverse, take, length}
 use Rattle.std.specs.Vec.{vec_capacity}
 use Rattle.mlk_names.specs.declared.lock_name.LockName.{LockName}
@@ -20,7 +20,7 @@ frame_of frame.NoValue = NoValue
 frame_of (frame.AwaitsValue test) = AwaitsValue test
 frame_of (frame.HasValue test) = HasValue test
 
--- an end puts back as many of the binders as there were
+-- an end restores as many of the binders as there were
 abbrev pub pending_of : List BinderIn → Pending → Task
 pending_of binders (pending.Task t) = task_of t
 pending_of binders (pending.EndBlock back test) =
@@ -32,7 +32,7 @@ pending_of binders (pending.EndFrame frame back routine) =
 abbrev pub tasks_of : List BinderIn → List Pending → List Task
 tasks_of binders ps = reverse (map (pending_of binders) ps)
 
--- each generation has a table, so their number is the first unused one
+-- each generation has a table, so the number of tables is the first unused generation
 abbrev pub job_of : JobIn → Job
 job_of j = record {
   number = j.number;
@@ -47,14 +47,14 @@ job_of j = record {
   stopped = j.stopped;
 }
 
--- what is held after a release
+-- the locks that are held after a release
 abbrev pub releasing : List LockName → Job → Job
 releasing names j = record j { held = all_lowered names j.held }
 
 abbrev pub holding_nothing : Job → Job
 holding_nothing j = record j { held = [] }
 
--- a name has no value any more
+-- a name loses its value
 abbrev pub cleared : List ℕ → Job → Job
 cleared name j = record j { cells = without (look j.bindings name) j.cells }
 
@@ -62,7 +62,7 @@ cleared name j = record j { cells = without (look j.bindings name) j.cells }
 abbrev pub killing : Names → Job → Job
 killing names j = record j { cells = killed j.bindings names j.cells }
 
--- What is pending stays, and so does the room for it.
+-- What is pending is kept, and so is the capacity for it.
 abbrev pub KeepsPending : JobIn → JobIn → Type 0
 KeepsPending old new =
     (new.pending.items ≡ old.pending.items) × (vec_capacity old.pending ≤ vec_capacity new.pending)

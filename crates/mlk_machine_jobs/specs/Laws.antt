@@ -1,4 +1,4 @@
--- What every run of a program keeps to, whatever its jobs do.
+-- Laws of every run of a program, whatever its jobs do.
 use Rattle.std.specs.Prelude.{◌≡◌, ◌↔◌, ◌⊎◌, ℕ, zero, suc, Bool, List, [], Some, Ok, Err}
 use Rattle.mlk_names.specs.declared.lock_name.LockName.{LockName}
 use Rattle.mlk_machine_locks.specs.declared.refusal.Refusal.TheVariants.{NotEnabled}
@@ -13,15 +13,15 @@ use Rattle.mlk_machine_jobs.specs.Seen.{Silent, state, settled}
 use Rattle.mlk_machine_jobs.specs.Tasks.{Job}
 use Rattle.mlk_machine_jobs.specs.Runs.{machine, go, aborted, seen}
 
--- In every run no two jobs hold names that conflict.
+-- In every run no two jobs hold conflicting names.
 abbrev pub HeldApart : Type 0
 HeldApart = (routines : List RoutineTree) (declared : EntryId → Bool) → any.HeldApart (machine routines declared)
 
--- In every run each number is that of one job.
+-- In every run no two jobs have the same number.
 abbrev pub NumbersDistinct : Type 0
 NumbersDistinct = (routines : List RoutineTree) (declared : EntryId → Bool) → any.NumbersDistinct (machine routines declared)
 
--- Each job of a run is what its own acts alone make of it.
+-- Each job of a run is the result of its own acts.
 abbrev pub OneRunOfMany : Type 0
 OneRunOfMany = (routines : List RoutineTree) (declared : EntryId → Bool) → any.OneRunOfMany (machine routines declared)
 
@@ -29,11 +29,11 @@ OneRunOfMany = (routines : List RoutineTree) (declared : EntryId → Bool) → a
 abbrev pub LeavingOut : Type 0
 LeavingOut = (routines : List RoutineTree) (declared : EntryId → Bool) → any.LeavingOut (machine routines declared)
 
--- An event of one job leaves all others as they were.
+-- An event of one job changes no other job.
 abbrev pub ChangesOne : Type 0
 ChangesOne = (routines : List RoutineTree) (declared : EntryId → Bool) → any.ChangesOne (machine routines declared)
 
--- The test for rings finds one exactly where there is one.
+-- The test for rings finds one exactly if there is one.
 abbrev pub RingsAreFound : Type 0
 RingsAreFound = any.RingsAreFound seen
 
@@ -45,13 +45,13 @@ pub record EndedTakesNone (routines : List RoutineTree) (j : Job) : Type 0 where
 abbrev pub EndedStays : Type 0
 EndedStays = (routines : List RoutineTree) (j : Job) → j.tasks ≡ [] → EndedTakesNone routines j
 
--- so many steps without choice, where these names are free
+-- n steps without a choice, given which names are free
 abbrev pub goes : List RoutineTree → (LockName → Bool) → ℕ → Job → Stepped
 goes routines free zero j = Ok j
 goes routines free (suc n) j = and_then (goes routines free n) (go routines free choice.None j)
 
--- A job that goes on by itself makes so many steps, whatever names are free; it stops where its next task is not
--- silent, or all steps that it may make were made.
+-- A job that runs by itself makes the same steps whatever names are free; it stops when its next task is not silent, or when it
+-- has made the maximum number of steps.
 pub record Settles (routines : List RoutineTree) (most : ℕ) (j : Job) : Type 0 where
   pub by_steps : (free : LockName → Bool)
       → goes routines free (settled routines most j).1 j ≡ Ok (settled routines most j).0

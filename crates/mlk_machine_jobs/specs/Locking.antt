@@ -1,5 +1,5 @@
--- What LOCK does once its subscripts were computed. Restates ISO/IEC 11756, LOCK; that a name which stands in one
--- argument several times counts so often, and the greatest count, are this project's own choice.
+-- LOCK once its subscripts were computed. Restates ISO/IEC 11756, LOCK; that a name which occurs several times in one
+-- argument counts as often, and the greatest count, are this project's own choice.
 use Rattle.std.specs.Prelude.{ℕ, ◌+◌, Bool, true, false, ◌&&◌, List, [], ◌∷◌, take, drop, Ok, Err}
 use Rattle.std.specs.List.{list_all}
 use Rattle.mlk_text.specs.declared.root.Root.{Root}
@@ -17,7 +17,7 @@ use Rattle.mlk_machine_jobs.specs.Tasks.{Task, Job}
 use Rattle.mlk_machine_jobs.specs.Commands.{count_in}
 use Rattle.mlk_machine_jobs.specs.Choices.{Stepped, without_choice, with_truth}
 
--- Lock names of subscripts that were computed.
+-- Lock names, with subscripts that were computed.
 abbrev pub root_in : VariableTree → Root
 root_in (Named column (GlobalName caret name subs)) = root.Global name
 root_in (Named column (LocalName name subs)) = root.Local name
@@ -34,7 +34,7 @@ abbrev pub names_of : List (List ℕ) → List VariableTree → List LockName
 names_of subs [] = []
 names_of subs (v ∷ names) = lock_name_of v (take (count_in v) subs) ∷ names_of (drop (count_in v) subs) names
 
--- Without a sign all is released before the claim, in a step of its own.
+-- Without a sign all locks are released before the claim, in a step of its own.
 abbrev pub by_sign : Sign → List LockName → Bool → List Task
 by_sign sign.None names timed = task.ReleaseAll ∷ task.Claim names timed ∷ []
 by_sign sign.Plus names timed = task.Claim names timed ∷ []
@@ -50,7 +50,7 @@ abbrev pub if_free : Bool → Job → Stepped
 if_free true j = Ok j
 if_free false j = Err NotEnabled
 
--- A claim is granted where all names are free and no count passes the greatest; a timed one may fail at any time.
+-- A claim is granted if all names are free and no count exceeds the maximum; a timed one may fail at any time.
 abbrev pub granted : (LockName → Bool) → List LockName → Job → Stepped
 granted free names j = if_free (list_all free names && has_room names j.held) (held_more names j)
 

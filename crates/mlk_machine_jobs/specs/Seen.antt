@@ -1,4 +1,4 @@
--- What is seen of jobs: what each does next, which two clash, and how far a job goes by itself. This project's own.
+-- What is visible of jobs: what each does next, which two clash, and how far a job runs by itself. This project's own.
 use Rattle.std.specs.Prelude.{◌≡◌, ◌≢◌, ◌⊎◌, ℕ, zero, suc, ◌==◌, Bool, true, false, if◌then◌else◌, List, [], ◌∷◌, Option, Some, None, Result, Ok, Err}
 use Rattle.mlk_names.specs.declared.lock_name.LockName.{LockName}
 use Rattle.mlk_names.specs.declared.reference.Access.TheVariants.{Writes}
@@ -12,7 +12,7 @@ use Rattle.mlk_machine_jobs.specs.Tasks.{Task, Job}
 use Rattle.mlk_machine_jobs.specs.Choices.{Stepped}
 use Rattle.mlk_machine_jobs.specs.Advance.{advance}
 
--- The reference that a job stands ready at: touching it is its next task.
+-- The reference at which a job stands ready: touching it is its next task.
 abbrev pub ready_in : List Task → Option Touch
 ready_in (task.DoTouch touch ∷ ts) = Some touch
 ready_in ts = None
@@ -20,7 +20,7 @@ ready_in ts = None
 abbrev pub ready : Job → Option Touch
 ready j = ready_in j.tasks
 
--- Two different jobs clash where both stand ready at references that overlap, one of which writes.
+-- Two different jobs clash if both stand ready at references that overlap, one of which is a write.
 pub record Clash (i j : Job) : Type 0 where
   pub different : i.number ≢ j.number
   pub one : Touch
@@ -30,11 +30,11 @@ pub record Clash (i j : Job) : Type 0 where
   pub overlap : Overlap one.region other.region
   pub writes : (one.access ≡ Writes) ⊎ (other.access ≡ Writes)
 
--- A job has ended by itself where no task is left and it was not aborted.
+-- A job has ended by itself if no task is left and it was not aborted.
 abbrev pub HasEnded : Job → Type 0
 HasEnded j = (j.tasks ≡ []) × (j.stopped ≡ false)
 
--- What a job does next, in one word.
+-- What a job does next, as a short description.
 pub data State : Type 0 where
   Ready : (touch : Touch) → State
   Claims : (names : List LockName) → (timed : Bool) → State
@@ -45,7 +45,7 @@ pub data State : Type 0 where
   Ended : State
   Stopped : State
 
--- whether a choice is asked, or no step is enabled, shows at a step without one
+-- whether a choice is asked for, or no step is enabled, is visible at a step without a choice
 abbrev pub asks : Stepped → State
 asks (Ok j) = Silent
 asks (Err BadChoice) = AsksChoice
@@ -66,7 +66,7 @@ state_in routines j ts = asks (advance routines (λ n. true) choice.None j ts)
 abbrev pub state : List RoutineTree → Job → State
 state routines j = state_in routines j j.tasks
 
--- A job goes on by itself while its next task is silent, at most so many steps: the job then, and the steps made.
+-- A job runs by itself while its next task is silent, at most a given number of steps: the job then, and the steps made.
 abbrev pub silent_step : List RoutineTree → Job → State → Stepped
 silent_step routines j Silent = advance routines (λ n. true) choice.None j j.tasks
 silent_step routines j s = Err NotEnabled
@@ -82,7 +82,7 @@ settled routines (suc most) j = go_on (λ i. settled routines most i) j (silent_
 abbrev pub most_silent_steps : ℕ
 most_silent_steps = 65536
 
--- The jobs once the one of this number has gone on by itself, and how many steps it made.
+-- The jobs once the one with a given number has run by itself, and how many steps it made.
 abbrev pub behind : Job → Result (List Job × ℕ) Refusal → Result (List Job × ℕ) Refusal
 behind j (Ok r) = Ok (j ∷ r.0, r.1)
 behind j (Err why) = Err why

@@ -1,4 +1,4 @@
--- What a job of the code keeps to: the cell that a name is bound to has a table, now and at the end of each block and
+-- The invariant of a job of the code: the cell to which a name is bound has a table, now and at the end of each block and
 -- frame that the job is in. This project's own.
 use Rattle.std.specs.Prelude.{ℕ, ◌<◌, ◌≤◌, List, [], ◌∷◌, length, take, reverse}
 use Rattle.mlk_machine_jobs.specs.declared.binding.Binder.{Binder as BinderIn}
@@ -12,7 +12,7 @@ use Rattle.mlk_machine_jobs.specs.Views.{bindings_of}
 abbrev pub HaveTables : ℕ → List BinderIn → Type 0
 HaveTables n bs = (name : List ℕ) → (look (bindings_of bs) name).generation < n
 
--- how things were at a begin, where there are at most so many binders and so many tables inside
+-- the situation at a begin, inside at most `count` binders and `n` tables
 pub record IsWithin (bs : List BinderIn) (count n : ℕ) (back : Back) : Type 0 where
   pub binders : back.binders ≤ count
   pub next : back.next ≤ n
@@ -27,7 +27,7 @@ AreNested bs count n (pending.EndBlock back test ∷ ps) =
 AreNested bs count n (pending.EndFrame frame back routine ∷ ps) =
     IsWithin bs count n back × AreNested bs back.binders back.next ps
 
--- of the binders, the number of tables, and what is still to be done
+-- about the binders, the number of tables, and the pending items
 pub record Stands (bs : List BinderIn) (n : ℕ) (ps : List Pending) : Type 0 where
   pub tables : HaveTables n bs
   pub nested : AreNested bs (length bs) n (reverse ps)

@@ -1,4 +1,4 @@
--- The definition's tasks of the code's. This project's own.
+-- The definition's tasks, from those of the code. This project's own.
 use Rattle.std.specs.Prelude.{◌≡◌, Bool, true, false, List, ◌++◌, map, option_map}
 use Rattle.mlk_names.specs.References.{Touch}
 use Rattle.mlk_syntax.specs.ExprTrees.{tree_of, choices, choices_from, actual_trees}
@@ -33,7 +33,7 @@ abbrev pub is_extrinsic : Calling → Bool
 is_extrinsic calling.ByDo = false
 is_extrinsic calling.Extrinsic = true
 
--- a FOR with the rest of its line, and what is left of a line
+-- a FOR with the rest of its line, and the rest of a line
 abbrev pub for_of : For → CommandTrees
 for_of f = fold-For CommandTrees CommandTrees commands_step for_step f
 

@@ -1,5 +1,5 @@
--- What a job is, and what it has to do. Restates ISO/IEC 11756, the process and its stack; the tasks are this project's
--- own. A job does its first task, which is replaced by its parts until it is one step.
+-- What a job is, and its tasks. Restates ISO/IEC 11756, the process and its stack; the tasks are this project's own. A job takes
+-- its first task, which is replaced by its parts until it is a single step.
 use Rattle.std.specs.Prelude.{ℕ, Bool, List, [], ◌∷◌}
 use Rattle.mlk_text.specs.declared.operator.Op.{Op}
 use Rattle.mlk_text.specs.declared.operator.UnaryOp.{UnaryOp}
@@ -14,8 +14,8 @@ use Rattle.mlk_syntax.specs.Trees.{VariableTree, TargetTree, ActionTree, Command
 use Rattle.mlk_machine_jobs.specs.Bindings.{Names, Bindings, Cells}
 use Rattle.mlk_machine_locks.specs.Counts.{Counts}
 
--- What a frame owes: one that a job or DO begins gives no value; one of `$$` gives a value and puts `$TEST` back, and
--- has its value already where QUIT had an argument.
+-- What a frame owes: one that a job or DO begins returns no value; one of an extrinsic call returns a value and restores
+-- `$TEST`, and has its value already if QUIT had an argument.
 pub data Frame : Type 0 where
   NoValue : Frame
   AwaitsValue : (test : Bool) → Frame
@@ -26,7 +26,7 @@ abbrev pub LineTree : Type 0
 LineTree = HeadTree × LineTrees
 
 pub data Task : Type 0 where
-  -- Expressions. Each leaves one more value.
+  -- Expressions. Each pushes one value.
   Evaluate : (t : Tree) → Task
   Push : (value : List ℕ) → Task
   Fetch : (name : List ℕ) → Task
@@ -34,18 +34,17 @@ pub data Task : Type 0 where
   PushTest : Task
   ApplyUnary : (op : UnaryOp) → Task
   ApplyBinary : (op : Op) → Task
-  -- so many values are used up, and any value is given
+  -- drops `count` values, and pushes any value
   AskValue : (count : ℕ) → Task
-  -- so many values are not used
+  -- drops `count` values
   Drop : (count : ℕ) → Task
-  -- `$SELECT`: its conditions from here on; the value beside a condition that was evaluated, and the conditions after
-  -- it
+  -- `$SELECT`: its conditions from here on; the value for a condition that was evaluated, and the conditions after it
   Select : (choices : Choices) → Task
   Selected : (value : Tree) → (others : Choices) → Task
-  -- a global whose subscripts, so many, were evaluated; and the reference itself, which is touched in one step
+  -- a global with `count` subscripts, which were evaluated; and the reference itself, which is touched in one step
   FormReference : (name : List ℕ) → (count : ℕ) → (extent : Extent) → (access : Access) → Task
   DoTouch : (touch : Touch) → Task
-  -- Locals. A value is stored, any value, or the last one.
+  -- Locals. A given value is stored, any value, or the last one.
   Store : (name value : List ℕ) → Task
   StoreAny : (name : List ℕ) → Task
   StoreLast : (name : List ℕ) → Task
@@ -54,31 +53,30 @@ pub data Task : Type 0 where
   -- SET: the targets, whose subscripts and arguments were evaluated before the value; MERGE: both sides
   Assign : (targets : List TargetTree) → Task
   Merge : (target source : VariableTree) → Task
-  -- Conditions. `$TEST` is set by the last value, or by a choice; the rest of the line is skipped where `$TEST` is
-  -- this.
+  -- Conditions. `$TEST` is set by the last value, or by a choice; the rest of the line is skipped if `$TEST` is `test`.
   SetTest : Task
   AskTest : Task
   SkipIf : (test : Bool) → Task
-  -- a command whose postconditional was evaluated, on a line with this block
+  -- a command whose postconditional was evaluated, on a line with a given block
   Conditionally : (action : ActionTree) → (block : LineTrees) → Task
   -- Locks. The names of an argument, whose subscripts were evaluated, and then the names themselves.
   LockNamed : (sign : Sign) → (names : List VariableTree) → (timed : Bool) → Task
   Claim : (names : List LockName) → (timed : Bool) → Task
   Release : (names : List LockName) → Task
   ReleaseAll : Task
-  -- Calls. The actuals were evaluated, and the postconditional of the argument where it has one.
+  -- Calls. The actuals were evaluated, and the postconditional of the argument if it has one.
   Call : (extrinsic : Bool) → (callee : Callee) → (actuals : List ActualTree) → Task
   CallIf : (callee : Callee) → (actuals : List ActualTree) → Task
   Block : (lines : LineTrees) → Task
   -- JOB: the actuals were evaluated.
   StartJob : (callee : Callee) → (actuals : List ActualTree) → Task
-  -- Lines and commands; the commands are what is left of this line.
+  -- Lines and commands; the commands are the rest of a line.
   RunLines : (lines : List LineTree) → Task
   RunCommands : (commands : CommandTrees) → (here : LineTree) → Task
-  -- after so many arguments of a command
+  -- after `done` arguments of a command
   NextArgument : (action : ActionTree) → (done : ℕ) → Task
-  -- FOR: the parameters that are left; each round of one without an argument; the next value of one without a limit;
-  -- whether a first round, or a later one, is run where there is a limit
+  -- FOR: the remaining parameters; each round of one without an argument; the next value of one without a limit; whether a first
+  -- round, or another one, is run if there is a limit
   Parameters : (variable : List ℕ) → (parameters : List ParameterTree) → (rest : CommandTrees) → (here : LineTree)
       → Task
   Forever : (rest : CommandTrees) → (here : LineTree) → Task
@@ -87,19 +85,19 @@ pub data Task : Type 0 where
       → Task
   LaterRound : (variable : List ℕ) → (parameters : List ParameterTree) → (rest : CommandTrees) → (here : LineTree)
       → Task
-  -- The ends of what a job is in. QUIT and HALT cut the tasks.
+  -- The ends of what a job is in. QUIT and HALT remove tasks.
   QuitHere : Task
   QuitWithValue : Task
   HaltJob : Task
-  -- The end of a block, and of a frame: the bindings, the first unused generation, `$TEST` and the routine, counted
-  -- from 0, as they were at its begin.
+  -- The end of a block, and of a frame: the bindings, the first unused generation, `$TEST` and the routine, by its index, as they
+  -- were at its begin.
   EndBlock : (back : Bindings) → (next : ℕ) → (test : Bool) → Task
   EndFrame : (frame : Frame) → (back : Bindings) → (next routine : ℕ) → Task
 
 pub record Job : Type 0 where
   pub number : ℕ
   pub test : Bool
-  -- the routine that runs, counted from 0
+  -- the index of the running routine
   pub routine : ℕ
   pub bindings : Bindings
   -- the first generation that no binder has
@@ -111,7 +109,7 @@ pub record Job : Type 0 where
   pub tasks : List Task
   pub stopped : Bool
 
--- The open blocks and frames of a job, the innermost first: what each puts back at its end.
+-- The open blocks and frames of a job, the innermost first: what each restores at its end.
 pub data Mark : Type 0 where
   BlockMark : (back : Bindings) → (next : ℕ) → (test : Bool) → Mark
   FrameMark : (frame : Frame) → (back : Bindings) → (next routine : ℕ) → Mark

@@ -1,4 +1,4 @@
--- The definition's values of the code's. This project's own.
+-- The definition's values, from those of the code. This project's own.
 use Rattle.std.specs.Prelude.{◌≡◌, ℕ, List, map, reverse, bytes_eq, if◌then◌else◌, Option, Some, None, slice_get}
 use Rattle.std.specs.Map.{lookup}
 use Rattle.mlk_machine_jobs.specs.declared.binding.Names.{Names as NamesIn}
@@ -24,16 +24,16 @@ binder_of (binder.ByReference formal cell) = ByReference formal.now (cell_of cel
 abbrev pub bindings_of : List BinderIn → Bindings
 bindings_of binders = reverse (map binder_of binders)
 
--- the cell that one binder binds a name to, if it binds it
+-- the cell to which one binder binds a name, if it binds it
 abbrev pub bound_by : Binder → List ℕ → Option Cell
 bound_by (Fresh g names) n = if covers names n then Some (record { generation = g; name = n }) else None
 bound_by (ByReference formal cell) n = if bytes_eq formal n then Some cell else None
 
--- The values of one generation, and of all: what has no table has no values.
+-- The values of one generation, and of all: a generation without a table has no values.
 abbrev pub in_table : CellTable → List ℕ → Option (List ℕ)
 in_table t n = lookup (λ k. bytes_eq n k.now) t.values.entries
 
--- this value, or none, is put at a name
+-- sets or removes the value of a name
 abbrev pub PutsValue : List ℕ → Option (List ℕ) → CellTable → CellTable → Type 0
 PutsValue name value old new = (n : List ℕ) → in_table new n ≡ (if bytes_eq name n then value else in_table old n)
 
@@ -44,6 +44,6 @@ value_in n (Some t) = in_table t n
 abbrev pub value_at : List CellTable → Cells
 value_at tables c = value_in c.name (slice_get tables c.generation)
 
--- a cell is left without a value
+-- a cell loses its value
 abbrev pub without : Cell → Cells → Cells
 without cell cells c = if same_cell cell c then None else cells c

@@ -1,4 +1,4 @@
-// What a step asks for, and what it is given.
+// What a step asks for, and the choice that it is given.
 
 ghost use Rattle.std.specs.Prelude.{◌≡◌, List, ℕ, Bool, Ok};
 ghost use Rattle.mlk_machine_locks.specs.Systems.{and_then};
@@ -9,7 +9,7 @@ use crate::choice::Choice;
 use mlk_machine_locks::Refusal;
 use mlk_text::Value;
 
-/// Nothing may be chosen at a step that asks nothing.
+/// Checks that nothing is chosen. Refused as `BadChoice` otherwise.
 pub fn not_asked(choice: &Choice) -> Result<(), Refusal>
     ensures { (j : Job) → without_choice choice.now (Ok j) ≡ and_then (λ _. Ok j) result }
 {
@@ -19,7 +19,7 @@ pub fn not_asked(choice: &Choice) -> Result<(), Refusal>
     }
 }
 
-/// The value that is chosen.
+/// The value that is chosen. Refused as `BadChoice` if the choice is not a value.
 pub fn asked_value(choice: Choice) -> Result<Value, Refusal>
     ensures { (f : List ℕ → Stepped) → with_value choice f ≡ and_then f result }
 {
@@ -29,7 +29,7 @@ pub fn asked_value(choice: Choice) -> Result<Value, Refusal>
     }
 }
 
-/// The truth that is chosen.
+/// The truth value that is chosen. Refused as `BadChoice` if the choice is not one.
 pub fn asked_truth(choice: &Choice) -> Result<bool, Refusal>
     ensures { (f : Bool → Stepped) → with_truth choice.now f ≡ and_then f result }
 {

@@ -7,21 +7,21 @@ ghost use Rattle.mlk_machine_jobs.specs.Views.{names_of, cell_of, binder_of, bin
 
 use mlk_text::Name;
 
-/// One name, or all names but these.
+/// One name, or all names except these.
 #[derive(Clone, Copy, Drop)]
 pub enum Names<'a> {
     Only(&'a Name),
     AllBut(&'a [Name]),
 }
 
-/// A cell: which NEW or call made it, and the name that it was made for.
+/// A cell, identified by the generation of the NEW or call that created it and the name for which it was created.
 #[derive(Clone, Copy, Drop)]
 pub struct Cell<'a> {
     pub generation: usize,
     pub name: &'a [u8],
 }
 
-/// What binds names to cells.
+/// A change of bindings.
 #[derive(Clone, Copy, Drop)]
 pub enum Binder<'a> {
     /// new cells of this generation
@@ -42,7 +42,7 @@ fn is_among(names: &[Name], name: &[u8]) -> bool
     names.iter().any(|other| is_same(name, other.as_bytes()))
 }
 
-/// Whether these names have this one.
+/// Whether `names` include `name`.
 pub fn covers(names: Names, name: &[u8]) -> bool
     ensures { result ≡ covers (names_of names.entry) name.now }
 {
@@ -52,14 +52,14 @@ pub fn covers(names: Names, name: &[u8]) -> bool
     }
 }
 
-/// Whether two cells are one.
+/// Whether two cells are the same.
 pub fn same_cell(first: Cell, second: Cell) -> bool
     ensures { result ≡ same_cell (cell_of first.entry) (cell_of second.entry) }
 {
     first.generation == second.generation && is_same(first.name, second.name)
 }
 
-// The cell that a binder binds a name to, if it binds it.
+// The cell to which `binder` binds `name`, or `None` if it does not bind it.
 fn bound<'a>(binder: Binder<'a>, name: &'a [u8]) -> Option<Cell<'a>>
     ensures { option_map cell_of result ≡ bound_by (binder_of binder.entry) name.now }
 {
@@ -81,7 +81,7 @@ fn bound<'a>(binder: Binder<'a>, name: &'a [u8]) -> Option<Cell<'a>>
     }
 }
 
-/// The cell that a name is bound to: the last binder that binds it decides.
+/// The cell to which `name` is bound: by the last binder that binds it.
 pub fn look<'a>(binders: &[Binder<'a>], name: &'a [u8]) -> Cell<'a>
     ensures { cell_of result ≡ look (bindings_of binders.now) name.now }
 {

@@ -1,4 +1,4 @@
-// What cells hold.
+// The values of cells.
 
 ghost use Rattle.std.specs.Prelude.{◌≡◌, ◌<◌, ℕ, suc, List, length, Some, None, option_copied, slice_get, IfOk, OnOk, OnErr, min, map, not, if◌then◌else◌};
 ghost use Rattle.mlk_machine_jobs.specs.Bindings.{put_value, forgotten};
@@ -11,7 +11,7 @@ use indexmap::IndexMap;
 use mlk_text::Value;
 use std::alloc::{AllocError, Global};
 
-/// The values of the cells of one generation, each by its name.
+/// The values of the cells of one generation, by name.
 #[derive(Drop)]
 pub struct CellTable<'a> {
     values: IndexMap<&'a [u8], Value>,
@@ -27,7 +27,7 @@ impl<'a> CellTable<'a> {
         }
     }
 
-    /// A table with the same values.
+    /// Copies the table.
     #[tactic(auto, using(crate::proofs::CellLemmas::same_entries))]
     pub fn copy(&self) -> Result<CellTable<'a>, AllocError>
         ensures { IfOk result (λ copy. (n : List ℕ) → in_table copy n ≡ in_table self.now n) }
@@ -37,14 +37,14 @@ impl<'a> CellTable<'a> {
         })
     }
 
-    // The value of a name. It takes no memory.
+    // The value of `name`, or `None`. Allocates nothing.
     fn value(&self, name: &[u8]) -> Option<&Value>
         ensures { option_copied result ≡ in_table self.now name.now }
     {
         self.values.get(name)
     }
 
-    /// Gives a name a value.
+    /// Sets the value of `name`.
     pub fn put(&mut self, name: &'a [u8], value: Value) -> Result<(), AllocError>
         ensures ok { OnOk result (PutsValue name.now (Some value) self.old self.new) }
         ensures err { OnErr result ((n : List ℕ) → in_table self.new n ≡ in_table self.old n) }
@@ -55,14 +55,14 @@ impl<'a> CellTable<'a> {
         Ok(())
     }
 
-    // Takes the value of a name away. It takes no memory.
+    // Removes the value of `name`. Allocates nothing.
     fn remove(&mut self, name: &[u8])
         ensures { PutsValue name.now None self.old self.new }
     {
         let _ = self.values.swap_remove(name);
     }
 
-    // Takes the values of the cells of this generation away that KILL takes. It takes no memory.
+    // Removes the values of the cells of this generation that KILL takes. Allocates nothing.
     fn leave_out(
         &mut self,
         generation: usize,
@@ -98,7 +98,7 @@ fn table_at<'t, 'a>(tables: &'t [CellTable<'a>], generation: usize) -> Option<&'
     tables.get(generation)
 }
 
-/// What a cell holds, if it has a value: the tables are of one generation each, from 0. It takes no memory.
+/// The value of `cell`, or `None`; `tables` are of one generation each, from 0. Allocates nothing.
 pub fn value_of<'t>(tables: &'t [CellTable], cell: Cell) -> Option<&'t Value>
     ensures { option_copied result ≡ value_at tables.now (cell_of cell.entry) }
 {
@@ -108,7 +108,7 @@ pub fn value_of<'t>(tables: &'t [CellTable], cell: Cell) -> Option<&'t Value>
     table.value(cell.name)
 }
 
-/// Gives a cell a value.
+/// Sets the value of `cell`.
 #[tactic(auto, using(crate::proofs::CellLemmas::values_put, crate::proofs::CellLemmas::values_same))]
 pub fn store<'a>(
     tables: &mut Vec<CellTable<'a>>,
@@ -124,7 +124,7 @@ pub fn store<'a>(
     tables[cell.generation].put(cell.name, value)
 }
 
-/// Leaves a cell without a value. It takes no memory.
+/// Removes the value of `cell`. Allocates nothing.
 #[tactic(auto, using(crate::proofs::CellLemmas::values_cleared))]
 pub fn clear(tables: &mut Vec<CellTable>, cell: Cell)
     requires { cell.generation < length tables.old.items }
@@ -134,7 +134,7 @@ pub fn clear(tables: &mut Vec<CellTable>, cell: Cell)
     tables[cell.generation].remove(cell.name);
 }
 
-/// Takes the values of the cells away that KILL takes. It takes no memory.
+/// Removes the values of the cells that KILL takes. Allocates nothing.
 pub(crate) fn leave_out(
     tables: &mut Vec<CellTable>,
     binders: &[Binder],
@@ -153,7 +153,7 @@ pub(crate) fn leave_out(
     }
 }
 
-/// Forgets the cells of this generation and of later ones.
+/// Removes the cells of generation `next` and of later ones.
 #[tactic(auto, using(crate::proofs::CellLemmas::values_forgotten))]
 pub fn forget(tables: &mut Vec<CellTable>, next: usize)
     ensures values { value_at tables.new.items ≡ forgotten next (value_at tables.old.items) }
@@ -162,7 +162,7 @@ pub fn forget(tables: &mut Vec<CellTable>, next: usize)
     tables.truncate(next);
 }
 
-/// One more generation, whose cells have no values.
+/// Adds a generation, whose cells have no values.
 #[tactic(auto, using(crate::proofs::CellLemmas::values_added))]
 pub fn add_generation(alloc: Global, tables: &mut Vec<CellTable>) -> Result<(), AllocError>
     ensures values { value_at tables.new.items ≡ value_at tables.old.items }

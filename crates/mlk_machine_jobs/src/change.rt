@@ -1,4 +1,4 @@
-// What steps change of a job, each change by itself.
+// The changes that steps make to a job, one function each.
 
 ghost use Rattle.std.specs.Prelude.{◌≡◌, ◌<◌, ◌++◌, map, OnOk, OnErr, [], option_copied};
 ghost use Rattle.mlk_machine_jobs.specs.Bindings.{look};
@@ -22,7 +22,7 @@ use mlk_text::Value;
 use std::alloc::{AllocError, Global};
 
 impl<'a> Job<'a> {
-    /// One more value was computed.
+    /// Pushes a value that was computed.
     pub fn push(&mut self, value: Value) -> Result<(), AllocError>
         ensures ok { OnOk result (job_of self.new ≡ pushed value (job_of self.old)) }
         ensures err { OnErr result (job_of self.new ≡ job_of self.old) }
@@ -32,14 +32,14 @@ impl<'a> Job<'a> {
         self.values.push(value)
     }
 
-    /// The last so many values, in the order in which they were computed. It takes no memory.
+    /// The last `count` values, oldest first. Allocates nothing.
     pub fn last_values(&self, count: usize) -> &[Value]
         ensures { result.now ≡ last_values count (job_of self.now) }
     {
         self.values.last(count)
     }
 
-    /// The last so many values are used up. It takes no memory.
+    /// Drops the last `count` values. Allocates nothing.
     pub fn use_up(&mut self, count: usize)
         ensures changed { job_of self.new ≡ dropped count (job_of self.old) }
         ensures sound { Sound self.old → Sound self.new }
@@ -47,7 +47,7 @@ impl<'a> Job<'a> {
         self.values.use_up(count);
     }
 
-    /// The last so many values are used up for another one.
+    /// Replaces the last `count` values by `value`.
     pub fn replace_last(&mut self, count: usize, value: Value) -> Result<(), AllocError>
         ensures ok { OnOk result (job_of self.new ≡ pushed value (dropped count (job_of self.old))) }
         ensures err { OnErr result (job_of self.new ≡ job_of self.old) }
@@ -57,7 +57,7 @@ impl<'a> Job<'a> {
         self.values.replace_last(count, value)
     }
 
-    /// A name is given a value: its cell has one of the tables.
+    /// Sets the value of `name`, whose cell is in one of the tables.
     pub fn store(&mut self, name: &'a [u8], value: Value) -> Result<(), AllocError>
         requires { (look (job_of self.old).bindings name.now).generation < (job_of self.old).next }
         ensures ok { OnOk result (job_of self.new ≡ stored name.now value (job_of self.old)) }
@@ -69,7 +69,7 @@ impl<'a> Job<'a> {
         store(&mut self.tables, cell, value)
     }
 
-    /// A name is left without a value, as is each that shares its cell. It takes no memory.
+    /// Removes the value of `name`, and of each name that shares its cell. Allocates nothing.
     pub fn clear(&mut self, name: &'a [u8])
         requires { (look (job_of self.old).bindings name.now).generation < (job_of self.old).next }
         ensures changed { job_of self.new ≡ cleared name.now (job_of self.old) }
@@ -79,7 +79,7 @@ impl<'a> Job<'a> {
         clear(&mut self.tables, cell);
     }
 
-    /// Each cell of these names is left without a value, unless a name that is spared shares it.
+    /// Removes the value of each cell of `names`, unless a name that is spared shares it.
     pub fn kill(&mut self, alloc: Global, names: Names<'a>) -> Result<(), AllocError>
         ensures ok { OnOk result (job_of self.new ≡ killing (names_of names.entry) (job_of self.old)) }
         ensures err { OnErr result (job_of self.new ≡ job_of self.old) }
@@ -98,7 +98,7 @@ impl<'a> Job<'a> {
         Ok(())
     }
 
-    /// `$TEST` is set. It takes no memory.
+    /// Sets `$TEST`. Allocates nothing.
     pub fn set_test(&mut self, truth: bool)
         ensures changed { job_of self.new ≡ tested truth (job_of self.old) }
         ensures sound { Sound self.old → Sound self.new }
@@ -106,14 +106,14 @@ impl<'a> Job<'a> {
         self.test = truth;
     }
 
-    /// What the cell holds that a name is bound to. It takes no memory.
+    /// The value of the cell to which `name` is bound, or `None`. Allocates nothing.
     pub fn value_of(&self, name: &[u8]) -> Option<&Value>
         ensures { option_copied result ≡ (job_of self.now).cells (look (job_of self.now).bindings name.now) }
     {
         value_of(self.tables.as_slice(), look(self.binders.as_slice(), name))
     }
 
-    /// Each of these names is held once less, where it is held. It takes no memory.
+    /// Releases each of `names` once, if it is held. Allocates nothing.
     pub fn release(&mut self, names: &[LockName])
         ensures changed { job_of self.new ≡ releasing names.now (job_of self.old) }
         ensures sound { Sound self.old → Sound self.new }
@@ -121,7 +121,7 @@ impl<'a> Job<'a> {
         self.held.release(names);
     }
 
-    /// Nothing is held any more. It takes no memory.
+    /// Releases all locks. Allocates nothing.
     pub fn release_all(&mut self, alloc: Global)
         ensures changed { job_of self.new ≡ holding_nothing (job_of self.old) }
         ensures sound { Sound self.old → Sound self.new }
@@ -129,7 +129,7 @@ impl<'a> Job<'a> {
         self.held = Held::new(alloc);
     }
 
-    /// These tasks are done first, the first of them before all.
+    /// Puts `tasks` before all others, in this order.
     pub fn do_first(&mut self, tasks: Vec<Task<'a>>) -> Result<(), AllocError>
         ensures ok { OnOk result (job_of self.new
             ≡ doing (map task_of tasks.entry.items ++ (job_of self.old).tasks) (job_of self.old)) }
@@ -141,7 +141,7 @@ impl<'a> Job<'a> {
         Ok(())
     }
 
-    /// The rest of the line is skipped, up to the next round of its innermost FOR. It takes no memory.
+    /// Skips the rest of the line, up to the next round of its innermost FOR. Allocates nothing.
     pub fn skip(&mut self)
         ensures changed { job_of self.new ≡ doing (skipped (job_of self.old).tasks) (job_of self.old) }
         ensures sound { Sound self.old → Sound self.new }
@@ -149,7 +149,7 @@ impl<'a> Job<'a> {
         pending::skip(&mut self.pending);
     }
 
-    /// The block, or else the frame, is quit, up to its end. It takes no memory.
+    /// Quits the block, or if there is none the frame, up to its end. Allocates nothing.
     pub fn go_to_end(&mut self)
         ensures changed { job_of self.new ≡ doing (to_end (job_of self.old).tasks) (job_of self.old) }
         ensures sound { Sound self.old → Sound self.new }
@@ -157,7 +157,7 @@ impl<'a> Job<'a> {
         pending::go_to_end(&mut self.pending);
     }
 
-    /// The innermost FOR of the line is quit, else the block, else the frame. It takes no memory.
+    /// Quits the innermost FOR of the line, or if there is none the block, or if there is none the frame. Allocates nothing.
     pub fn quit(&mut self)
         ensures changed { job_of self.new ≡ doing (quit (job_of self.old).tasks) (job_of self.old) }
         ensures sound { Sound self.old → Sound self.new }
@@ -165,8 +165,8 @@ impl<'a> Job<'a> {
         pending::quit(&mut self.pending);
     }
 
-    /// The frame at whose end the job is keeps the last value, if it awaits one; else the value is not used. It takes no
-    /// memory.
+    /// If the frame at whose end the job is awaits a value, it keeps the last one; otherwise the value is dropped. Allocates
+    /// nothing.
     pub fn answer(&mut self)
         ensures changed { job_of self.new ≡ answered (job_of self.old) (job_of self.old).tasks }
         ensures sound { Sound self.old → Sound self.new }
@@ -176,7 +176,7 @@ impl<'a> Job<'a> {
         }
     }
 
-    /// Nothing is left to do. It takes no memory.
+    /// Removes all tasks. Allocates nothing.
     pub fn halt(&mut self)
         ensures changed { job_of self.new ≡ doing [] (job_of self.old) }
         ensures sound { Sound self.old → Sound self.new }

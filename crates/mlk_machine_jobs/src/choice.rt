@@ -2,10 +2,10 @@
 
 use mlk_text::Value;
 
-/// What is chosen where M, or the model of it here, leaves a value or a truth open.
+/// What is chosen at a step where M, or this model of it, leaves a value or a truth value open.
 #[derive(Drop, Debug)]
 pub enum Choice {
-    /// nothing is chosen
+    /// no choice
     None,
     Value(Value),
     Truth(bool),

@@ -1,4 +1,4 @@
-// A job: what it has computed, what it holds, and what it has still to do.
+// A job: the values that it has computed, the locks that it holds, and the tasks that are left.
 
 ghost use Rattle.std.specs.Prelude.{◌≡◌, Ok, Err, OnOk, OnErr, IfErr, option_map};
 ghost use Rattle.mlk_machine_jobs.specs.JobViews.{job_of};
@@ -22,7 +22,7 @@ use std::alloc::Global;
 pub struct Job<'a> {
     pub number: u32,
     pub test: bool,
-    /// the routine that runs, counted from 0
+    /// the index of the running routine
     pub routine: usize,
     /// the newest last
     pub binders: Vec<Binder<'a>>,
@@ -58,7 +58,7 @@ impl<'a> Seen for Job<'a> {
 }
 
 impl<'a> Job<'a> {
-    /// The reference that the job stands ready at: touching it is its next task. It takes no memory.
+    /// The reference at which the job stands ready, that is, if touching it is its next task. Allocates nothing.
     pub fn ready(&self) -> Option<&Touch>
         ensures { option_map (λ t. touch_of t.now) result ≡ ready (job_of self.now) }
     {
@@ -68,7 +68,7 @@ impl<'a> Job<'a> {
         }
     }
 
-    /// A job that is aborted holds no lock and does nothing more; one that has nothing to do can't be.
+    /// Aborts the job: it then holds no lock and does nothing more. Refused if it has nothing to do.
     pub fn abort(&mut self, alloc: Global) -> Result<(), Refusal>
         ensures ok { OnOk result (aborted (job_of self.old) (job_of self.old).tasks ≡ Ok (job_of self.new)) }
         ensures err { IfErr result (λ why. aborted (job_of self.old) (job_of self.old).tasks ≡ Err why) }

@@ -1,4 +1,4 @@
-// KILL: which cells are left without a value.
+// KILL: the cells that lose their values.
 
 ghost use Rattle.std.specs.Prelude.{◌≡◌, IfOk, map, option_map};
 ghost use Rattle.std.specs.List.{list_any};
@@ -10,28 +10,28 @@ use crate::binding::{Binder, Cell, Names, covers, look, same_cell};
 use mlk_text::Name;
 use std::alloc::{AllocError, Global};
 
-// Whether one of these cells is this one.
+// Whether `cell` is one of `cells`.
 fn has_cell(cells: &[Cell], cell: Cell) -> bool
     ensures { result ≡ list_any (λ other. same_cell (cell_of other) (cell_of cell.entry)) cells.now }
 {
     cells.iter().any(|other| same_cell(*other, cell))
 }
 
-// The same, by the definition.
+// `has_cell`, as the definition has it.
 fn is_in(cells: &[Cell], cell: Cell) -> bool
     ensures { result ≡ is_in (map cell_of cells.now) (cell_of cell.entry) }
 {
     has_cell(cells, cell)
 }
 
-// Whether one of these names is bound to the cell that was made for it, this one.
+// Whether one of `names` is bound to `cell`, which was created for it.
 fn is_own(binders: &[Binder], names: Names, cell: Cell) -> bool
     ensures { result ≡ is_own (bindings_of binders.now) (names_of names.entry) (cell_of cell.entry) }
 {
     covers(names, cell.name) && same_cell(look(binders, cell.name), cell)
 }
 
-/// Whether KILL takes a cell: some of its names is bound to it, and none that it spares.
+/// Whether KILL takes `cell`: one of its names is bound to it, and none that it spares.
 pub(crate) fn is_taken(
     binders: &[Binder],
     names: Names,
@@ -46,7 +46,7 @@ pub(crate) fn is_taken(
     is_named && !is_in(spared, cell)
 }
 
-// The cell that a formal of these names is bound to, where the binder is of such a formal.
+// The cell to which a formal among `names` is bound, if `binder` is that of such a formal.
 fn cell_of_formal<'a>(binders: &[Binder<'a>], names: Names, binder: Binder<'a>) -> Option<Cell<'a>>
     ensures { option_map cell_of result ≡ cell_of_formal (bindings_of binders.now) (names_of names.entry) (binder_of binder.entry) }
 {
@@ -62,7 +62,7 @@ fn cell_of_formal<'a>(binders: &[Binder<'a>], names: Names, binder: Binder<'a>) 
     }
 }
 
-/// The cells that formals of these names are bound to.
+/// The cells to which formals among `names` are bound.
 pub(crate) fn cells_of_formals<'a>(
     alloc: Global,
     binders: &[Binder<'a>],
@@ -84,7 +84,7 @@ pub(crate) fn cells_of_formals<'a>(
     Ok(found)
 }
 
-// The cells of these names.
+// The cells of `names`.
 fn cells_of_names<'a>(
     alloc: Global,
     binders: &[Binder<'a>],

@@ -1,4 +1,4 @@
-// What every run keeps to.
+// Laws of all runs.
 
 ghost use Rattle.mlk_machine_jobs.specs.Laws.{HeldApart, NumbersDistinct, OneRunOfMany, LeavingOut, ChangesOne, RingsAreFound, EndedStays, SettlesBySteps};
 
@@ -7,12 +7,12 @@ pub fn held_apart()
     ensures { HeldApart }
 {}
 
-/// In every run, each number is that of one job.
+/// In every run, no two jobs have the same number.
 pub fn numbers_distinct()
     ensures { NumbersDistinct }
 {}
 
-/// Each job of a run of many is what its own acts alone make of it, from the entry at which they begin.
+/// In a run of many jobs, each job is the result of its own acts, from the entry at which it begins.
 pub fn one_run_of_many()
     ensures { OneRunOfMany }
 {}
@@ -22,12 +22,12 @@ pub fn leaving_out()
     ensures { LeavingOut }
 {}
 
-/// An event of one job leaves all others as they were.
+/// An event of one job changes no other job.
 pub fn changes_one()
     ensures { ChangesOne }
 {}
 
-/// The test for rings finds one exactly where there is one.
+/// The test for rings finds one exactly if there is one.
 pub fn rings_are_found()
     ensures { RingsAreFound }
 {}
@@ -37,7 +37,7 @@ pub fn ended_stays()
     ensures { EndedStays }
 {}
 
-/// A job that goes on by itself makes steps without choice, up to a task that is not silent or the greatest number.
+/// A job that continues by itself makes steps without choices, up to a task that is not silent or up to the greatest number.
 pub fn settles_by_steps()
     ensures { SettlesBySteps }
 {}

@@ -1,4 +1,4 @@
-//! Jobs that run routines of M: what each step makes of a job, and what every run of many jobs keeps to.
+//! Jobs that run routines of M: the effect of each step on a job, and the laws of all runs of many jobs.
 #![tactic(auto)]
 
 mod asking;

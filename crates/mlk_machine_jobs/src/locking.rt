@@ -1,4 +1,4 @@
-// The names of LOCK, once their subscripts were computed.
+// The lock names of LOCK, once their subscripts are computed.
 
 ghost use Rattle.std.specs.Prelude.{◌≡◌, ◌-◌, ◌^◌, IfOk, length, map, min, take, drop};
 ghost use Rattle.mlk_syntax.specs.Views.{variable_of};
@@ -10,7 +10,7 @@ use mlk_syntax::{Expr, Subscript, Variable};
 use mlk_text::{Name, Subscripts, Value};
 use std::alloc::{AllocError, Global};
 
-// The subscripts of a name.
+// The subscripts of a variable.
 fn subscripts_of(variable: &Variable) -> &[Subscript]
     ensures { length result.now ≡ count_in (variable_of variable.now) }
 {
@@ -21,14 +21,14 @@ fn subscripts_of(variable: &Variable) -> &[Subscript]
     }
 }
 
-/// How many subscripts a name has.
+/// The number of subscripts of a variable.
 pub fn count_in(variable: &Variable) -> usize
     ensures { result ≡ count_in (variable_of variable.now) }
 {
     subscripts_of(variable).len()
 }
 
-// What a lock name begins with.
+// The root of the lock name.
 fn root_in(alloc: Global, variable: &Variable) -> Result<Root, AllocError>
     ensures { IfOk result (λ root. root ≡ root_in (variable_of variable.now)) }
 {
@@ -39,7 +39,7 @@ fn root_in(alloc: Global, variable: &Variable) -> Result<Root, AllocError>
     }
 }
 
-/// The first so many values, and the others.
+/// Splits `values` after the first `count`.
 pub fn cut_after(values: &[Value], count: usize) -> (&[Value], &[Value])
     ensures before { result.0.now ≡ take count values.now }
     ensures after { result.1.now ≡ drop count values.now }
@@ -47,7 +47,7 @@ pub fn cut_after(values: &[Value], count: usize) -> (&[Value], &[Value])
     values.split_at(count.min(values.len()))
 }
 
-// A lock name, whose subscripts have these values.
+// The lock name of `variable` with the subscripts `subscripts`.
 fn lock_name(
     alloc: Global,
     variable: &Variable,
@@ -60,7 +60,7 @@ fn lock_name(
     Ok(LockName { root, subs })
 }
 
-/// How many subscripts these names have together; no more than the greatest number that a count has.
+/// The total number of subscripts of `names`, at most the greatest `usize`.
 pub fn count_all(names: &[Variable]) -> usize
     ensures { result ≡ min (count_all (map variable_of names.now)) (2 ^ 64 - 1) }
 {
@@ -73,7 +73,7 @@ pub fn count_all(names: &[Variable]) -> usize
     count
 }
 
-/// The names of LOCK, of the values of all their subscripts.
+/// The lock names of LOCK, from the values of all their subscripts.
 pub fn lock_names(
     alloc: Global,
     names: &[Variable],

@@ -1,4 +1,4 @@
-// What a job has still to do: tasks, and the ends of the blocks and frames that it is in.
+// What is left to do for a job: tasks, and the ends of the blocks and frames that it is in.
 
 ghost use Rattle.std.specs.Prelude.{◌≡◌, ◌≤◌, ◌||◌, ◌++◌, ◌∷◌, [], ℕ, List, length, take, map, OnOk, OnErr};
 ghost use Rattle.std.specs.Vec.{vec_capacity};
@@ -17,30 +17,30 @@ use std::alloc::AllocError;
 #[derive(Clone, Copy, Debug, Drop, PartialEq, Eq)]
 pub enum Frame {
     NoValue,
-    /// a value; and `$TEST` is put back
+    /// a value; `$TEST` is restored
     AwaitsValue(bool),
-    /// nothing, since QUIT gave its value; `$TEST` is put back
+    /// nothing, since QUIT provided its value; `$TEST` is restored
     HasValue(bool),
 }
 
-/// How things were at the begin of a block or of a frame: the number of binders, and the first unused generation.
+/// The situation at the begin of a block or frame: the number of binders, and the first unused generation.
 #[derive(Clone, Copy, Debug, Drop, PartialEq, Eq)]
 pub struct Back {
     pub binders: usize,
     pub next: usize,
 }
 
-/// What is still to be done.
+/// An item that is left to do.
 #[derive(Drop)]
 pub enum Pending<'a> {
     Task(Task<'a>),
-    /// the end of a block, which puts `$TEST` back
+    /// the end of a block, which restores `$TEST`
     EndBlock(Back, bool),
-    /// the end of a frame, which puts the routine back, counted from 0
+    /// the end of a frame, which restores the routine, by its index
     EndFrame(Frame, Back, usize),
 }
 
-// Whether this is what a FOR does next once a round has ended.
+// Whether `pending` continues a FOR after a round.
 fn is_round(pending: &Pending) -> bool
     ensures { (binders : List Binder) → result ≡ is_round (pending_of binders pending.now) }
 {
@@ -55,14 +55,14 @@ fn is_round(pending: &Pending) -> bool
     }
 }
 
-// Whether this is what is left of the lines.
+// Whether `pending` is the rest of the lines.
 fn is_lines(pending: &Pending) -> bool
     ensures { (binders : List Binder) → result ≡ is_lines (pending_of binders pending.now) }
 {
     matches!(pending, Pending::Task(Task::Line(LineTask::RunLines(_))))
 }
 
-// Whether this is the end of a block or of a frame.
+// Whether `pending` is the end of a block or frame.
 fn is_end(pending: &Pending) -> bool
     ensures { (binders : List Binder) → result ≡ is_end (pending_of binders pending.now) }
 {
@@ -80,7 +80,7 @@ fn stops_skipping(pending: &Pending) -> bool
     is_round(pending) || is_lines(pending) || is_end(pending)
 }
 
-// How many stay where the rest of the line is skipped.
+// How many items are left after the rest of the line is skipped.
 fn kept_by_skip(pending: &[Pending]) -> usize
     ensures within { result ≤ length pending.now }
     ensures kept { (binders : List Binder) → tasks_of binders (take result pending.now)
@@ -96,7 +96,7 @@ fn kept_by_skip(pending: &[Pending]) -> usize
     count
 }
 
-// How many stay where the block, or else the frame, is quit.
+// How many items are left after the block, or if there is none the frame, is quit.
 fn kept_to_end(pending: &[Pending]) -> usize
     ensures within { result ≤ length pending.now }
     ensures kept { (binders : List Binder) → tasks_of binders (take result pending.now)
@@ -112,7 +112,7 @@ fn kept_to_end(pending: &[Pending]) -> usize
     count
 }
 
-/// The rest of the line is skipped, up to the next round of its innermost FOR. It takes no memory.
+/// Skips the rest of the line, up to the next round of its innermost FOR. Allocates nothing.
 #[tactic(auto, using(crate::proofs::SoundLemmas::stands_taken))]
 pub(crate) fn skip(pending: &mut Vec<Pending>)
     ensures stands { (binders : List Binder) (n : ℕ) → Stands binders n pending.old.items → Stands binders n pending.new.items }
@@ -123,7 +123,7 @@ pub(crate) fn skip(pending: &mut Vec<Pending>)
     pending.truncate(kept);
 }
 
-/// The block, or else the frame, is quit, up to its end. It takes no memory.
+/// Quits the block, or if there is none the frame, up to its end. Allocates nothing.
 #[tactic(auto, using(crate::proofs::SoundLemmas::stands_taken))]
 pub(crate) fn go_to_end(pending: &mut Vec<Pending>)
     ensures stands { (binders : List Binder) (n : ℕ) → Stands binders n pending.old.items → Stands binders n pending.new.items }
@@ -134,7 +134,7 @@ pub(crate) fn go_to_end(pending: &mut Vec<Pending>)
     pending.truncate(kept);
 }
 
-/// These tasks are done first, the first of them before all. Where there is no memory nothing is changed.
+/// Puts `tasks` before all others, in this order. If memory runs out, nothing is changed.
 pub(crate) fn do_first<'a>(
     pending: &mut Vec<Pending<'a>>,
     tasks: Vec<Task<'a>>,
@@ -153,7 +153,8 @@ pub(crate) fn do_first<'a>(
     Ok(())
 }
 
-// How many stay where the innermost FOR of the line is quit, else the block, else the frame, once the line was skipped.
+// How many items are left after the innermost FOR of the line is quit, or if there is none the block, or if there is none the
+// frame, once the rest of the line was skipped.
 fn kept_by_quit(pending: &[Pending]) -> usize
     ensures within { result ≤ length pending.now }
     ensures kept { (binders : List Binder) → tasks_of binders (take result pending.now)
@@ -169,7 +170,7 @@ fn kept_by_quit(pending: &[Pending]) -> usize
     kept_to_end(pending)
 }
 
-// Quits once the rest of the line was skipped.
+// Quits, once the rest of the line was skipped.
 #[tactic(auto, using(crate::proofs::SoundLemmas::stands_taken))]
 fn quit_skipped(pending: &mut Vec<Pending>)
     ensures stands { (binders : List Binder) (n : ℕ) → Stands binders n pending.old.items → Stands binders n pending.new.items }
@@ -180,7 +181,7 @@ fn quit_skipped(pending: &mut Vec<Pending>)
     pending.truncate(kept);
 }
 
-/// QUIT ends the innermost FOR of its line, else the block, else the frame. It takes no memory.
+/// QUIT: ends the innermost FOR of its line, or if there is none the block, or if there is none the frame. Allocates nothing.
 pub(crate) fn quit(pending: &mut Vec<Pending>)
     ensures stands { (binders : List Binder) (n : ℕ) → Stands binders n pending.old.items → Stands binders n pending.new.items }
     ensures left { (binders : List Binder) → tasks_of binders pending.new.items
@@ -190,14 +191,14 @@ pub(crate) fn quit(pending: &mut Vec<Pending>)
     quit_skipped(pending);
 }
 
-// Whether this is the end of a frame that awaits a value.
+// Whether `pending` is the end of a frame that awaits a value.
 fn awaits(pending: &Pending) -> bool
     ensures { (binders : List Binder) → result ≡ awaits (pending_of binders pending.now) }
 {
     matches!(pending, Pending::EndFrame(Frame::AwaitsValue(_), _, _))
 }
 
-// The same end, where the frame has its value then.
+// The same end, with its value.
 fn with_value(pending: Pending) -> Pending
     ensures same { (binders : List Binder) → pending_of binders result ≡ given_value (pending_of binders pending.entry) }
     ensures stands { (binders : List Binder) (n : ℕ) (ps : List Pending)
@@ -211,8 +212,8 @@ fn with_value(pending: Pending) -> Pending
     }
 }
 
-/// The frame at whose end the job is keeps the value that QUIT gave, if it awaits one; whether it does. It takes no
-/// memory.
+/// If the frame at whose end the job is awaits a value, it keeps the one that QUIT provided; returns whether it does.
+/// Allocates nothing.
 pub(crate) fn keep_value(pending: &mut Vec<Pending>) -> bool
     ensures stands { (binders : List Binder) (n : ℕ) → Stands binders n pending.old.items → Stands binders n pending.new.items }
     ensures kept { (binders : List Binder) → tasks_of binders pending.new.items

@@ -20,7 +20,7 @@ impl Model for Stack {
     ghost view = { λ s. reverse s.values.items };
 }
 
-// The last so many values, or all where there are fewer.
+// The last `count` values, or all if there are fewer.
 fn last_of(values: &[Value], count: usize) -> &[Value]
     ensures { result.now ≡ reverse (take count (reverse values.now)) }
 {
@@ -28,7 +28,7 @@ fn last_of(values: &[Value], count: usize) -> &[Value]
     last
 }
 
-// Equal values.
+// Copies `values`.
 fn copy_values(alloc: Global, values: &[Value]) -> Result<Vec<Value>, AllocError>
     ensures { IfOk result (λ copies. copies.items ≡ values.now) }
 {
@@ -40,14 +40,14 @@ fn copy_values(alloc: Global, values: &[Value]) -> Result<Vec<Value>, AllocError
 }
 
 impl Stack {
-    /// These values, the first of which was computed first.
+    /// The stack of `values`, oldest first.
     pub fn of(values: Vec<Value>) -> Stack
         ensures { result ≡ reverse values.items }
     {
         Stack { values }
     }
 
-    /// An equal one.
+    /// Copies the stack.
     pub fn copy(&self) -> Result<Stack, AllocError>
         ensures { IfOk result (λ copy. copy ≡ self.now) }
     {
@@ -55,14 +55,14 @@ impl Stack {
         Ok(Stack { values })
     }
 
-    /// How many there are.
+    /// The number of values.
     pub fn depth(&self) -> usize
         ensures { result ≡ length self.now }
     {
         self.values.len()
     }
 
-    /// One more value.
+    /// Pushes `value`.
     pub fn push(&mut self, value: Value) -> Result<(), AllocError>
         ensures ok { OnOk result (self.new ≡ value ∷ self.old) }
         ensures err { OnErr result (self.new ≡ self.old) }
@@ -71,15 +71,14 @@ impl Stack {
         Ok(())
     }
 
-    /// The last so many values, or all where there are fewer, in the order in which they were computed.
+    /// The last `count` values, or all if there are fewer, oldest first.
     pub fn last(&self, count: usize) -> &[Value]
         ensures { result.now ≡ reverse (take count self.now) }
     {
         last_of(self.values.as_slice(), count)
     }
 
-    /// The last so many values before the last ones, of which so many are skipped, in the order in which they were
-    /// computed.
+    /// The `count` values below the top `skipped` ones, oldest first.
     #[tactic(auto, using(crate::proofs::StackLemmas::kept_are))]
     pub fn before(&self, skipped: usize, count: usize) -> &[Value]
         ensures { result.now ≡ reverse (take count (drop skipped self.now)) }
@@ -90,7 +89,7 @@ impl Stack {
         last_of(kept, count)
     }
 
-    /// The value that so many came after.
+    /// The value at `depth` below the top, or `None`.
     #[tactic(auto, using(crate::proofs::StackLemmas::at_depth, crate::proofs::StackLemmas::none_below))]
     pub fn at(&self, depth: usize) -> Option<&Value>
         ensures { option_map (λ value. value.now) result ≡ slice_get self.now depth }
@@ -102,7 +101,7 @@ impl Stack {
         Some(&self.values[count - 1 - depth])
     }
 
-    /// The last so many values are used up.
+    /// Drops the last `count` values.
     #[tactic(auto, using(crate::proofs::StackLemmas::kept_are))]
     pub fn use_up(&mut self, count: usize)
         ensures { self.new ≡ drop count self.old }
@@ -111,7 +110,7 @@ impl Stack {
             .truncate(self.values.len().saturating_sub(count));
     }
 
-    /// The last so many values are used up, and another one is pushed. Where there is no memory nothing is changed.
+    /// Replaces the last `count` values by `value`. If memory runs out, nothing is changed.
     #[tactic(auto, using(crate::proofs::StackLemmas::replaced_are))]
     pub fn replace_last(&mut self, count: usize, value: Value) -> Result<(), AllocError>
         ensures ok { OnOk result (self.new ≡ value ∷ drop count self.old) }

@@ -1,4 +1,4 @@
-// What a job has to do.
+// The tasks of a job.
 
 use crate::binding::Names;
 use crate::touch::Touch;
@@ -8,14 +8,14 @@ use mlk_syntax::{
 };
 use mlk_text::{Name, Op, UnaryOp, Value};
 
-/// What a call is made by.
+/// How a call is made.
 #[derive(Clone, Copy, Drop)]
 pub enum Calling {
     ByDo,
     Extrinsic,
 }
 
-/// What is left of a line: its commands, the FOR after them, and the line itself.
+/// The rest of a line: its commands, the FOR after them, and the line itself.
 #[derive(Clone, Copy, Drop)]
 pub struct Rest<'a> {
     pub commands: &'a [Command],
@@ -23,7 +23,7 @@ pub struct Rest<'a> {
     pub line: &'a Line,
 }
 
-/// What expressions are made of: each leaves one more value.
+/// The parts of expressions: each pushes one value.
 #[derive(Clone, Drop)]
 pub enum ValueTask<'a> {
     Evaluate(&'a Expr),
@@ -33,19 +33,19 @@ pub enum ValueTask<'a> {
     PushTest,
     ApplyUnary(UnaryOp),
     ApplyBinary(Op),
-    /// so many values are used up, and any value is given
+    /// drops this number of values, and pushes any value
     AskValue(usize),
-    /// so many values are not used
+    /// drops this number of values
     DropValues(usize),
     Select(&'a [(Expr, Expr)]),
-    /// the value beside a condition that was evaluated, and the conditions after it
+    /// the value for a condition that was evaluated, and the conditions after it
     Selected(&'a Expr, &'a [(Expr, Expr)]),
-    /// a global whose subscripts, so many, were evaluated
+    /// a global with this number of subscripts, which were evaluated
     FormReference(&'a Name, usize, Extent, Access),
     DoTouch(Touch),
 }
 
-/// What is done to locals, and the assignments of SET and MERGE.
+/// Changes of locals, and the assignments of SET and MERGE.
 #[derive(Clone, Drop)]
 pub enum LocalTask<'a> {
     Store(&'a Name, Value),
@@ -58,7 +58,7 @@ pub enum LocalTask<'a> {
     Merge(&'a Variable, &'a Variable),
 }
 
-/// What is done by a truth.
+/// Tasks that depend on a truth value, or set one.
 #[derive(Clone, Drop)]
 pub enum TestTask<'a> {
     SetTest,
@@ -68,7 +68,7 @@ pub enum TestTask<'a> {
     Conditionally(&'a Action, &'a [Line]),
 }
 
-/// What is done to locks.
+/// Changes of locks.
 #[derive(Drop)]
 pub enum LockTask<'a> {
     /// names whose subscripts were evaluated, and whether there is a timeout
@@ -78,7 +78,7 @@ pub enum LockTask<'a> {
     ReleaseAll,
 }
 
-/// What begins a frame, a block or another job.
+/// The begin of a frame, of a block or of another job.
 #[derive(Clone, Drop)]
 pub enum ScopeTask<'a> {
     Call(Calling, &'a Callee, &'a [Actual]),
@@ -88,12 +88,12 @@ pub enum ScopeTask<'a> {
     Block(&'a [Line]),
 }
 
-/// What is done of lines: their commands, the rounds of FOR, and QUIT and HALT.
+/// Lines: their commands, the rounds of FOR, and QUIT and HALT.
 #[derive(Clone, Drop)]
 pub enum LineTask<'a> {
     RunLines(&'a [Line]),
     RunCommands(Rest<'a>),
-    /// after so many arguments of a command
+    /// after this number of arguments of a command
     NextArgument(&'a Action, usize),
     Parameters(&'a Name, &'a [Parameter], Rest<'a>),
     Forever(Rest<'a>),
@@ -105,7 +105,7 @@ pub enum LineTask<'a> {
     HaltJob,
 }
 
-/// A task: a job does its first one, which is replaced by its parts until it is one step.
+/// A task. A job takes its first one, which is replaced by its parts until it is a single step.
 #[derive(Drop)]
 pub enum Task<'a> {
     Value(ValueTask<'a>),

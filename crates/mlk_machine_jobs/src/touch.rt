@@ -1,9 +1,9 @@
-// What a job touches.
+// The touches of a job.
 
 use mlk_names::{Access, Extent};
 use mlk_text::{Name, Subscripts, Value};
 
-/// A reference to a global as a job touches it: its subscripts are values.
+/// A reference to a global when a job touches it: its subscripts are values.
 #[derive(Clone, Drop)]
 pub struct Touch {
     /// The global's name, without its `^`.

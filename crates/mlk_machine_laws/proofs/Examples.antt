@@ -1,4 +1,4 @@
--- Worked examples, found by hand: runs that the laws speak of.
+-- Worked examples, found by hand: runs for the laws.
 use Rattle.std.proofs.Common.{◌≡◌, refl, sym, subst, ℕ, zero, suc, ◌<◌, Bool, true, false, List, [], ◌∷◌, ◌++◌, None, arith}
 use Rattle.std.specs.Prelude.{◌&&◌, not, nat_lt, codes, Ok, Err}
 use Rattle.std.proofs.lemmas.Bool.{and_parts}
@@ -16,7 +16,7 @@ use Rattle.mlk_machine_laws.specs.Outside.{changes_name}
 use Rattle.mlk_machine_laws.specs.Scopes.{count_open, GoesThrough}
 use Rattle.mlk_machine_laws.specs.Sharing.{binds}
 
--- whether more are open than so many, at each moment of these acts
+-- whether more than `n` are open, at each moment of these acts
 abbrev more_open : Machine Job Choice EntryId → ℕ → List (Act Choice EntryId) → Stepped → Bool
 more_open m n [] (Ok j) = nat_lt n (count_open j)
 more_open m n (a ∷ acts) (Ok j) = nat_lt n (count_open j) && more_open m n acts (alone m a j)
@@ -96,7 +96,7 @@ bound_inside = refl
 bound_as_before : (after_steps 9).bindings ≡ []
 bound_as_before = refl
 
--- A name that is bound in front is another variable, and is not changed; one that is not is.
+-- A name that is bound in front is another variable, and is not changed; one that is not bound there is changed.
 changes_the_new_one : (changes_name (Store (codes "X") (codes "5") ∷ []) (codes "X") && not (binds (Fresh 2 (Only (codes "X")) ∷ []) (codes "X"))) ≡ false
 changes_the_new_one = refl
 

@@ -1,4 +1,4 @@
--- What a block or a frame puts back at its end, and what steps do to those that are open.
+-- What a block or a frame restores at its end, and the effect of steps on those that are open.
 use Rattle.std.proofs.Common.{◌≡◌, ℕ, suc, Bool, true, false, List, [], ◌∷◌, ◌++◌, map, Option, Some, None, refl, ap, subst}
 use Rattle.std.specs.Prelude.{◌&&◌, if◌then◌else◌, Ok, Err}
 use Rattle.mlk_names.specs.declared.lock_name.LockName.{LockName}
@@ -22,7 +22,7 @@ use Rattle.mlk_machine_jobs.specs.Lines.{selected, chosen, next_line}
 use Rattle.mlk_machine_jobs.specs.Calling.{binders, with_actuals, count_given, formals_in, lines_after, entered, called, called_if}
 use Rattle.mlk_machine_laws.specs.Outside.{changes_name}
 
--- what an open block or frame puts back
+-- what an open block or frame restores
 pub record Kept : Type 0 where
   pub back : Bindings
   pub next : ℕ
@@ -40,8 +40,8 @@ kept_by (FrameMark frame back next routine) = record { back = back; next = next;
 abbrev pub kept : List Task → List Kept
 kept ts = map kept_by (marks ts)
 
--- What a step that opens and ends nothing does to names and cells: nothing; it stores a value in the cell of a name; it
--- leaves cells of names without a value; it makes names new.
+-- The effect on names and cells of a step that opens and ends nothing: none; it stores a value in the cell of a name; it leaves
+-- cells of names without a value; it makes names new.
 pub data Bound (j i : Job) : Type 0 where
   untouched : i.bindings ≡ j.bindings → i.next ≡ j.next → i.cells ≡ j.cells → Bound j i
   stores : (name value : List ℕ) → changes_name j.tasks name ≡ true → i.bindings ≡ j.bindings → i.next ≡ j.next
@@ -51,8 +51,8 @@ pub data Bound (j i : Job) : Type 0 where
   news : (names : Names) → i.bindings ≡ Fresh j.next names ∷ j.bindings → i.next ≡ suc j.next → i.cells ≡ j.cells
       → Bound j i
 
--- What one that opens a block or a frame does: nothing; or formals of a line of these routines are bound, and have the
--- values that they are given.
+-- The effect of a step that opens a block or a frame: none; or formals of a line of these routines are bound, with the values
+-- that they are given.
 pub data Opened (routines : List RoutineTree) (j i : Job) : Type 0 where
   as_block : i.bindings ≡ j.bindings → i.next ≡ j.next → i.cells ≡ j.cells → Opened routines j i
   as_frame : (e : EntryId) (head : HeadTree) (body : LineTrees) (lines : List LineTree) → lines_after routines e ≡ (head, body) ∷ lines
@@ -60,7 +60,7 @@ pub data Opened (routines : List RoutineTree) (j i : Job) : Type 0 where
       → i.bindings ≡ binders j.bindings j.next (formals_in head) given ++ j.bindings → i.next ≡ suc j.next
       → i.cells ≡ with_actuals j.next (formals_in head) given values j.cells → Opened routines j i
 
--- What a step may do to them: nothing; open one, which puts all back; end the innermost one; or the job has ended.
+-- The possible effects of a step on them: none; it opens one that restores all; it ends the innermost one; or the job has ended.
 pub data Move (routines : List RoutineTree) (j i : Job) : Type 0 where
   stays : kept i.tasks ≡ kept j.tasks → Bound j i → Move routines j i
   opens : (test : Option Bool) → kept i.tasks ≡ record { back = j.bindings; next = j.next; test = test } ∷ kept j.tasks

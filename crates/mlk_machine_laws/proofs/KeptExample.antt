@@ -1,5 +1,5 @@
--- A worked example that meets the premises of the laws: a routine that claims a lock, writes what the lock covers, and gives
--- the lock back.
+-- A worked example that meets the premises of the laws: a routine that acquires a lock, writes what the lock covers, and
+-- releases the lock.
 use Rattle.std.proofs.Common.{◌≡◌, ◌∙◌, refl, sym, ap, subst, ℕ, zero, suc, ◌==◌, Bool, true, false, List, [], ◌∷◌, Option, Some, None, arith, inl, inr, length}
 use Rattle.std.specs.Prelude.{◌&&◌, nat_lt, if◌then◌else◌, codes, Ok, Err, Contains}
 use Rattle.std.specs.Fmt.{decimal}
@@ -70,13 +70,13 @@ family = record { name = a; rank = 10 }
 abbrev rules : RuleLists
 rules = record { families = family ∷ []; covers = cover ∷ []; private = []; readonly = []; entries = codes "A^R" ∷ [] }
 
--- what the laws ask of a job at a moment
+-- what the laws require of a job at a moment
 record Keeps (j : Job) : Type 0 where
   covered : StandsCovered rules j
   order : StandsInOrder rules.families j
   ends : EndsEmpty j
 
--- a job that is at nothing that the laws speak of
+-- a job at nothing that the laws are about
 abbrev Quiet : Job → Type 0
 Quiet j = (t : Task) × (ts : List Task) × (j.tasks ≡ t ∷ ts) × (ready_in j.tasks ≡ None) × (next_claim j.tasks ≡ None)
 
@@ -97,7 +97,7 @@ stopped j e s = record {
 abbrev its_machine : Machine Job Choice EntryId
 its_machine = machine careful declared
 
--- it is kept to at each moment from here on
+-- the requirements are met at each moment from here on
 abbrev From : Job → Type 0
 From j = (acts : List (Act Choice EntryId)) (k : Job) → lone_run its_machine acts j ≡ Ok k → Keeps k
 
@@ -108,7 +108,7 @@ at_end j e p (Begin entry test values ∷ acts) k h = cc
 at_end j e p (Go c ∷ acts) k h = let P : List Task → Type 0 = λ ts. and_then (lone_run its_machine acts) (advance careful (λ _. true) c j ts) ≡ Ok k in let z = subst P e h in absurd (cc)
 at_end j e p (Abort ∷ acts) k h = let P : List Task → Type 0 = λ ts. and_then (lone_run its_machine acts) (aborted j ts) ≡ Ok k in let z = subst P e h in absurd (cc)
 
--- a task that asks for nothing: a step, or an abort
+-- a task that requires nothing: a step, or an abort
 one_more : (j i : Job) → Keeps j → (t : Task) (ts : List Task) → j.tasks ≡ t ∷ ts
     → go careful (λ _. true) choice.None j ≡ Ok i
     → ((v : List ℕ) → go careful (λ _. true) (choice.Value v) j ≡ Err BadChoice)
@@ -160,11 +160,11 @@ module _ (test : Bool) (k : ℕ) where
   after_steps (Ok j) zero = j
   after_steps (Ok j) (suc n) = after_steps (go careful (λ _. true) choice.None j) n
 
-  -- after so many steps
+  -- after `n` steps
   abbrev at : ℕ → Job
   at n = after_steps (begun careful first_entry k test []) n
 
-  -- it claims what has a rank, and holds nothing yet
+  -- it claims a name with a rank, and holds nothing yet
   at_the_claim : Keeps (at 2)
   at_the_claim = record {
     covered = λ t e. cc;
@@ -180,7 +180,7 @@ module _ (test : Bool) (k : ℕ) where
       })
       above_all n (inr none) = absurd none
 
-  -- it writes what the lock that it holds covers
+  -- it writes what is covered by the lock that it holds
   at_the_touch : Keeps (at 8)
   unfolding same_name is_above
   at_the_touch = record {
@@ -287,7 +287,7 @@ too_many test v vs k =
     else entered NoValue 0 (by_value (v ∷ vs)) (lines_after careful first_entry) [] (blank k test (v ∷ vs)) in
     ap P more
 
--- so it is kept to at each moment of each run
+-- so the requirements are met at each moment of each run
 begins : (r l : ℕ) → r ≡ 0 → l ≡ 0 → (test : Bool) (values : List (Option (List ℕ))) (k : ℕ) (first : Job)
     → begun careful (record { routine = r; line = l }) k test values ≡ Ok first → first ≡ at test k 0
 begins r l e d test [] k first h = is_it (at test k 0) first (begun careful first_entry k test []) refl (rw (e, d) at h)
@@ -306,7 +306,7 @@ always e test values k first j acts h g = elim (cases_Bool (declared e && is_job
 locked : FreesNoReads rules
 locked c is = ap (λ (d : Cover). d.reads) (only cover c is)
 
--- The laws speak of it.
+-- The laws apply.
 pub no_clash_here : (events : List (Event Choice EntryId)) (jobs : List Job) → after its_machine events [] ≡ Ok jobs
     → (i j : Job) → Among i jobs → Among j jobs → Clash i j → ⊥
 no_clash_here = no_clash careful declared rules sound locked (λ e test values k first j acts h g. (always e test values k first j acts h g).covered)

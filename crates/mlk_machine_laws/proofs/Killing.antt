@@ -26,7 +26,7 @@ same_is c d h =
 pub same_self : (d : Cell) → same_cell d d ≡ true
 same_self d = and_from (d.generation == d.generation) (bytes_eq d.name d.name) (eq-eqb d.generation d.generation refl) ((bytes_eq-Decides d.name d.name).1 refl)
 
--- a cell that is one of the names' is bound to one of them
+-- a cell that belongs to the names is bound to one of them
 shared_name : (bs r : Bindings) (names : Names) (d : Cell) → is_shared_by_formal bs r names d ≡ true → (n : List ℕ) × (covers names n ≡ true) × (look bs n ≡ d)
 shared_name bs [] names d h = differs false h refl
 shared_name bs (Fresh g k ∷ r) names d h = shared_name bs r names d h
@@ -43,7 +43,7 @@ named_by bs names d h =
     (λ u. shared_name bs bs names d u)
     (or_cases (covers names d.name && same_cell (look bs d.name) d) (is_shared_by_formal bs bs names d) h)
 
--- a name bears its cell's name, or is a formal that shares it
+-- a name is its cell's name, or is a formal that shares the cell
 own_or_shared : (bs r : Bindings) (names : Names) (n : List ℕ) → covers names n ≡ true → (d : Cell) → look bs n ≡ d → look r n ≡ d
     → (d.name ≡ n) ⊎ (is_shared_by_formal bs r names d ≡ true)
 own_or_shared bs [] names n u d h k = inl (ap (λ (c : Cell). c.name) (sym k))
@@ -73,7 +73,7 @@ is_named_by bs names n u =
     (λ z. or_right (covers names d.name && same_cell (look bs d.name) d) (is_shared_by_formal bs bs names d) z)
     (own_or_shared bs bs names n u d refl refl)
 
--- what is listed to stay
+-- a name that is spared
 some_listed : (bs : Bindings) (ms : List (List ℕ)) (c : Cell) → list_any (λ n. same_cell (look bs n) c) ms ≡ true → (m : List ℕ) × Contains ms m × (look bs m ≡ c)
 some_listed bs [] c h = differs false h refl
 some_listed bs (m ∷ ms) c h =

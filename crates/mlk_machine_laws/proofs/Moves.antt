@@ -1,4 +1,4 @@
--- What each step does to the open blocks and frames of a job.
+-- The effect of each step on the open blocks and frames of a job.
 use Rattle.std.proofs.Common.{◌≡◌, ◌∙◌, inl, inr, ℕ, Bool, true, false, List, [], ◌∷◌, ◌++◌, map, append_assoc, take, Some, refl, sym, ap, arith, drop}
 use Rattle.std.specs.Prelude.{◌||◌, if◌then◌else◌, bytes_eq, Ok}
 use Rattle.std.proofs.lemmas.Bool.{cases_Bool}
@@ -101,7 +101,7 @@ after_quit_from (t ∷ ts) = elim (cases_Bool (is_round t)) [
 pub after_quit : (ts : List Task) → marks (quit ts) ≡ marks ts
 after_quit ts = after_quit_from (skipped ts) ∙ after_skip ts
 
--- A value that the frame of `$$` keeps changes nothing of what is put back.
+-- A value that the frame of an extrinsic call keeps does not change what is restored.
 after_answer : (j : Job) (ts : List Task) → kept (answered j ts).tasks ≡ kept ts
 after_answer j [] = refl
 after_answer j (EndFrame (AwaitsValue test) back next routine ∷ ts) = refl
@@ -152,7 +152,7 @@ after_answer j (task.QuitHere ∷ ts) = refl
 after_answer j (task.QuitWithValue ∷ ts) = refl
 after_answer j (task.HaltJob ∷ ts) = refl
 
--- and nothing of names and cells
+-- nor names and cells
 answer_bound : (j : Job) (ts : List Task) → Bound j (answered j ts)
 answer_bound j [] = untouched refl refl refl
 answer_bound j (EndFrame (AwaitsValue test) back next routine ∷ ts) = untouched refl refl refl

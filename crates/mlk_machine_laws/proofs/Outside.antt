@@ -1,4 +1,4 @@
--- What a step leaves of the values of names outside.
+-- The effect of a step on the values of names outside.
 use Rattle.std.proofs.Common.{◌≡◌, ◌∙◌, ℕ, ◌<◌, true, false, List, [], ◌∷◌, ◌++◌, refl, sym, ap, subst, arith, ⊎_elim}
 use Rattle.std.specs.Prelude.{◌==◌, ◌&&◌, not, nat_lt}
 use Rattle.std.proofs.lemmas.Bool.{cases_Bool, and_from, ne_eqb}
@@ -42,7 +42,7 @@ actuals_before g (f ∷ fs) (Missing ∷ given) values cells c l = actuals_befor
 pub not_forgotten : (g : ℕ) (cells : Cells) (c : Cell) → c.generation < g → forgotten g cells c ≡ cells c
 not_forgotten g cells c l = let e : nat_lt c.generation g ≡ true = grind (arith, l) in rw e refl
 
--- A name whose cell a step changes is bound there as itself, where nothing is lent.
+-- If no formal shares the cell by reference, a name whose cell a step changes is bound there as itself.
 module _ (j : Job) (o : Ordered j.bindings) (front back : Bindings) (e : j.bindings ≡ front ++ back) (n : List ℕ)
     (lent : is_lent j.bindings (look back n) ≡ false) (other : (changes_name j.tasks n && not (binds front n)) ≡ false) where
   not_this : {A : Type 0} → (m : List ℕ) → look j.bindings m ≡ look back n → changes_name j.tasks m ≡ true → A

@@ -1,4 +1,4 @@
--- Tasks of which none is the end of a block or a frame: what a task is replaced by.
+-- Tasks none of which ends a block or a frame: those that replace a task.
 use Rattle.std.proofs.Common.{◌≡◌, ◌∙◌, ℕ, suc, Bool, true, false, List, [], ◌∷◌, ◌++◌, flat_map, Option, Some, None, refl, ap, arith, append_assoc, drop, take}
 use Rattle.mlk_syntax.specs.declared.expr.Special.{Special}
 use Rattle.mlk_syntax.specs.declared.expr.Function.{Function}
@@ -21,7 +21,7 @@ use Rattle.mlk_machine_jobs.specs.Assigning.{assigned, assignments, subs_of_targ
 use Rattle.mlk_machine_jobs.specs.Locking.{by_sign}
 use Rattle.mlk_machine_jobs.specs.Lines.{command_parts, parameter_parts, first_round, later_round, next_command}
 
--- none of these opens or ends anything, whatever stands after them
+-- none of these opens or ends anything, whatever follows them
 abbrev pub Plain : List Task → Type 0
 Plain xs = (ts : List Task) → marks (xs ++ ts) ≡ marks ts
 

@@ -1,4 +1,4 @@
--- Where claims follow the ranks, the ranks of what is waited for would rise round a ring without end.
+-- If claims follow the ranks, the ranks of awaited names would rise around a ring without end.
 use Rattle.std.proofs.Common.{◌≡◌, ℕ, zero, suc, ◌+◌, ◌<◌, ◌≤◌, List, [], ◌∷◌, length, ap, arith, inl, inr}
 use Rattle.std.specs.Prelude.{slice_index_or}
 use Rattle.mlk_names.specs.Lists.{Among}

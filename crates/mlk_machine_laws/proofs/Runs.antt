@@ -1,5 +1,5 @@
--- Each job of a run is what its own acts make of it, and what two jobs hold is apart: so what each keeps to by itself tells
--- of all.
+-- Each job of a run is the result of its own acts, and what two jobs hold is apart: so what holds of each by itself says
+-- something of all.
 use Rattle.std.proofs.Common.{◌≡◌, ◌<◌, ◌^◌, ℕ, Bool, true, List, [], Ok, Err, sym, ◌∙◌, inl, inr, arith, Option}
 use Rattle.std.specs.Prelude.{◌&&◌, nat_lt}
 use Rattle.std.proofs.lemmas.Bool.{false_from_ne_true, cases_Bool, and_parts, ltb-true}
@@ -20,14 +20,14 @@ use Rattle.mlk_machine_laws.specs.Moments.{StandsCovered, StandsInOrder, EndsEmp
 use Rattle.mlk_machine_laws.specs.Laws.{ClashesAreFree, NoClash, NoRing, AllEndEmpty}
 use Rattle.mlk_machine_laws.proofs.RisingRanks.{no_set}
 
--- what a job keeps to at each moment by itself, it keeps to in a run of many
+-- what holds of a job at each moment by itself holds of it in a run of several
 module _ (routines : List RoutineTree) (declared : EntryId → Bool) (Keeps : Job → Type 0) (each : AtEachMoment routines declared Keeps) where
   in_run : (events : List (Event Choice EntryId)) (jobs : List Job) → after (machine routines declared) events [] ≡ Ok jobs → (j : Job) → Among j jobs → Keeps j
   in_run events jobs h j a =
       let s = (one_run_of_many routines declared events jobs h j a).lone in
       each s.entry s.test s.values j.number s.first j (one_run_of_many routines declared events jobs h j a).acts s.is_first s.runs
 
--- the numbers of jobs are such as jobs may have
+-- the numbers of jobs are in range
 small : (k : ℕ) → is_job_number k ≡ true → k < 2 ^ 64
 small k h =
     let p = and_parts (nat_lt 0 k) (nat_lt k 4294967296) h in

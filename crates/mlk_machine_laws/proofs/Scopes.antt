@@ -1,4 +1,4 @@
--- What the end of a block or a frame puts back, whatever was done in it.
+-- What the end of a block or a frame restores, whatever was done in it.
 use Rattle.std.proofs.Common.{◌≡◌, ◌∙◌, ℕ, suc, ◌+◌, ◌<◌, ◌≤◌, Bool, true, List, [], ◌∷◌, ◌++◌, map, length, Option, Some, None, refl, sym, ap, subst, arith}
 use Rattle.std.specs.Prelude.{Ok, Err}
 use Rattle.std.proofs.lemmas.List.{length-append, length-map}
@@ -15,7 +15,7 @@ use Rattle.mlk_machine_laws.specs.Laws.{EndsPutBack}
 use Rattle.mlk_machine_laws.proofs.Kept.{Kept, kept_by, kept, Move, stays, opens, ends, halts}
 use Rattle.mlk_machine_laws.proofs.Moves.{moves, stops}
 
--- These are open, so many of them, above others; the last of them is this one.
+-- These are open above others; the last of them is this one.
 record Above (b : Kept) (base ks : List Kept) : Type 0 where
   front : List Kept
   is : ks ≡ front ++ b ∷ base
@@ -26,7 +26,7 @@ kept_len j = length-map (marks j.tasks) kept_by
 count_above : (front : List Kept) (b : Kept) (base : List Kept) → length (front ++ b ∷ base) ≡ length front + suc (length base)
 count_above front b base = length-append front (b ∷ base)
 
--- as long as more are open than the others, it stays
+-- as long as more are open than the others, it stays open
 keeps : (routines : List RoutineTree) (b : Kept) (base : List Kept) (k i : Job) → Above b base (kept k.tasks) → Move routines k i → length base < count_open i
     → Above b base (kept i.tasks)
 keeps routines b base k i a (stays e o) l = record { front = a.front; is = e ∙ a.is }
@@ -41,7 +41,7 @@ keeps routines b base k i a (ends x e g n f t) l = on a.front (sym e ∙ a.is)
     on (y ∷ front) h = let d : kept i.tasks ≡ front ++ b ∷ base = cc in record { front = front; is = d }
 keeps routines b base k i a (halts e u v w) l = let m : count_open i ≡ 0 = sym (kept_len i) ∙ ap length e in absurd (omega (arith, l, m))
 
--- what was put back at its end
+-- what was restored at its end
 record Ended (b : Kept) (i : Job) : Type 0 where
   bindings : i.bindings ≡ b.back
   next : i.next ≡ b.next
@@ -51,7 +51,7 @@ record Ended (b : Kept) (i : Job) : Type 0 where
 pub is_forgotten : (next : ℕ) (cells : Cells) (c : Cell) → next ≤ c.generation → forgotten next cells c ≡ None
 is_forgotten next cells c h = grind arith
 
--- where as many are open as the others, it was ended
+-- if only the others are open, it was ended
 ended : (routines : List RoutineTree) (b : Kept) (base : List Kept) (k i : Job) → Above b base (kept k.tasks) → Move routines k i → count_open i ≡ length base
     → 0 < length base → Ended b i
 ended routines b base k i a (stays e o) l p =
@@ -74,7 +74,7 @@ ended routines b base k i a (ends x e g n f t) l p = on a.front (sym e ∙ a.is)
 ended routines b base k i a (halts e u v w) l p =
     let m : count_open i ≡ 0 = sym (kept_len i) ∙ ap length e in absurd (omega (arith, l, m, p))
 
--- a step after which more are open has opened one, which puts all back
+-- a step after which more are open has opened one, which restores all
 begun : (routines : List RoutineTree) (j first : Job) → Move routines j first → count_open j < count_open first
     → (test : Option Bool) × (kept first.tasks ≡ record { back = j.bindings; next = j.next; test = test } ∷ kept j.tasks)
     × ((t : Bool) → test ≡ Some t → j.test ≡ t)
@@ -85,7 +85,7 @@ begun routines j first (ends x e g n f t) l =
     let m : count_open j ≡ suc (count_open first) = sym (kept_len j) ∙ ap length e ∙ ap (λ k. suc k) (kept_len first) in absurd (omega (arith, l, m))
 begun routines j first (halts e u v w) l = let m : count_open first ≡ 0 = sym (kept_len first) ∙ ap length e in absurd (omega (arith, l, m))
 
--- of the innermost of these
+-- the innermost of these
 has_test : (ms : List Mark) (b : Kept) (base : List Kept) → map kept_by ms ≡ b ∷ base → has_own_test ms ≡ true
     → (t : Bool) × (b.test ≡ Some t)
 has_test [] b base e h = cc

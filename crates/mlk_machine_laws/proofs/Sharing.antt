@@ -24,13 +24,13 @@ use Rattle.mlk_machine_laws.proofs.Kept.{kept, untouched, stores, kills, news, a
 use Rattle.mlk_machine_laws.proofs.Killing.{differs, same_self}
 use Rattle.mlk_machine_laws.proofs.Tidy.{Nested, Tidied, below_look, tidy_after, act_moves, begins}
 
--- the cell of this generation and name is given by no binder
+-- no binder has the cell of this generation and name
 abbrev pub Clear : ℕ → List ℕ → Bindings → Type 0
 Clear g n [] = 0 < g
 Clear g n (Fresh h names ∷ bs) = (covers names n ≡ true → h < g) × Clear g n bs
 Clear g n (ByReference formal cell ∷ bs) = (cell.generation < g) × Clear g n bs
 
--- what is made new is given by nothing behind it
+-- what is made new occurs nowhere behind it
 abbrev pub Ordered : Bindings → Type 0
 Ordered [] = Unit {0}
 Ordered (Fresh g names ∷ bs) = ((n : List ℕ) → covers names n ≡ true → Clear g n bs) × Ordered bs
@@ -61,7 +61,7 @@ lent_behind [] bs d h = h
 lent_behind (Fresh g names ∷ front) bs d h = lent_behind front bs d h
 lent_behind (ByReference f c ∷ front) bs d h = lent_behind front bs d (or_parts (same_cell c d) (is_lent (front ++ bs) d) h).1
 
--- a cell that is nobody's by reference bears the name that is bound to it
+-- a cell that no formal shares by reference has the name that is bound to it
 pub named : (bs : Bindings) (n : List ℕ) → is_lent bs (look bs n) ≡ false → (look bs n).name ≡ n
 named [] n h = refl
 named (Fresh g names ∷ bs) n h = ⊎_elim (λ u. rw u refl) (λ u. rw u (named bs n (rw u at h))) (cases_Bool (covers names n))
@@ -144,7 +144,7 @@ ordered_binders caller g (f ∷ fs) given bs d h b o = on (next_actual given) (o
     on (Given t) rest = (first, rest)
     on Missing rest = (first, rest)
 
--- the line that a call goes to
+-- the line that a call enters
 dropped_there : (k : ℕ) (xs : List LineTree) (x : LineTree) (rest : List LineTree) → drop k xs ≡ x ∷ rest → Contains xs x
 dropped_there zero xs x rest e = subst (λ l. Contains l x) (sym e) (0, omega arith, refl)
 dropped_there (suc k) [] x rest e = cc

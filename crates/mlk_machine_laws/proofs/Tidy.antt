@@ -1,4 +1,4 @@
--- What each step leaves of what names are bound to.
+-- The effect of each step on what names are bound to.
 use Rattle.std.proofs.Common.{◌≡◌, ◌∙◌, ℕ, suc, ◌<◌, ◌≤◌, Bool, true, false, List, [], ◌∷◌, ◌++◌, map, append_assoc, Option, None, refl, sym, ap, subst, arith, ⊎_elim}
 use Rattle.std.specs.Prelude.{◌==◌, ◌&&◌, not, nat_lt, bytes_eq, length, Ok, Err}
 use Rattle.std.proofs.lemmas.Bool.{cases_Bool, ne_eqb}
@@ -69,7 +69,7 @@ actuals_elsewhere g (f ∷ fs) (Given t ∷ given) (v ∷ values) cells c l =
 actuals_elsewhere g (f ∷ fs) (ByRef column name ∷ given) values cells c l = actuals_elsewhere g fs given values cells c l
 actuals_elsewhere g (f ∷ fs) (Missing ∷ given) values cells c l = actuals_elsewhere g fs given values cells c l
 
--- what blocks and frames put back, and that it is of generations before their own
+-- what blocks and frames restore, and that it is of generations before their own
 abbrev pub Nested : Bindings → ℕ → List Kept → Type 0
 Nested bs n [] = Unit {0}
 Nested bs n (k ∷ ks) = (front : Bindings) × (bs ≡ front ++ k.back) × Below k.next k.back × (k.next ≤ n) × Nested k.back k.next ks
@@ -84,7 +84,7 @@ pub record Tidied (j : Job) : Type 0 where
   pub older : Below j.next j.bindings
   pub unset : (c : Cell) → j.next ≤ c.generation → j.cells c ≡ None
 
--- the same of other names, cells and tasks
+-- the same for other names, cells and tasks
 given_by : (bs : Bindings) (n : ℕ) (cells : Cells) (ks : List Kept) (i : Job) → i.bindings ≡ bs → i.next ≡ n → i.cells ≡ cells → kept i.tasks ≡ ks
     → Nested bs n ks → Below n bs → ((c : Cell) → n ≤ c.generation → cells c ≡ None) → Tidied i
 given_by bs n cells ks i b m x e nested older unset =
@@ -152,7 +152,7 @@ module _ (routines : List RoutineTree) (declared : EntryId → Bool) where
       let blank_tidy : Tidied (blank k test values) = record { nested = tt; older = omega arith; unset = λ c l. refl } in
       run_tidy acts first j (tidy_after routines (blank k test values) first blank_tidy (begins e test values k first b)) r
 
--- of the marks themselves
+-- for the marks themselves
 marks_nested : (bs : Bindings) (n : ℕ) (ms : List Mark) → Nested bs n (map kept_by ms) → AreNested bs ms
 marks_nested bs n [] h = tt
 marks_nested bs n (BlockMark back next test ∷ ms) (front, e, b, l, rest) = (front, e, marks_nested back next ms rest)

@@ -1,4 +1,4 @@
--- What follows for runs of any number of jobs.
+-- Consequences for runs of any number of jobs.
 use Rattle.std.specs.Prelude.{◌≡◌, Bool, true, false, List, [], Ok}
 use Rattle.mlk_names.specs.Lists.{Among}
 use Rattle.mlk_rules.specs.declared.rules.RuleLists.{RuleLists}
@@ -19,8 +19,8 @@ use Rattle.mlk_machine_laws.specs.Outside.{KeepsOutside}
 use Rattle.mlk_machine_laws.specs.Tidy.{IsTidy, MakesNew, Kills}
 use Rattle.mlk_machine_laws.specs.Moments.{StandsCovered, StandsInOrder, EndsEmpty, AtEachMoment}
 
--- Where each job by itself always holds what covers the reference at which it stands ready, of two jobs that clash one reads
--- freely, in any run of any number of jobs begun at declared entries.
+-- If each job by itself always holds locks that cover the reference at which it stands ready, then of two jobs that clash one is
+-- a free read, in any run of any number of jobs that begin at declared entries.
 abbrev pub ClashesAreFree : Type 0
 ClashesAreFree =
     (routines : List RoutineTree) (declared : EntryId → Bool) (rules : RuleLists) → IsSound rules
@@ -28,7 +28,7 @@ ClashesAreFree =
     → (events : List (Event Choice EntryId)) (jobs : List Job) → after (machine routines declared) events [] ≡ Ok jobs
     → (i j : Job) → Among i jobs → Among j jobs → (clash : Clash i j) → OneReadsFreely rules clash.one clash.other
 
--- So where no rule frees reads, no two jobs clash.
+-- So if no rule makes reads free, no two jobs clash.
 abbrev pub NoClash : Type 0
 NoClash =
     (routines : List RoutineTree) (declared : EntryId → Bool) (rules : RuleLists) → IsSound rules → FreesNoReads rules
@@ -43,7 +43,7 @@ pub record IsWithoutRing (jobs : List Job) : Type 0 where
   pub listed : HasRing (Waits seen) jobs → ⊥
   pub any : (In : Job → Bool) → IsRing (Waits seen) jobs (λ j. In j ≡ true) → ⊥
 
--- Where each job by itself always claims in the order of the ranks, no run has a ring.
+-- If each job by itself always claims in the order of the ranks, no run has a ring.
 abbrev pub NoRing : Type 0
 NoRing =
     (routines : List RoutineTree) (declared : EntryId → Bool) (rules : RuleLists) → IsSound rules
@@ -51,40 +51,40 @@ NoRing =
     → (events : List (Event Choice EntryId)) (jobs : List Job) → after (machine routines declared) events [] ≡ Ok jobs
     → IsWithoutRing jobs
 
--- Where each job by itself holds no lock once it has ended, so does each job of each run.
+-- If each job by itself holds no lock once it has ended, neither does any job of any run.
 abbrev pub AllEndEmpty : Type 0
 AllEndEmpty =
     (routines : List RoutineTree) (declared : EntryId → Bool) → AtEachMoment routines declared EndsEmpty
     → (events : List (Event Choice EntryId)) (jobs : List Job) → after (machine routines declared) events [] ≡ Ok jobs
     → (j : Job) → Among j jobs → EndsEmpty j
 
--- Where a block or a frame has ended, whatever the job did in it, names are bound as before its begin.
+-- After the end of a block or frame, whatever the job did in it, names are bound as before its begin.
 abbrev pub EndsPutBack : Type 0
 EndsPutBack =
     (routines : List RoutineTree) (declared : EntryId → Bool) (j i : Job) (through : GoesThrough (machine routines declared) j i)
     → IsPutBack j through.first i
 
--- At each moment of each run of one job, what blocks and frames put back are ends of what is bound in them, and nothing of
--- a generation that is not used yet has a value.
+-- At each moment of each run of one job, the bindings that blocks and frames restore are suffixes of those inside them, and
+-- nothing of a generation that is not used yet has a value.
 abbrev pub EachIsTidy : Type 0
 EachIsTidy = (routines : List RoutineTree) (declared : EntryId → Bool) → AtEachMoment routines declared IsTidy
 
--- NEW makes names new: they have no value, and share their cells with no other name.
+-- NEW creates names: they have no value, and share their cells with no other name.
 abbrev pub NewIsNew : Type 0
 NewIsNew = (routines : List RoutineTree) (declared : EntryId → Bool) → AtEachMoment routines declared (MakesNew routines)
 
--- KILL takes the values of the cells of its names, and of no others, at any job.
+-- KILL removes the values of the cells of its names, and no others, for any job.
 abbrev pub KillIsExact : Type 0
 KillIsExact = (routines : List RoutineTree) (j : Job) → Kills routines j
 
--- Where no formal list has a name twice, names share cells with names outside of a block or frame by reference alone.
+-- If no formal list has a name twice, names share cells with names outside of a block or frame only by reference.
 abbrev pub SharedByReference : Type 0
 SharedByReference =
     (routines : List RoutineTree) (declared : EntryId → Bool) → FormalsDiffer routines
     → AtEachMoment routines declared SharesByReference
 
--- Where no formal list has a name twice, a step changes names outside of a block or frame under those names alone, where
--- nothing in there has bound them, or by reference.
+-- If no formal list has a name twice, a step changes names outside of a block or frame only under those names, if nothing in
+-- there has bound them, or by reference.
 abbrev pub OutsideIsKept : Type 0
 OutsideIsKept =
     (routines : List RoutineTree) (declared : EntryId → Bool) → FormalsDiffer routines

@@ -1,4 +1,5 @@
--- What a job keeps to at a moment, and that it does so at each moment of each run of its own. This project's own choice.
+-- The invariants of a job at one moment, and that they hold at each moment of each run of that job alone. This project's own
+-- choice.
 use Rattle.std.specs.Prelude.{◌≡◌, ℕ, Bool, List, Some, Ok, Contains, Option}
 use Rattle.std.specs.Fmt.{decimal}
 use Rattle.mlk_names.specs.declared.lock_name.LockName.{LockName}
@@ -20,14 +21,14 @@ use Rattle.mlk_machine_jobs.specs.Seen.{ready, HasEnded}
 use Rattle.mlk_machine_jobs.specs.Runs.{machine, seen}
 use Rattle.mlk_machine_laws.specs.Order.{ClaimsInOrder}
 
--- the term stands for a name that the job holds
+-- the job holds a name that the term denotes
 pub record IsHeld (values : Assignment) (j : Job) (t : LockTerm) : Type 0 where
   pub name : LockName
   pub names : Names values t name
   pub holds : Holds (seen j) name
 
--- What the job touches next is covered: some values of locals, and its own number, make of a reference just that touch,
--- and of lock terms names that it holds; and by the rules these terms cover the reference.
+-- The reference that the job touches next is covered: there are values of locals, and its own number, by which a reference
+-- denotes just that touch and lock terms denote names that it holds, and by the rules these terms cover the reference.
 pub record IsCoveredAt (rules : RuleLists) (j : Job) (t : Touch) : Type 0 where
   pub values : Assignment
   pub own : values.job ≡ decimal j.number
@@ -37,19 +38,19 @@ pub record IsCoveredAt (rules : RuleLists) (j : Job) (t : Touch) : Type 0 where
   pub touches : Touches values reference t
   pub covered : IsCovered rules held reference
 
--- where it stands ready at a reference, it holds what covers it
+-- if the job stands ready at a reference, it holds what covers it
 abbrev pub StandsCovered : RuleLists → Job → Type 0
 StandsCovered rules j = (t : Touch) → ready j ≡ Some t → IsCoveredAt rules j t
 
--- what it claims next is in order
+-- its next claim is in order
 abbrev pub StandsInOrder : List Family → Job → Type 0
 StandsInOrder families j = ClaimsInOrder families (seen j)
 
--- where it has ended by itself, it holds no lock
+-- if it has ended by itself, it holds no lock
 abbrev pub EndsEmpty : Job → Type 0
 EndsEmpty j = HasEnded j → (n : LockName) → Holds (seen j) n → ⊥
 
--- At each moment of each run of one job, begun at a declared entry and granted each claim at any time.
+-- At each moment of each run of one job that begins at a declared entry, whenever each of its claims is granted.
 abbrev pub AtEachMoment : List RoutineTree → (EntryId → Bool) → (Job → Type 0) → Type 0
 AtEachMoment routines declared Keeps =
     (e : EntryId) (test : Bool) (values : List (Option (List ℕ))) (k : ℕ) (first j : Job) (acts : List (Act Choice EntryId))

@@ -1,6 +1,5 @@
--- What a step leaves of the values of names outside of a block or frame. Restates ISO/IEC 11756, local variables, NEW and
--- parameter passing: what a name is bound to there is changed under that name where no NEW and no formal hides it, or by
--- reference.
+-- The effect of a step on the values of names outside of a block or frame. Restates ISO/IEC 11756, local variables, NEW and
+-- parameter passing: such a variable changes only under that name, if no NEW and no formal hides it, or by reference.
 use Rattle.std.specs.Prelude.{◌≡◌, ℕ, Bool, false, ◌&&◌, not, List, ◌∷◌, ◌++◌, bytes_eq, Ok}
 use Rattle.mlk_names.specs.declared.lock_name.LockName.{LockName}
 use Rattle.mlk_syntax.specs.Trees.{RoutineTree}
@@ -10,7 +9,7 @@ use Rattle.mlk_machine_jobs.specs.Tasks.{Task, Job, Store, StoreAny, StoreLast, 
 use Rattle.mlk_machine_jobs.specs.Runs.{go}
 use Rattle.mlk_machine_laws.specs.Sharing.{binds, is_lent}
 
--- the next step stores a value in the name, or takes its value away
+-- the next step stores a value in the name, or kills it
 abbrev pub changes_name : List Task → List ℕ → Bool
 changes_name (Store name value ∷ ts) n = bytes_eq name n
 changes_name (StoreAny name ∷ ts) n = bytes_eq name n
@@ -18,8 +17,8 @@ changes_name (StoreLast name ∷ ts) n = bytes_eq name n
 changes_name (KillNames names ∷ ts) n = covers names n
 changes_name ts n = false
 
--- Of the binders that a step leaves as they were, each name keeps its value in that step, but where some formal is bound
--- to its cell by reference, or where the step changes that very name and nothing in front binds it.
+-- Of the binders that a step leaves unchanged, each name keeps its value in that step, unless some formal is bound to its
+-- cell by reference, or the step changes that very name and nothing in front binds it.
 abbrev pub KeepsOutside : List RoutineTree → Job → Type 0
 KeepsOutside routines j =
     (front after back : Bindings) (n : List ℕ) (free : LockName → Bool) (c : Choice) (i : Job)

@@ -1,5 +1,5 @@
--- Blocks and frames from their begin to their end: what is new in one lasts as long as it is open. Restates ISO/IEC 11756,
--- DO, extrinsic functions, NEW, QUIT.
+-- Blocks and frames from begin to end: what is new in one lasts as long as it is open. Restates ISO/IEC 11756, DO, extrinsic
+-- functions, NEW, QUIT.
 use Rattle.std.specs.Prelude.{◌≡◌, ℕ, ◌<◌, ◌≤◌, Bool, true, false, List, [], ◌∷◌, ◌++◌, length, None, Ok}
 use Rattle.mlk_machine_locks.specs.Systems.{Machine, Act, alone, lone_run}
 use Rattle.mlk_program.specs.declared.entry.EntryId.{EntryId}
@@ -7,12 +7,12 @@ use Rattle.mlk_machine_jobs.specs.declared.choice.Choice.{Choice}
 use Rattle.mlk_machine_jobs.specs.Bindings.{Cell}
 use Rattle.mlk_machine_jobs.specs.Tasks.{Job, Mark, BlockMark, FrameMark, NoValue, AwaitsValue, HasValue, marks}
 
--- how many blocks and frames are open
+-- the number of open blocks and frames
 abbrev pub count_open : Job → ℕ
 count_open j = length (marks j.tasks)
 
--- A job within a frame goes, by one act, into a block or a frame; it is in there, or in what it begins in there, at each
--- moment of any acts; and by one more act as many blocks and frames are open as before.
+-- A job within a frame enters a block or a frame by one act; at each moment of further acts it is in there, or in what begins
+-- there; and by one more act it leaves again: as many blocks and frames are open as before.
 pub record GoesThrough (m : Machine Job Choice EntryId) (j i : Job) : Type 0 where
   pub is_in_frame : 0 < count_open j
   pub goes_in : Act Choice EntryId
@@ -27,7 +27,7 @@ pub record GoesThrough (m : Machine Job Choice EntryId) (j i : Job) : Type 0 whe
   pub is_out : alone m goes_out last ≡ Ok i
   pub as_many : count_open i ≡ count_open j
 
--- a block, and the frame of `$$`, have a `$TEST` of their own; one that DO begins has not
+-- a block and the frame of an extrinsic call have a `$TEST` of their own; a frame that DO begins has none
 abbrev pub has_own_test : List Mark → Bool
 has_own_test [] = false
 has_own_test (BlockMark back next test ∷ ms) = true
@@ -35,7 +35,7 @@ has_own_test (FrameMark NoValue back next routine ∷ ms) = false
 has_own_test (FrameMark (AwaitsValue test) back next routine ∷ ms) = true
 has_own_test (FrameMark (HasValue test) back next routine ∷ ms) = true
 
--- Names are bound as they were, what was new is forgotten, and a `$TEST` of its own is gone.
+-- Names are bound as before, what was new is gone, and a `$TEST` that was saved is restored.
 pub record IsPutBack (j first i : Job) : Type 0 where
   pub bindings : i.bindings ≡ j.bindings
   pub unused : i.next ≡ j.next

@@ -1,7 +1,7 @@
--- What is so of each tree that a text spells, and what runs of jobs rest on: a QUIT with a value stands where it ends a call,
--- each line bears the level at which it stands, no formal list has a name twice, and READ is into locals. Restates ISO/IEC
--- 11756: QUIT, block, formallist, READ; that QUIT with a value stands in no block and in no FOR, and that READ is into no
--- global, is this project's own choice.
+-- Properties of each tree that a text spells, on which the laws of jobs' runs depend: a QUIT with a value occurs only where it
+-- ends a call, each line has the level that it is listed at, no formal list contains a name twice, and READ is into locals.
+-- Restates ISO/IEC 11756: QUIT, block, formallist, READ; that no QUIT with a value occurs in a block or in a FOR, and that READ
+-- is into no global, is this project's own choice.
 use Rattle.std.specs.Prelude.{◌≡◌, ℕ, suc, Bool, true, false, Some, Contains}
 use Rattle.std.specs.List.{list_all}
 use Rattle.mlk_syntax.specs.Distinct.{AreDistinct}
@@ -18,7 +18,7 @@ abbrev pub answers : CommandTree → Bool
 answers (Does column condition (Quit (Some t))) = true
 answers c = false
 
--- it stands where it may alone, and behind no FOR
+-- a QUIT with a value occurs only where `may` allows it, and behind no FOR
 abbrev pub AnswersAtEnd : Bool → CommandTrees → Type 0
 AnswersAtEnd may finished = Unit {0}
 AnswersAtEnd may (then_command c rest) = (answers c ≡ true → may ≡ true) × AnswersAtEnd may rest
@@ -27,7 +27,7 @@ AnswersAtEnd may (then_for column index control rest) = AnswersAtEnd false rest
 abbrev pub IsAtLevel : ℕ → Bool → HeadTree → Type 0
 IsAtLevel level may (LineHead number at end label formals commands) = (at ≡ level) × AnswersAtEnd may commands
 
--- lines of one level, each with its block one level deeper, where no QUIT has a value
+-- lines of one level, each with its block one level deeper, in which no QUIT has a value
 abbrev pub AreLeveled : ℕ → Bool → LineTrees → Type 0
 AreLeveled level may no_lines = Unit {0}
 AreLeveled level may (line head block rest) =
@@ -36,7 +36,7 @@ AreLeveled level may (line head block rest) =
 abbrev pub lines_of_routine : RoutineTree → LineTrees
 lines_of_routine (Named_routine name lines) = lines
 
--- no formal list of the routine has a name twice
+-- no formal list of the routine contains a name twice
 abbrev pub FormalsDifferIn : RoutineTree → Type 0
 FormalsDifferIn r = (l : LineTree) → Contains (lines_in r) l → AreDistinct (formals_in l.0)
 
@@ -45,14 +45,14 @@ abbrev pub is_local : VariableTree → Bool
 is_local (Named column (LocalName name subs)) = true
 is_local v = false
 
--- an argument of READ: a text, a format, or a variable, `X`, `X#5` or `*X`, and then a local
+-- an argument of READ: a text, a format, or a variable as in `X`, `X#5` or `*X`, which must be a local
 abbrev pub reads_local : ReadTree → Bool
 reads_local (ReadText prompt) = true
 reads_local (ReadFormat tab) = true
 reads_local (ReadLine v most timeout) = is_local v
 reads_local (ReadCharacter v timeout) = is_local v
 
--- a command: where it is READ, each argument is so
+-- a command: if it is READ, this holds of each argument
 abbrev pub reads_locals : CommandTree → Bool
 reads_locals (Does column condition (Read reads)) = list_all reads_local reads
 reads_locals c = true
@@ -66,7 +66,7 @@ ReadsLocals (then_for column index control rest) = ReadsLocals rest
 abbrev pub HeadReadsLocals : HeadTree → Type 0
 HeadReadsLocals (LineHead number at end label formals commands) = ReadsLocals commands
 
--- lines, and those of their blocks
+-- lines and those of their blocks
 abbrev pub LinesReadLocals : LineTrees → Type 0
 LinesReadLocals no_lines = Unit {0}
 LinesReadLocals (line head block rest) = HeadReadsLocals head × LinesReadLocals block × LinesReadLocals rest

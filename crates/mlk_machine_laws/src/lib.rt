@@ -1,5 +1,5 @@
-//! From what each job keeps to by itself to what all jobs of a run keep to: two clash only where rules free reads, none wait
-//! in a ring, and none that has ended holds a lock. And what the end of a block or a frame puts back.
+//! From properties of each job by itself to properties of all jobs of a run: two clash only where rules make reads free, none
+//! wait in a ring, and none that has ended holds a lock. And the bindings that the end of a block or frame restores.
 #![tactic(auto)]
 
 mod law;

@@ -1,4 +1,4 @@
--- An answer that is there came from one before it.
+-- A result that is `Ok` comes from one before it.
 use Rattle.std.proofs.Common.{◌≡◌, refl}
 use Rattle.std.specs.Prelude.{Result, Ok, Err}
 use Rattle.mlk_machine_locks.specs.declared.refusal.Refusal.{Refusal}

@@ -9,7 +9,7 @@ use Rattle.mlk_machine_locks.specs.Counts.{Counts, count_of, raised, lowered, wi
 use Rattle.mlk_machine_locks.specs.Laws.{ClaimAddsOne, ReleaseTakesOne}
 use Rattle.mlk_machine_locks.proofs.NameLemmas.{same_is, same_self}
 
--- 1 where two names are one
+-- 1 if the two names are equal
 abbrev pub one : LockName → LockName → ℕ
 one m n = if same_name m n then 1 else 0
 
@@ -48,7 +48,7 @@ count_of-lowered (x ∷ hs) m n h =
     (λ e. let p : 0 < 0 + count_of hs m = rw e at h in let q : 0 < count_of hs m = omega arith in rw e (omega (arith, count_of-lowered hs m n q)))
     (cases_Bool (same_name x.0 m))
 
--- what is left of a name after one less was there before
+-- what is left of a name after a release was there before
 pub lowered_le : (hs : Counts) (m n : LockName) → count_of (lowered m hs) n ≤ count_of hs n
 lowered_le [] m n = omega arith
 lowered_le (x ∷ hs) m n =
@@ -66,7 +66,7 @@ lowered_le (x ∷ hs) m n =
     without_le y (suc zero) rest h = omega arith
     without_le y (suc (suc k)) rest h = step_le (same_name y n) (suc k) (count_of hs n)
 
--- what another name counts stays, whether this one is held or not
+-- the count of another name stays, whether this one is held or not
 pub lowered-other : (hs : Counts) (m n : LockName) → same_name m n ≡ false → count_of (lowered m hs) n ≡ count_of hs n
 lowered-other [] m n o = refl
 lowered-other (x ∷ hs) m n o =
@@ -105,12 +105,12 @@ release_takes_one m held = (
   λ n ne. lowered-other held m n (same_false m n ne),
 )
 
--- of many names at once
+-- several names at once
 pub all_lowered_le : (ms : List LockName) (hs : Counts) (n : LockName) → count_of (all_lowered ms hs) n ≤ count_of hs n
 all_lowered_le [] hs n = omega arith
 all_lowered_le (m ∷ ms) hs n = omega (arith, all_lowered_le ms (lowered m hs) n, lowered_le hs m n)
 
--- what is counted once all of these have come was counted before, or is free as all of these are
+-- what is counted after all of these were claimed was counted before, or is free as all of these are
 pub all_added : (free : LockName → Bool) (ns : List LockName) (hs : Counts) → list_all free ns ≡ true → (n : LockName)
     → 0 < count_of (all_raised ns hs) n → (0 < count_of hs n) ⊎ (free n ≡ true)
 all_added free [] hs h n p = inl p
@@ -126,7 +126,7 @@ all_added free (x ∷ ns) hs h n p =
       | inr q ↦ inr q
     ]
 
--- where more names are free, all of a list are that were
+-- if more names are free, all of a list that were free still are
 pub all_more : (free more : LockName → Bool) → ((n : LockName) → free n ≡ true → more n ≡ true) → (ns : List LockName)
     → list_all free ns ≡ true → list_all more ns ≡ true
 all_more free more f [] h = refl

@@ -1,4 +1,4 @@
--- What stands at a place of a list of counts, as the code finds it.
+-- The entry at an index of a list of counts, as the code finds it.
 use Rattle.std.proofs.Common.{◌≡◌, ℕ, zero, suc, ◌+◌, ◌-◌, ◌<◌, ◌≤◌, Bool, true, false, List, [], ◌∷◌, ◌++◌, Option, Some, None, refl, sym, ap, ◌∙◌, arith, length, get_or, set, take, drop, remove, subst}
 use Rattle.std.specs.Prelude.{◌&&◌, nat_lt, if◌then◌else◌}
 use Rattle.std.specs.List.{position, position_or_len, AllZip}
@@ -15,7 +15,7 @@ use Rattle.mlk_machine_locks.specs.NameTests.{same_name}
 use Rattle.mlk_machine_locks.specs.Counts.{Counts, count_of, raised, lowered, without_one}
 use Rattle.mlk_machine_locks.proofs.Counting.{one}
 
--- what stands at a place is raised
+-- the entry at an index is raised
 pub raised_at : (m : LockName) (hs : Counts) (i : ℕ) (d : LockName × ℕ) → i < length hs
     → same_name (get_or hs i d).0 m ≡ true → ((k : ℕ) → k < i → same_name (get_or hs k d).0 m ≡ false)
     → set hs i ((get_or hs i d).0, (get_or hs i d).1 + 1) ≡ raised m hs
@@ -32,7 +32,7 @@ raised_past m (h ∷ hs) d none =
     rw (none 0 (omega arith))
     (ap (λ (r : Counts). h ∷ r) (raised_past m hs d (λ k lt. none (suc k) (omega arith))))
 
--- whether an entry is one of this name that counts some
+-- whether an entry is for this name and has a positive count
 abbrev pub counts : LockName → LockName × ℕ → Bool
 counts m h = same_name h.0 m && nat_lt 0 h.1
 
@@ -85,7 +85,7 @@ lowered_more m (h ∷ hs) (suc i) d l is before o =
     ap (λ (r : Counts). h ∷ r) (lowered_more m hs i d (omega arith) is (λ k lt. before (suc k) (omega arith)) o)
     ∙ sym (kept (same_name h.0 m) h.0 h.1 hs (lowered m hs) (before 0 (omega arith)))
 
--- where no place is found, nothing passes
+-- if no index is found, nothing passes
 pub none_passes : {X : Type 0} (p : X → Bool) (xs : List X) (d : X) → position p xs ≡ None
     → (k : ℕ) → k < length xs → p (get_or xs k d) ≡ false
 none_passes p xs d e k l =
@@ -117,7 +117,7 @@ copied x y h =
     with_parts : (a b : Root) (c d : List (List ℕ)) → a ≡ b → c ≡ d → made a c ≡ made b d
     with_parts a b c d e f = ap (λ k. made k c) e ∙ ap (made b) f
 
--- an entry counts no more than its name
+-- an entry's count is at most its name's
 pub entry_le : (m : LockName) (hs : Counts) (i : ℕ) (d : LockName × ℕ) → i < length hs
     → same_name (get_or hs i d).0 m ≡ true → (get_or hs i d).1 ≤ count_of hs m
 entry_le m [] i d l is = absurd (omega arith)
@@ -129,7 +129,7 @@ entry_le m (h ∷ hs) (suc i) d l is =
     rest_le true n k = omega arith
     rest_le false n k = omega arith
 
--- What is found at a place, as the code finds it: `xs` is the slice, `r` the answer, `d` what stands there.
+-- What is found at an index, as the code finds it: `xs` is the slice, `r` the result, `d` the entry at the index.
 abbrev pub named : LockName → LockName × ℕ → Bool
 named m h = same_name h.0 m
 

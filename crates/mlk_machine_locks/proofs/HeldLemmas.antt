@@ -1,4 +1,4 @@
--- What is held, as the code keeps it.
+-- What is held, as the code stores it.
 use Rattle.std.proofs.Common.{◌≡◌, ◌↔◌, ℕ, ◌<◌, ◌≤◌, Bool, true, false, List, [], ◌∷◌, Some, None, refl, sym, ap, ◌∙◌, arith, inl, inr, subst}
 use Rattle.std.specs.Prelude.{◌&&◌, ◌||◌, nat_lt, nat_le, IsTrue, if◌then◌else◌}
 use Rattle.std.specs.List.{list_any}
@@ -30,7 +30,7 @@ pub excludes_any : (n : LockName) (hs : Counts)
 excludes_any n [] = refl
 excludes_any n (h ∷ hs) = ap (λ b. (nat_lt 0 h.1 && in_conflict n h.0) || b) (excludes_any n hs)
 
--- no count passes the greatest
+-- no count exceeds the maximum
 abbrev pub Within : Counts → Type 0
 Within hs = (n : LockName) → count_of hs n ≤ greatest_count
 
@@ -101,7 +101,7 @@ claim_stops m ns hs h = rw (no_room m ns hs h) refl
 pub lowered_within : (m : LockName) (hs : Counts) → Within hs → Within (lowered m hs)
 lowered_within m hs w n = omega (arith, w n, lowered_le hs m n)
 
--- claims and releases of a name after another
+-- claims and releases of one name after another
 pub claim_next : (m : LockName) (ns all : List LockName) (hs new first : Counts)
     → (claimed (m ∷ ns) hs ≡ claimed all first) × Within hs → (count_of hs m ≡ greatest_count → ⊥)
     → new ≡ raised m hs → (claimed ns new ≡ claimed all first) × Within new

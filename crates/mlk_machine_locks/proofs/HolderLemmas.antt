@@ -1,4 +1,4 @@
--- Those who may hold a name, asked one after another; those that hold nothing are taken away.
+-- The jobs that may hold a name, asked one after another; those that hold nothing are removed.
 use Rattle.std.proofs.Common.{◌≡◌, ◌≢◌, ◌<◌, ◌+◌, ◌-◌, ◌==◌, ℕ, zero, suc, Bool, true, false, cond, Option, Some, None, List, [], ◌∷◌, length, take, set, get_or, refl, sym, ap, ◌∙◌, subst, arith, inl, inr}
 use Rattle.std.specs.Prelude.{◌⊎◌, IfSome, is_some, if◌then◌else◌, swap_remove}
 use Rattle.std.specs.List.{list_any, slice_get}
@@ -26,7 +26,7 @@ get_before (x ∷ xs) zero n v l = absurd (omega (arith, l))
 get_before (x ∷ xs) (suc i) zero v l = refl
 get_before (x ∷ xs) (suc i) (suc n) v l = get_before xs i n v (omega (arith, l))
 
--- one is taken away, and the last takes its place
+-- one is removed, and the last takes its index
 pub taken_before : (old new : List ℕ) (i k n : ℕ) → i < length old → new ≡ swap_remove old i k → n < i
     → slice_get new n ≡ slice_get old n
 taken_before old new i k n w e l =
@@ -43,7 +43,7 @@ pub others_stay : (old new : List ℕ) (k i : ℕ) → (is_in i new ≡ cond (k 
     → is_in i old ≡ true → (k ≡ i → ⊥) → is_in i new ≡ true
 others_stay old new k i e h o = e ∙ ap (λ b. cond b false (is_in i old)) (ne_eqb k i o) ∙ h
 
--- what is among places stands at one
+-- what is in a list is at an index of it
 pub place_of_one : (places : List ℕ) (i : ℕ) → is_in i places ≡ true → (n : ℕ) × (slice_get places n ≡ Some i)
 place_of_one [] i h = cc
 place_of_one (p ∷ places) i h = elim (or_cases (i == p) (is_in i places) h) [

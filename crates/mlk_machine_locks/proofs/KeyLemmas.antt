@@ -1,4 +1,4 @@
--- Names that conflict have a key in common: one that is asked for the one, and listed for the other.
+-- Names that conflict have a key in common: one that is looked up for the one, and listed for the other.
 use Rattle.std.proofs.Common.{◌≡◌, ℕ, ◌<◌, ◌==◌, true, List, [], ◌∷◌, refl, sym, subst, arith, inl, inr}
 use Rattle.std.specs.Prelude.{nat_lt}
 use Rattle.std.specs.List.{list_any}
@@ -19,7 +19,7 @@ use Rattle.mlk_machine_locks.proofs.NameLemmas.{first_if, same_is, where_counted
 abbrev pub Shared : List ℕ → List ℕ → Type 0
 Shared asked listed = (key : ℕ) × Among key asked × Among key listed
 
--- the first of two names is above: who claims it finds what is below it
+-- the first of two names is above: a claim of it finds what is below it
 found_below : (key : ℕ) (xs ys : List (List ℕ)) → are_first xs ys ≡ true → Shared (asked_from key xs) (keys_from key ys)
 found_below key [] [] h = (key, inr (inl refl), inl refl)
 found_below key [] (y ∷ ys) h = (key, inr (inl refl), inl refl)
@@ -31,7 +31,7 @@ found_below key (x ∷ xs) (y ∷ ys) h =
     let P : List ℕ → Type 0 = λ z. Among r.0 (keys_from (deeper key z) ys) in
     (r.0, inr r.1, inr (subst P e r.2))
 
--- the second of two names is above: who claims the first finds it
+-- the second of two names is above: a claim of the first finds it
 found_above : (key : ℕ) (xs ys : List (List ℕ)) → are_first ys xs ≡ true → Shared (asked_from key xs) (keys_from key ys)
 found_above key [] [] h = (key, inr (inl refl), inl refl)
 found_above key (x ∷ xs) [] h = (itself key, inl refl, inr (inl refl))

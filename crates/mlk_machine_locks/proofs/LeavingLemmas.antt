@@ -1,4 +1,4 @@
--- A run without the events of one job is a run, of the others.
+-- A run without the events of one job is a run of the others.
 use Rattle.std.proofs.Common.{◌≡◌, ℕ, Bool, true, false, List, [], ◌∷◌, ◌++◌, filter, refl, sym, ap, ◌∙◌, subst, inl, inr}
 use Rattle.std.specs.Prelude.{◌≢◌, ◌==◌, ◌&&◌, not, Result, Ok, Err}
 use Rattle.std.specs.List.{list_any}
@@ -21,7 +21,7 @@ any_filter p q (x ∷ xs) h =
     ]
 
 module _ {J C E : Type 0} (m : Machine J C E) (is : IsMachine m) (k : ℕ) where
-  -- one of another number stays, and one of this number goes
+  -- a job of another number stays, and one of this number is removed
   stays : (x : J) (xs : List J) → number m x ≢ k → others m k (x ∷ xs) ≡ x ∷ others m k xs
   stays x xs ne = let e : not (number m x == k) ≡ true = not_from_false (number m x == k) (ne_eqb (number m x) k ne) in rw e refl
 
@@ -45,7 +45,7 @@ module _ {J C E : Type 0} (m : Machine J C E) (is : IsMachine m) (k : ℕ) where
   abbrev Keeps : (J → Result J Refusal) → Type 0
   Keeps f = (j i : J) → f j ≡ Ok i → number m i ≡ number m j
 
-  -- a change of this job changes nothing of the others
+  -- a change of this job does not affect the others
   own_change : (f : J → Result J Refusal) (jobs jobs' : List J) → Keeps f → changed m f k jobs ≡ Ok jobs' → others m k jobs' ≡ others m k jobs
   own_change f [] jobs' keeps h = cc
   own_change f (x ∷ xs) jobs' keeps h =
@@ -65,7 +65,7 @@ module _ {J C E : Type 0} (m : Machine J C E) (is : IsMachine m) (k : ℕ) where
             subst P r (stays x ys ne ∙ ap (λ l. x ∷ l) (own_change f xs ys keeps p) ∙ sym (stays x xs ne)))
       ]
 
-  -- a change of another job is one among the others, if what is done there is done here
+  -- a change of another job is one among the others, if both functions agree on it
   other_change : (f g : J → Result J Refusal) (n : ℕ) (jobs jobs' : List J) → n ≢ k → Keeps f → ((j i : J) → f j ≡ Ok i → g j ≡ Ok i) → changed m f n jobs ≡ Ok jobs' → changed m g n (others m k jobs) ≡ Ok (others m k jobs')
   other_change f g n [] jobs' ne keeps may h = cc
   other_change f g n (x ∷ xs) jobs' ne keeps may h =

@@ -1,4 +1,4 @@
--- What stands in a list of those that pass a test, and how long it is.
+-- The elements of a list that pass a test, and the length of such a list.
 use Rattle.std.proofs.Common.{◌≡◌, ◌<◌, ◌≤◌, Bool, true, cond, List, [], ◌∷◌, length, filter, map, refl, sym, ap, ◌∙◌, subst, arith, inl, inr}
 use Rattle.std.specs.Prelude.{◌⊎◌, ◌||◌}
 use Rattle.std.specs.List.{list_any}

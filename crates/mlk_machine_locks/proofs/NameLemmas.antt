@@ -1,4 +1,4 @@
--- The tests of names say what they ought to, and who holds what in_conflict excludes.
+-- The tests of names decide the relations, and the held names that `in_conflict` finds exclude.
 use Rattle.std.proofs.Common.{◌≡◌, ℕ, zero, suc, ◌+◌, ◌<◌, Bool, true, false, List, [], ◌∷◌, refl, sym, ap, ◌∙◌, subst, arith, inl, inr}
 use Rattle.std.specs.Prelude.{◌⊎◌, ◌&&◌, ◌||◌, bytes_eq, Decides, if◌then◌else◌, nat_lt}
 use Rattle.std.proofs.lemmas.Slice.Eq.{bytes_eq-Decides}
@@ -74,7 +74,7 @@ first_self : (xs : List (List ℕ)) → are_first xs xs ≡ true
 first_self [] = refl
 first_self (x ∷ xs) = and_from (bytes_eq x x) (are_first xs xs) ((bytes_eq-Decides x x).1 refl) (first_self xs)
 
--- two lists that are equal as far as both go
+-- two lists that are equal up to the end of the shorter one
 pub agree_none : (ys : List (List ℕ)) → true ≡ (are_first [] ys || are_first ys [])
 agree_none ys = refl
 
@@ -104,7 +104,7 @@ same_root_turned (Global a) (Local b) = refl
 same_root_turned (Local a) (Global b) = refl
 same_root_turned (Local a) (Local b) = turned a b
 
--- a conflict, subscripts first
+-- a conflict, with the subscripts first
 pub conflict_so : (m n : LockName)
     → ((are_first m.subs n.subs || are_first n.subs m.subs) && same_root m.root n.root) ≡ in_conflict m n
 unfolding in_conflict is_above
@@ -121,7 +121,7 @@ conflict_so m n =
     turned_around false false true = refl
     turned_around false false false = refl
 
--- the same as it is tested: subscripts first, and where they agree the roots
+-- the same, in the order of the tests: subscripts first, and if they agree the roots
 pub conflict_then : (a b : Bool) (m n : LockName) (xs ys : List (List ℕ)) → xs ≡ m.subs → ys ≡ n.subs
     → a ≡ (are_first xs ys || are_first ys xs) → a ≡ true → b ≡ same_root m.root n.root → b ≡ in_conflict m n
 conflict_then a b m n xs ys e f h t r =
@@ -159,7 +159,7 @@ same_is m n h =
     let f : m.subs ≡ n.subs = first_both m.subs n.subs q.1 r.1 in
     ap (λ (x : Root). record m { root = x }) e ∙ ap (λ (x : List (List ℕ)). record n { subs = x }) f
 
--- some name that is held in_conflict with this one
+-- some held name that conflicts with this one
 abbrev pub Excludes : Counts → LockName → Type 0
 Excludes hs n = (m : LockName) × (0 < count_of hs m) × Conflict n m
 
@@ -179,7 +179,7 @@ excludes_is (x ∷ hs) n h = elim (or_cases (nat_lt 0 x.1 && in_conflict n x.0) 
   | inr e ↦ let r = excludes_is hs n e in (r.0, more (same_name x.0 r.0) x.1 (count_of hs r.0) r.1, r.2)
 ]
 
--- what is counted is counted at this entry, or behind it
+-- what is counted is counted at this entry, or after it
 pub where_counted : (b : Bool) (k c : ℕ) → 0 < (if b then k else 0) + c → ((b ≡ true) × (0 < k)) ⊎ (0 < c)
 where_counted false k c h = inr (omega arith)
 where_counted true zero c h = inr (omega arith)

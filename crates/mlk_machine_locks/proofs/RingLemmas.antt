@@ -1,4 +1,4 @@
--- Taking away those that wait for none of the rest finds a ring where there is one.
+-- Removing those that wait for none of the rest finds a ring if there is one.
 use Rattle.std.proofs.Common.{◌≡◌, ◌↔◌, ℕ, zero, suc, ◌≤◌, Bool, true, List, [], ◌∷◌, length, refl, sym, ap, ◌∙◌, subst, arith, inl, inr}
 use Rattle.std.specs.List.{list_any}
 use Rattle.mlk_names.specs.Lists.{Among}
@@ -10,7 +10,7 @@ module _ {X : Type 0} (waits : X → X → Bool) where
   stays zero xs h = refl
   stays (suc n) xs h = ap (left_after waits n) h ∙ stays n xs h
 
-  -- after as many rounds as there are members, one more changes nothing
+  -- after as many rounds as there are members, one more round changes nothing
   settled : (n : ℕ) (xs : List X) → length xs ≤ n → waiting waits (left_after waits n xs) ≡ left_after waits n xs
   settled zero [] h = refl
   settled zero (x ∷ xs) h = absurd (omega arith)
@@ -33,7 +33,7 @@ module _ {X : Type 0} (waits : X → X → Bool) where
       let w = in_filter (λ z. list_any (waits z) (left waits xs)) (left waits xs) x (subst P (sym s) a) in
       any_from (waits x) (left waits xs) w.1
 
-  -- no round takes a member of a ring away
+  -- no round removes a member of a ring
   ring_stays : (In : X → Type 0) → ((x : X) → In x → (y : X) × In y × (waits x y ≡ true)) → (n : ℕ) (xs : List X) → ((x : X) → In x → Among x xs) → (x : X) → In x → Among x (left_after waits n xs)
   ring_stays In each zero xs within x i = within x i
   ring_stays In each (suc n) xs within x i =

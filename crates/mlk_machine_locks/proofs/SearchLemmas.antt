@@ -1,4 +1,4 @@
--- A search along those that wait for one another finds a ring where there is one.
+-- A search along those that wait for one another finds a ring if there is one.
 use Rattle.std.proofs.Common.{◌≡◌, ◌≢◌, ◌<◌, ◌≤◌, ◌+◌, ℕ, zero, suc, Bool, true, false, Some, List, [], ◌∷◌, length, refl, sym, ap, ◌∙◌, subst, arith, inl, inr, set, get_or, ◌++◌, reverse}
 use Rattle.std.specs.Prelude.{◌⊎◌, ◌&&◌, ◌==◌, not}
 use Rattle.std.proofs.lemmas.Bool.{and_parts, not-true}
@@ -18,7 +18,7 @@ use Rattle.mlk_machine_locks.specs.Rings.{left, has_ring}
 use Rattle.mlk_machine_locks.specs.Searches.{is_free, is_new, IsFree, FreeAt, AreFree, WaitsFreely, Waits, WaitsAt, IsNext, IsStop, Leads, IsPath, places, IsMet, Searching, weight}
 use Rattle.mlk_machine_locks.proofs.RingLemmas.{left_within, left_each, ring_is_found}
 
--- what stands in a list has a place
+-- an element of a list has an index
 pub place_in : {X : Type 0} (xs : List X) (x : X) → Among x xs → (i : ℕ) × (slice_get xs i ≡ Some x)
 place_in [] x a = absurd a
 place_in (y ∷ ys) x (inl e) = (zero, ap Some (sym e))
@@ -57,7 +57,7 @@ free_one New h ne = absurd (cc)
 free_one OnPath h ne = absurd (ne refl)
 free_one Free h ne = refl
 
--- what is done with a job is less to do
+-- a job that is done leaves less to do
 pub less_by_free : (marks : List Mark) (i n : ℕ) → i < length marks
     → sum_by weight (set marks i Free) + n < suc (sum_by weight marks + n)
 less_by_free marks i n l = omega (arith, sum_by-set weight marks i Free New l)
@@ -70,7 +70,7 @@ less_by_new marks i n h =
     let w : weight (get_or marks i New) ≡ 2 = ap weight e in
     omega (arith, w, sum_by-set weight marks i OnPath New l)
 
--- the path, with one more on it
+-- the path, with one more stop
 pub longer : (before path path' : List Stop) (one two : Stop) → path ≡ before ++ one ∷ [] → path' ≡ path ++ two ∷ []
     → (reverse path' ≡ two ∷ one ∷ reverse before) × (length path' ≡ length before + 2)
 longer before path path' one two e f =
@@ -81,7 +81,7 @@ longer before path path' one two e f =
       omega (arith, a, b),
     )
 
--- what stands in a list one of which is set
+-- the elements of a list in which one was set
 pub set_at : (ms : List Mark) (i j : ℕ) (m n : Mark) → i < length ms → slice_get (set ms i m) j ≡ Some n
     → ((j ≡ i) × (m ≡ n)) ⊎ ((j ≢ i) × (slice_get ms j ≡ Some n))
 set_at [] i j m n l h = absurd (omega (arith, l))
@@ -108,7 +108,7 @@ waits_for_none x y h = none (not (x.number == y.number)) (awaited x.next) h
     none b (n ∷ ns) h = absurd (omega (arith, h))
 
 module _ {X : Type 0} (waits : X → X → Bool) (xs : List X) where
-  -- it waits for none but such as are in no ring, so it is in none
+  -- it waits only for jobs that are in no ring, so it is in none
   pub passes_all : (x : X) → Waits waits xs x [] → IsFree waits xs x
   passes_all x h a =
       let e = left_each waits xs x a in
@@ -118,7 +118,7 @@ module _ {X : Type 0} (waits : X → X → Bool) (xs : List X) where
         | inr f ↦ f e.0 p.1 e.2 e.1
       ]
 
-  -- all are in no ring
+  -- none is in a ring
   pub all_free : ((i : ℕ) → i < length xs → FreeAt waits xs i) → has_ring waits xs ≡ false
   all_free h = none (left waits xs) refl
     where
@@ -174,7 +174,7 @@ module _ {X : Type 0} (waits : X → X → Bool) (xs : List X) where
         ];
       })
 
-  -- one of those that are left goes
+  -- one of those that are left is removed
   pub one_less : (x : X) (old new : List ℕ) (i : ℕ) → Waits waits xs x old → old ≡ new ++ i ∷ []
       → WaitsFreely waits xs x i → Waits waits xs x new
   one_less x old new i h e f j = elim (h j) [
@@ -208,7 +208,7 @@ module _ {X : Type 0} (waits : X → X → Bool) (xs : List X) where
     | inr f ↦ inr f
   ]
 
-  -- it waits for the one at this place, which may be in a ring
+  -- it waits for the job at this index, which may be in a ring
   pub next_found : (marks : List Mark) (x y : X) (m : Mark) (i : ℕ) → slice_get xs i ≡ Some y
       → slice_get marks i ≡ Some m → true ≡ (not (is_free m) && waits x y) → IsNext waits xs marks x i
   next_found marks x y m i e f h =
@@ -220,7 +220,7 @@ module _ {X : Type 0} (waits : X → X → Bool) (xs : List X) where
         is_left = λ z. marked_free m z (not-true (is_free m) t.0);
       }
 
-  -- it does not wait for the one at this place, or that is in no ring
+  -- it does not wait for the job at this index, or that is in no ring
   pub next_passed : (marks : List Mark) (x y : X) (m : Mark) (i : ℕ) → AreFree waits xs marks
       → slice_get xs i ≡ Some y → slice_get marks i ≡ Some m → false ≡ (not (is_free m) && waits x y)
       → WaitsFreely waits xs x i
@@ -234,11 +234,11 @@ module _ {X : Type 0} (waits : X → X → Bool) (xs : List X) where
       marked_so true b h e = refl
       marked_so false b h e = absurd (let g : false ≡ true = h ∙ e in cc)
 
-  -- there is none at this place
+  -- there is none at this index
   pub past_all : (x : X) (i : ℕ) → length xs ≤ i → WaitsFreely waits xs x i
   past_all x i l y e w = absurd (omega (arith, l, slice_get_within xs i y e))
 
-  -- a job that waits for none but such as are in no ring is done with
+  -- a job that waits only for jobs that are in no ring is done
   pub freed : (marks : List Mark) (s : Stop) (before : List Stop) (x : X) → Searching waits xs marks (s ∷ before)
       → slice_get xs s.place ≡ Some x → IsFree waits xs x → s.place < length marks
       → Searching waits xs (set marks s.place Free) before
@@ -307,14 +307,14 @@ module _ {X : Type 0} (waits : X → X → Bool) (xs : List X) where
         );
       }
 
-  -- what is met stays so
+  -- what was visited stays visited
   pub followed_met : (s now last : Stop) (before : List Stop) → now.place ≡ s.place → (i : ℕ)
       → IsMet waits xs (s ∷ before) i → IsMet waits xs (last ∷ now ∷ before) i
   followed_met s now last before same i (inl g) = inl g
   followed_met s now last before same i (inr (inl z)) = inr (inr (inl (z ∙ sym same)))
   followed_met s now last before same i (inr (inr a)) = inr (inr (inr a))
 
-  -- what a stop goes on with is marked
+  -- where a stop continues is marked
   pub mark_of : (marks : List Mark) (x : X) (i : ℕ) (d : Mark) → (n : IsNext waits xs marks x i) → get_or marks i d ≡ n.mark
   mark_of marks x i d n = get_or_from_slice_get marks i n.mark d n.is_marked
 
@@ -337,7 +337,7 @@ module _ {X : Type 0} (waits : X → X → Bool) (xs : List X) where
   stop_within marks s before h =
       let stop = h.is_path.0 in omega (arith, h.all, slice_get_within xs s.place stop.job stop.is_at)
 
-  -- the job at a stop, as it is read
+  -- the job at a stop, as the code reads it
   pub stop_is : (marks : List Mark) (s : Stop) (before : List Stop) (x : X) → Searching waits xs marks (s ∷ before)
       → x ≡ get_or xs s.place x → slice_get xs s.place ≡ Some x
   stop_is marks s before x h e =
@@ -355,7 +355,7 @@ module _ {X : Type 0} (waits : X → X → Bool) (xs : List X) where
   pub next_within : (marks : List Mark) (x : X) (i : ℕ) → IsNext waits xs marks x i → i < length marks
   next_within marks x i n = slice_get_within marks i n.mark n.is_marked
 
-  -- where there is no path, what was met is in no ring
+  -- if there is no path, what was visited is in no ring
   pub met_before : (marks : List Mark) (i : ℕ) (d : Mark) → Searching waits xs marks [] → i < length xs
       → is_new (get_or marks i d) ≡ false → FreeAt waits xs i
   met_before marks i d h l f =

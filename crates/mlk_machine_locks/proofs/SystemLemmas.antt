@@ -1,4 +1,4 @@
--- Of any machine: what is held stays apart, and each job of a run is what its own acts alone make of it.
+-- Laws of any machine: what jobs hold stays apart, and each job of a run is the result of its own acts.
 use Rattle.std.proofs.Common.{◌≡◌, ℕ, Bool, true, false, List, [], ◌∷◌, ◌++◌, refl, sym, ap, ◌∙◌, subst, inl, inr, Option}
 use Rattle.std.specs.Prelude.{◌≢◌, ◌⊎◌, ◌==◌, ◌&&◌, not, Result, Ok, Err}
 use Rattle.std.specs.List.{list_any}
@@ -44,7 +44,7 @@ acts_other : {C E : Type 0} (k : ℕ) (e : Event C E) (es : List (Event C E)) �
 acts_other k e es h = let t : (e.job == k) ≡ false = ne_eqb e.job k h in rw t refl
 
 module _ {J C E : Type 0} (m : Machine J C E) (is : IsMachine m) where
-  -- each number is that of one job
+  -- each number belongs to one job
   abbrev Distinct : List J → Type 0
   Distinct = NumbersDiffer m.view
 
@@ -58,7 +58,7 @@ module _ {J C E : Type 0} (m : Machine J C E) (is : IsMachine m) where
       λ i. eqb-false (number m x) k o.0 (ap (number m) (sym e) ∙ i)
   unused k (x ∷ xs) h j (inr a) = unused k xs (or_parts (number m x == k) (is_used m xs k) h).1 j a
 
-  -- which jobs there are once the one of this number has changed
+  -- which jobs there are after the one of this number has changed
   record Changed (f : J → Result J Refusal) (k : ℕ) (jobs jobs' : List J) : Type 0 where
     from : (i : J) → Among i jobs' → (Among i jobs × (number m i ≢ k)) ⊎ ((j : J) × Among j jobs × (number m j ≡ k) × (f j ≡ Ok i))
     distinct : Distinct jobs'
@@ -120,7 +120,7 @@ module _ {J C E : Type 0} (m : Machine J C E) (is : IsMachine m) where
         subst (Changed f k (x ∷ xs)) r (behind f k x xs ys keeps d (eqb-false (number m x) k e) (change f k xs ys keeps d.1 p)))
   ]
 
-  -- which jobs there are once one more has begun
+  -- which jobs there are after one more has begun
   record Begun (k : ℕ) (o : Result J Refusal) (jobs jobs' : List J) : Type 0 where
     new : J
     is_new : o ≡ Ok new
@@ -165,7 +165,7 @@ module _ {J C E : Type 0} (m : Machine J C E) (is : IsMachine m) where
   abbrev Apart : J → J → Type 0
   Apart i j = (x y : LockName) → Holds (m.view i) x → Holds (m.view j) y → Conflict x y → ⊥
 
-  -- a step leaves apart from the others what its job holds
+  -- after a step, what its job holds is apart from the others
   abbrev Spares : (J → Result J Refusal) → ℕ → List J → Type 0
   Spares f k jobs = (j i o : J) → f j ≡ Ok i → Among o jobs → number m o ≢ k → Apart j o → Apart i o
 
@@ -194,7 +194,7 @@ module _ {J C E : Type 0} (m : Machine J C E) (is : IsMachine m) where
   abort_spares : (k : ℕ) (jobs : List J) → Spares m.abort k jobs
   abort_spares k jobs j i o h a ne s x y p q r = s x y (is.abort_holds j i h x p) q r
 
-  -- a state that a run comes to
+  -- a state that a run reaches
   record Sound (jobs : List J) : Type 0 where
     distinct : Distinct jobs
     apart : AreApart m.view jobs
@@ -216,7 +216,7 @@ module _ {J C E : Type 0} (m : Machine J C E) (is : IsMachine m) where
       let c = change f k jobs jobs' keeps s.distinct h in
       (c, record { distinct = c.distinct; apart = apart_changed f k jobs jobs' keeps spares c s.apart })
 
-  -- What a job of the later state was: one of these, which its acts made so, or one that began since.
+  -- Where a job of the later state comes from: one of these, by its own acts, or it began since.
 
   Was : List (Event C E) → List J → J → Type 0
   Was es jobs i = (j : J) × Among j jobs × (number m j ≡ number m i) × (lone_run m (acts_of (number m i) es) j ≡ Ok i)
@@ -227,7 +227,7 @@ module _ {J C E : Type 0} (m : Machine J C E) (is : IsMachine m) where
   Whence : List (Event C E) → List J → J → Type 0
   Whence es jobs i = Was es jobs i ⊎ Since es jobs i
 
-  -- an event of another job changes nothing of this
+  -- an event of another job does not change this one
   was_other : (e : Event C E) (es : List (Event C E)) (jobs : List J) (i : J) → e.job ≢ number m i → Was es jobs i → Was (e ∷ es) jobs i
   unfolding Was
   was_other e es jobs i ne w = (w.0, w.1, w.2, rw (acts_other (number m i) e es ne) w.3)
@@ -286,7 +286,7 @@ module _ {J C E : Type 0} (m : Machine J C E) (is : IsMachine m) where
         alone_other e es i (λ b. u new (among_last jobs new) (is.begin_number entry test values k new h ∙ b)) s,
       )
 
-  -- A state stays sound over an event, and what a job is after it tells what it was before.
+  -- A state stays sound over an event, and what a job is after it determines what it was before.
   record Follows (k : ℕ) (a : Act C E) (jobs mid : List J) : Type 0 where
     sound : Sound mid
     whence : (es : List (Event C E)) (i : J) → Whence es mid i → Whence (record { job = k; act = a } ∷ es) jobs i

@@ -1,4 +1,4 @@
--- Lock tables find each job that holds a name which conflicts.
+-- Lock tables find each job that holds a name that conflicts.
 use Rattle.std.proofs.Common.{◌≡◌, ◌<◌, ◌+◌, ◌==◌, ℕ, Bool, true, false, cond, Option, Some, None, Result, Ok, Err, List, [], ◌∷◌, ◌++◌, length, refl, sym, ap, ◌∙◌, subst, arith, inl, inr}
 use Rattle.std.specs.Prelude.{◌⊎◌, not, OnOk}
 use Rattle.std.specs.List.{list_any, slice_get}
@@ -22,7 +22,7 @@ use Rattle.mlk_machine_locks.proofs.WaitLemmas.{waits_is}
 use Rattle.mlk_machine_locks.proofs.KeyLemmas.{found_by, under_if}
 use Rattle.mlk_machine_locks.proofs.HolderLemmas.{place_of_one}
 
--- One after another is done: each is left, or something holds of it.
+-- Each of a list is still left, or a property holds of it: one after another is done.
 module _ {A : Type 0} (Done More : A → Type 0) (all old : List A) (h : (k : A) → Among k all → Among k old ⊎ Done k) where
   pub one_done : (new : List A) (a : A) → old ≡ a ∷ new → ((k : A) → Done k → More k) → More a
       → (k : A) → Among k all → Among k new ⊎ More k
@@ -59,7 +59,7 @@ pub no_items : {A : Type 0} (xs : List A) → length xs ≡ 0 → xs ≡ []
 no_items [] h = refl
 no_items (x ∷ xs) h = absurd (omega (arith, h))
 
--- the keys of what is left of a name
+-- the keys of the rest of a name
 pub next_keys : (key next : ℕ) (left others : List (List ℕ)) (s : List ℕ) → left ≡ s ∷ others → next ≡ deeper key s
     → keys_from key left ≡ key ∷ keys_from next others
 next_keys key next left others s e d = ap (keys_from key) e ∙ ap (λ z. key ∷ keys_from z others) (sym d)
@@ -81,7 +81,7 @@ last_asked key mark left e m = ap (asked_from key) (no_items left e) ∙ ap (λ 
 pub found_still : (old new : LockTable) (place : ℕ) (n : LockName) → ListsAll old new → IsFound old place n → IsFound new place n
 found_still old new place n more f key a = more key place (f key a)
 
--- what a table is once the holders of a key are others
+-- a table after the holders of a key were replaced
 abbrev pub Updated : List (ℕ × Holders) → List (ℕ × Holders) → ℕ → Holders → Type 0
 Updated old new key w = (q : ℕ) → lookup (λ k. q == k) new ≡ cond (key == q) (Some w) (lookup (λ k. q == k) old)
 
@@ -102,7 +102,7 @@ module _ (old new : List (ℕ × Holders)) (key : ℕ) (w : Holders) (u : Update
   abbrev Listed : List (ℕ × Holders) → ℕ → ℕ → Type 0
   Listed es q place = (h : Holders) × (lookup (λ k. q == k) es ≡ Some h) × (is_one h place ≡ true)
 
-  -- what was listed is so still, where the holders of the key keep it
+  -- what was listed is still listed, if the holders of the key keep it
   pub listed_still : (o : Option Holders) → lookup (λ k. key == k) old ≡ o
       → ((h : Holders) → o ≡ Some h → (i : ℕ) → is_one h i ≡ true → is_one w i ≡ true)
       → (q place : ℕ) → Listed old q place → Listed new q place
@@ -130,7 +130,7 @@ module _ {X : Type 0} (seen : X → View) (xs : List X) (number : ℕ) (name : L
       let s : l.0 ≡ h = same_holders t.holders.entries key l.0 h l.1 e in
       f i (subst (λ g. is_one g i ≡ true) s l.2)
 
-  -- those that hold nothing of the key are listed no longer
+  -- those that hold nothing of the key are no longer listed
   pub covers_still : (new : LockTable) (h w : Holders) → lookup (λ k. key == k) t.holders.entries ≡ Some h
       → Updated t.holders.entries new.holders.entries key w
       → ((i : ℕ) → is_one h i ≡ true → (is_one w i ≡ true) ⊎ IsStale seen xs key i) → Covers seen new xs
@@ -152,7 +152,7 @@ module _ {X : Type 0} (seen : X → View) (xs : List X) (number : ℕ) (name : L
       ]
 
 module _ {X : Type 0} (seen : X → View) (xs : List X) (number : ℕ) (name : LockName) where
-  -- where all keys that are asked are free no other job keeps the name
+  -- if all keys that are looked up are free, no other job keeps the name
   pub none_keeps : ((k : ℕ) → Among k (asked_of name) → IsFreeUnder seen xs number name k)
       → list_any (keeps seen number name) xs ≡ false
   none_keeps f = elim (cases_Bool (list_any (keeps seen number name) xs)) [
@@ -191,7 +191,7 @@ listed_added t key i h old new e f l =
     subst (λ (z : List ℕ). Among i z) (sym f)
     (among_second old h.places.keys i (among_ones h i (subst (λ g. is_one g i ≡ true) s l.2)))
 
--- one name more is found
+-- one more name is found
 pub held_done : (old new : LockTable) (place : ℕ) (all left others : Counts) (e : LockName × ℕ)
     → ((n : LockName) → 0 < count_of all n → (0 < count_of left n) ⊎ IsFound old place n) → left ≡ e ∷ others
     → ListsAll old new → IsFound new place e.0
@@ -231,7 +231,7 @@ covers_more {X} seen xs old new place x h more e one i y l f = elim (cases_lt i 
       subst (λ k. P k y) (sym z) (subst (P place) same one)
 ]
 
--- a job waits for none but those that a table of all that wait has against its names, and such as are in no ring
+-- a job waits only for those that a table of all waiting jobs has against its names, and for jobs that are in no ring
 pub waits_from : {X : Type 0} (seen : X → View) (xs : List X) (t : LockTable) (x : X) (found : List ℕ)
     → CoversWaiting seen t xs → AreAgainst t (awaited (seen x).next) found → Waits (waits_as seen) xs x found
 waits_from {X} seen xs t x found covers against i = at (slice_get xs i) refl

@@ -1,4 +1,4 @@
--- The test says which job waits for which.
+-- The test decides which job waits for which.
 use Rattle.std.proofs.Common.{◌≡◌, true}
 use Rattle.std.specs.Prelude.{◌==◌, not}
 use Rattle.std.specs.List.{list_any}

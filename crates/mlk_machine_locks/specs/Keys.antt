@@ -1,5 +1,5 @@
--- Keys of lock names: numbers by which a table finds who may hold a name. Names that differ may have one key, so whoever is
--- found is asked what it holds. This project's own.
+-- Keys of lock names: numbers by which a table finds the jobs that may hold a name. Different names may have the same key, so a
+-- job that is found is asked what it holds. This project's own.
 use Rattle.std.specs.Prelude.{ℕ, ◌+◌, ◌*◌, ◌%◌, ◌^◌, ◌==◌, Bool, ◌&&◌, nat_lt, List, [], ◌∷◌}
 use Rattle.std.specs.List.{list_any}
 use Rattle.mlk_text.specs.declared.root.Root.{Root}
@@ -14,7 +14,7 @@ abbrev pub mixed : ℕ → List ℕ → ℕ
 mixed key [] = key
 mixed key (b ∷ bs) = mixed (mixed_one key b) bs
 
--- the key of what a name begins with, of what stands one subscript below a name, and one for a name alone, without those below it
+-- the key of the root of a name, that of the names one subscript below a name, and that of a name alone, without those below it
 unfoldable pub root_key : Root → ℕ
 root_key (Global name) = mixed 1 name
 root_key (Local name) = mixed 2 name
@@ -25,7 +25,7 @@ deeper key subscript = mixed (mixed_one key 256) subscript
 unfoldable pub itself : ℕ → ℕ
 itself key = mixed_one key 257
 
--- Who holds a name is found under the name and each one above it, and under the name alone.
+-- A job that holds a name is listed under the keys of that name and of each one above it, and under the key of the name alone.
 abbrev pub keys_from : ℕ → List (List ℕ) → List ℕ
 keys_from key [] = key ∷ itself key ∷ []
 keys_from key (s ∷ ss) = key ∷ keys_from (deeper key s) ss
@@ -33,7 +33,7 @@ keys_from key (s ∷ ss) = key ∷ keys_from (deeper key s) ss
 abbrev pub keys_of : LockName → List ℕ
 keys_of n = keys_from (root_key n.root) n.subs
 
--- Who claims a name looks for it with those below it, and for it and each one above it alone.
+-- A claim of a name looks up the key of the name, for those below it, and the keys of the name and of each one above it alone.
 abbrev pub asked_from : ℕ → List (List ℕ) → List ℕ
 asked_from key [] = itself key ∷ key ∷ []
 asked_from key (s ∷ ss) = itself key ∷ asked_from (deeper key s) ss
@@ -41,6 +41,6 @@ asked_from key (s ∷ ss) = itself key ∷ asked_from (deeper key s) ss
 abbrev pub asked_of : LockName → List ℕ
 asked_of n = asked_from (root_key n.root) n.subs
 
--- some name that is held is found under this key
+-- a job that holds these names is listed under the key because of one of them
 abbrev pub is_under : ℕ → Counts → Bool
 is_under key held = list_any (λ h. nat_lt 0 h.1 && list_any (λ k. key == k) (keys_of h.0)) held

@@ -1,5 +1,5 @@
--- Lock names compared, as tests: which of two is above the other, which conflict, which are one. What they say, the
--- relations of `mlk_names` say (ISO/IEC 11756, LOCK); that both agree is a law. This project's own.
+-- Comparisons of lock names, as tests: which is above the other, which conflict, which are equal. A law says that they decide
+-- the relations of `mlk_names` (ISO/IEC 11756, LOCK). This project's own.
 use Rattle.std.specs.Prelude.{ℕ, Bool, true, false, ◌&&◌, ◌||◌, List, [], ◌∷◌, bytes_eq}
 use Rattle.mlk_text.specs.declared.root.Root.{Root}
 use Rattle.mlk_text.specs.declared.root.Root.TheVariants.{Global, Local}
@@ -25,6 +25,6 @@ is_above m n = same_root m.root n.root && are_first m.subs n.subs
 unfoldable pub in_conflict : LockName → LockName → Bool
 in_conflict m n = is_above m n || is_above n m
 
--- both are one name
+-- both are equal
 unfoldable pub same_name : LockName → LockName → Bool
 same_name m n = is_above m n && is_above n m

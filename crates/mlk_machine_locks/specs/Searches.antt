@@ -1,5 +1,5 @@
--- What a search for a ring knows on its way: which jobs are in none, and the path of jobs, each of which waits for the next,
--- that it follows. Jobs are named by their places. This project's own.
+-- What a search for a ring has established: which jobs are in none, and the path that it follows, on which each job waits for
+-- the next. Jobs are identified by their indexes. This project's own.
 use Rattle.std.specs.Prelude.{⊤, ◌≡◌, ◌≢◌, ◌⊎◌, ◌+◌, ℕ, Bool, true, false, Some, List, [], ◌∷◌, length, map}
 use Rattle.std.specs.List.{slice_get, sum_by}
 use Rattle.mlk_names.specs.Lists.{Among}
@@ -21,25 +21,25 @@ is_free New = false
 is_free OnPath = false
 is_free Free = true
 
--- it was not met yet
+-- it was not visited yet
 unfoldable pub is_new : Mark → Bool
 is_new New = true
 is_new OnPath = false
 is_new Free = false
 
--- those that are marked so are in no ring
+-- those with this mark are in no ring
 abbrev pub AreFree : {X : Type 0} → (X → X → Bool) → List X → List Mark → Type 0
 AreFree waits xs marks = (i : ℕ) → slice_get marks i ≡ Some Free → FreeAt waits xs i
 
--- it does not wait for the one at this place, or that one is in no ring
+-- it does not wait for the job at this index, or that one is in no ring
 abbrev pub WaitsFreely : {X : Type 0} → (X → X → Bool) → List X → X → ℕ → Type 0
 WaitsFreely {X} waits xs x i = (y : X) → slice_get xs i ≡ Some y → waits x y ≡ true → IsFree waits xs y
 
--- it waits for those at these places at most, and for such as are in no ring
+-- it waits at most for the jobs at these indexes, and for jobs that are in no ring
 abbrev pub Waits : {X : Type 0} → (X → X → Bool) → List X → X → List ℕ → Type 0
 Waits waits xs x left = (i : ℕ) → Among i left ⊎ WaitsFreely waits xs x i
 
--- it waits for the job at this place
+-- it waits for the job at this index
 pub record WaitsAt {X : Type 0} (waits : X → X → Bool) (xs : List X) (x : X) (i : ℕ) : Type 0 where
   pub other : X
   pub is_at : slice_get xs i ≡ Some other
@@ -52,13 +52,13 @@ pub record IsNext {X : Type 0} (waits : X → X → Bool) (xs : List X) (marks :
   pub is_marked : slice_get marks i ≡ Some mark
   pub is_left : mark ≢ Free
 
--- a stop of a path, with the places that are left to follow
+-- a stop of a path, with the indexes that are left to follow
 pub record IsStop {X : Type 0} (waits : X → X → Bool) (xs : List X) (s : Stop) : Type 0 where
   pub job : X
   pub is_at : slice_get xs s.place ≡ Some job
   pub left : Waits waits xs job s.left.items
 
--- the last stop of a path waits for the job at this place, if there is one
+-- the last stop of a path waits for the job at this index, if there is one
 abbrev pub Leads : {X : Type 0} → (X → X → Bool) → List X → List Stop → ℕ → Type 0
 Leads waits xs [] i = ⊤
 Leads {X} waits xs (s ∷ before) i = (x : X) × (slice_get xs s.place ≡ Some x) × WaitsAt waits xs x i
@@ -81,7 +81,7 @@ pub record Searching {X : Type 0} (waits : X → X → Bool) (xs : List X) (mark
   pub on_path : (i : ℕ) → slice_get marks i ≡ Some OnPath → Among i (places path)
   pub is_path : IsPath waits xs path
 
--- how much there is still to do, at most: each job that is new may come on the path and go from it
+-- an upper bound of the work that is left: each new job may be put on the path and be removed from it
 abbrev pub weight : Mark → ℕ
 weight New = 2
 weight OnPath = 0

@@ -1,18 +1,18 @@
--- Systems of jobs, whatever the language: jobs share the locks alone. What a job reads of the globals and of the world
--- is a choice, which the event brings; so a step rests on the job, the choice, and on which names are free. This
--- project's own: M's standard says what one process does, and what LOCK asks of the others.
+-- Systems of jobs, independent of the language: jobs share only the locks. What a job reads of the globals and of the world
+-- is a choice, which is part of the event; so a step depends on the job, the choice, and on which names are free. This
+-- project's own: M's standard describes a single process, and the effect of LOCK on others.
 use Rattle.std.specs.Prelude.{◌≡◌, ◌⊎◌, ℕ, suc, ◌==◌, Bool, true, if◌then◌else◌, List, [], ◌∷◌, ◌++◌, Option, Result, Ok, Err}
 use Rattle.mlk_names.specs.declared.lock_name.LockName.{LockName}
 use Rattle.mlk_machine_locks.specs.declared.refusal.Refusal.{Refusal}
 use Rattle.mlk_machine_locks.specs.declared.refusal.Refusal.TheVariants.{UnknownJob, NotEnabled}
 use Rattle.mlk_machine_locks.specs.Waiting.{View, Holds, is_free_among, is_numbered}
 
--- The parts of a machine, of jobs J, choices C and entries E. What can't happen is answered by the reason.
+-- The parts of a machine, with jobs J, choices C and entries E. If something can't happen, the result is the reason.
 pub record Machine (J C E : Type 0) : Type 0 where
   pub view : J → View
-  -- a job that begins at an entry, with `$TEST`, a value or none for each of the first formals, and a number
+  -- a job that begins at an entry, with `$TEST`, an optional value for each of the first formals, and a number
   pub begin : E → Bool → List (Option (List ℕ)) → ℕ → Result J Refusal
-  -- one step with this choice, where these names are free
+  -- one step with a given choice, given which names are free
   pub go : (LockName → Bool) → C → J → Result J Refusal
   pub abort : J → Result J Refusal
 
@@ -25,7 +25,7 @@ pub record Event (C E : Type 0) : Type 0 where
   pub job : ℕ
   pub act : Act C E
 
--- what is made of an answer, where there is one
+-- uses a result, if there is one
 abbrev pub and_then : {A B : Type 0} → (A → Result B Refusal) → Result A Refusal → Result B Refusal
 and_then f (Ok a) = f a
 and_then f (Err why) = Err why
@@ -33,20 +33,20 @@ and_then f (Err why) = Err why
 abbrev pub number : {J C E : Type 0} → Machine J C E → J → ℕ
 number m j = (m.view j).number
 
--- no other job holds a name that conflicts
+-- no other job holds a conflicting name
 abbrev pub is_free : {J C E : Type 0} → Machine J C E → List J → ℕ → LockName → Bool
 is_free m = is_free_among m.view
 
 abbrev pub is_used : {J C E : Type 0} → Machine J C E → List J → ℕ → Bool
 is_used m = is_numbered m.view
 
--- the jobs, with the one of this number changed
+-- the jobs, with the one with this number changed
 abbrev pub changed : {J C E : Type 0} → Machine J C E → (J → Result J Refusal) → ℕ → List J → Result (List J) Refusal
 changed m f k [] = Err UnknownJob
 changed m f k (j ∷ js) =
     if number m j == k then and_then (λ i. Ok (i ∷ js)) (f j) else and_then (λ is. Ok (j ∷ is)) (changed m f k js)
 
--- a new job, after the others; its number is given once
+-- a new job, after the others; its number must be unused
 abbrev pub joined : {J C E : Type 0} → Machine J C E → ℕ → List J → Result J Refusal → Result (List J) Refusal
 joined m k jobs new = if is_used m jobs k then Err NotEnabled else and_then (λ j. Ok (jobs ++ j ∷ [])) new
 
@@ -60,7 +60,7 @@ abbrev pub after : {J C E : Type 0} → Machine J C E → List (Event C E) → L
 after m [] jobs = Ok jobs
 after m (e ∷ es) jobs = and_then (after m es) (happens m jobs e.job e.act)
 
--- which event that is, counted from 0
+-- the index of that event
 abbrev pub happened : {J : Type 0} → (List J → ℕ) → Result (List J) Refusal → ℕ
 happened more (Ok jobs) = suc (more jobs)
 happened more (Err why) = 0
@@ -79,17 +79,17 @@ abbrev pub lone_run : {J C E : Type 0} → Machine J C E → List (Act C E) → 
 lone_run m [] j = Ok j
 lone_run m (a ∷ acts) j = and_then (lone_run m acts) (alone m a j)
 
--- What is asked of the parts, step by step, and of no run.
+-- Conditions on the parts, for single steps and not for runs.
 pub record IsMachine {J C E : Type 0} (m : Machine J C E) : Type 0 where
   pub begin_number : (e : E) (test : Bool) (values : List (Option (List ℕ))) (k : ℕ) (j : J)
       → m.begin e test values k ≡ Ok j → number m j ≡ k
   pub begin_holds : (e : E) (test : Bool) (values : List (Option (List ℕ))) (k : ℕ) (j : J)
       → m.begin e test values k ≡ Ok j → (n : LockName) → Holds (m.view j) n → ⊥
   pub go_number : (free : LockName → Bool) (c : C) (j i : J) → m.go free c j ≡ Ok i → number m i ≡ number m j
-  -- what is enabled stays so where more names are free, and comes out the same
+  -- a step that is enabled stays enabled if more names are free, with the same result
   pub go_more : (free more : LockName → Bool) (c : C) (j i : J) → ((n : LockName) → free n ≡ true → more n ≡ true)
       → m.go free c j ≡ Ok i → m.go more c j ≡ Ok i
-  -- what a job holds after a step it held before, or it was free
+  -- a name that a job holds after a step was held before, or it was free
   pub go_holds : (free : LockName → Bool) (c : C) (j i : J) → m.go free c j ≡ Ok i
       → (n : LockName) → Holds (m.view i) n → Holds (m.view j) n ⊎ (free n ≡ true)
   pub abort_number : (j i : J) → m.abort j ≡ Ok i → number m i ≡ number m j
@@ -100,7 +100,7 @@ abbrev pub acts_of : {C E : Type 0} → ℕ → List (Event C E) → List (Act C
 acts_of k [] = []
 acts_of k (e ∷ es) = if e.job == k then e.act ∷ acts_of k es else acts_of k es
 
--- A lone run from its begin, of a job with this number.
+-- A lone run from its begin, of a job with a given number.
 pub record IsLone {J C E : Type 0} (m : Machine J C E) (k : ℕ) (begins : Act C E) (acts : List (Act C E)) (j : J)
     : Type 0 where
   pub entry : E
@@ -111,7 +111,7 @@ pub record IsLone {J C E : Type 0} (m : Machine J C E) (k : ℕ) (begins : Act C
   pub is_first : m.begin entry test values k ≡ Ok first
   pub runs : lone_run m acts first ≡ Ok j
 
--- What a job is in a run of many, its own acts alone make of it.
+-- A job in a run of many is the result of its own acts.
 pub record IsAlone {J C E : Type 0} (m : Machine J C E) (events : List (Event C E)) (j : J) : Type 0 where
   pub begins : Act C E
   pub acts : List (Act C E)

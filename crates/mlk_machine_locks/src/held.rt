@@ -1,4 +1,4 @@
-// What a job holds.
+// The locks that a job holds.
 
 ghost use Rattle.std.specs.Prelude.{◌≡◌, ◌<◌, ◌^◌, [], IfOk, OnOk, IfSome, length, position, nat_lt, ◌&&◌, ◌||◌};
 ghost use Rattle.std.specs.List.{list_any};
@@ -10,14 +10,14 @@ use mlk_text::{Value, copy_of};
 use std::alloc::{AllocError, Global};
 use std::marker::Model;
 
-// Whether both are one name.
+// Whether the two names are equal.
 fn is_same(first: &LockName, second: &LockName) -> bool
     ensures { result ≡ same_name first.now second.now }
 {
     first == second
 }
 
-// Whether two lists of subscripts are equal as far as both go.
+// Whether two lists of subscripts are equal up to the end of the shorter one.
 #[tactic(auto, using(crate::proofs::NameLemmas::agree_none, crate::proofs::NameLemmas::agree_past, crate::proofs::NameLemmas::agree_more, crate::proofs::NameLemmas::agree_not))]
 fn agree(first: &[Value], second: &[Value]) -> bool
     ensures { result ≡ (are_first first.now second.now || are_first second.now first.now) }
@@ -37,14 +37,14 @@ fn agree(first: &[Value], second: &[Value]) -> bool
     true
 }
 
-// Whether one of the names is the other, or above it. Each subscript is looked at once, since this is asked of all jobs.
+// Whether one of the names is the other or above it. Each subscript is compared only once, since this is tested for all jobs.
 fn in_conflict(first: &LockName, second: &LockName) -> bool
     ensures { result ≡ in_conflict first.now second.now }
 {
     agree(first.subs.as_slice(), second.subs.as_slice()) && first.root == second.root
 }
 
-// Whether one of these keeps the name from other jobs.
+// Whether one of `entries` keeps `name` from other jobs.
 fn some_excludes(entries: &[(LockName, u32)], name: &LockName) -> bool
     ensures { result ≡ list_any (λ h. nat_lt 0 h.1 && in_conflict name.now h.0) entries.now }
 {
@@ -58,7 +58,7 @@ fn some_excludes(entries: &[(LockName, u32)], name: &LockName) -> bool
     false
 }
 
-// The place of a name's entry.
+// The index of the entry of `name`, or `None`.
 fn place_of(entries: &[(LockName, u32)], name: &LockName) -> Option<usize>
     ensures place { result ≡ position (λ h. same_name h.0 name.now) entries.now }
     ensures within { IfSome result (λ i. i < length entries.now) }
@@ -66,7 +66,7 @@ fn place_of(entries: &[(LockName, u32)], name: &LockName) -> Option<usize>
     entries.iter().position(|entry| is_same(&entry.0, name))
 }
 
-// The place of a name's entry that counts some.
+// The index of the entry of `name` whose count is not 0, or `None`.
 fn place_held(entries: &[(LockName, u32)], name: &LockName) -> Option<usize>
     ensures place { result ≡ position (λ h. same_name h.0 name.now && nat_lt 0 h.1) entries.now }
     ensures within { IfSome result (λ i. i < length entries.now) }
@@ -76,7 +76,7 @@ fn place_held(entries: &[(LockName, u32)], name: &LockName) -> Option<usize>
         .position(|entry| is_same(&entry.0, name) && entry.1 > 0)
 }
 
-// How often a name is held.
+// The count of `name`.
 fn count_in(entries: &[(LockName, u32)], name: &LockName) -> u32
     requires { count_of entries.now name.now < 2 ^ 32 }
     ensures { result ≡ count_of entries.now name.now }
@@ -92,7 +92,7 @@ fn count_in(entries: &[(LockName, u32)], name: &LockName) -> u32
     count
 }
 
-// One more of a name.
+// Adds one to the count of `name`.
 fn raise(entries: &mut Vec<(LockName, u32)>, name: &LockName) -> Result<(), AllocError>
     requires { count_of entries.old.items name.now < greatest_count }
     ensures { OnOk result (entries.new.items ≡ raised name.now entries.old.items) }
@@ -109,7 +109,7 @@ fn raise(entries: &mut Vec<(LockName, u32)>, name: &LockName) -> Result<(), Allo
     }
 }
 
-// One less of a name, where it is held.
+// Subtracts one from the count of `name`, unless it is 0.
 fn lower(entries: &mut Vec<(LockName, u32)>, name: &LockName)
     ensures { entries.new.items ≡ lowered name.now entries.old.items }
 {
@@ -123,7 +123,7 @@ fn lower(entries: &mut Vec<(LockName, u32)>, name: &LockName)
     }
 }
 
-// Equal entries.
+// Copies `entries`.
 fn copy_entries(
     alloc: Global,
     entries: &[(LockName, u32)],
@@ -137,7 +137,7 @@ fn copy_entries(
     Ok(copies)
 }
 
-/// What a job holds: lock names, each with its count.
+/// The lock names that a job holds, each with its count.
 #[derive(Drop, Debug)]
 pub struct Held {
     entries: Vec<(LockName, u32)>,
@@ -156,7 +156,7 @@ impl Model for Held {
 }
 
 impl Held {
-    /// Nothing is held.
+    /// No locks.
     pub fn new(alloc: Global) -> Held
         ensures { result ≡ [] }
     {
@@ -165,7 +165,7 @@ impl Held {
         }
     }
 
-    /// An equal one.
+    /// Copies the locks.
     pub fn copy(&self) -> Result<Held, AllocError>
         ensures { IfOk result (λ copy. copy ≡ self.now) }
     {
@@ -180,21 +180,21 @@ impl Held {
         self.entries.as_slice()
     }
 
-    /// Whether a held name conflicts with this one, so that no other job may hold it. It takes no memory.
+    /// Whether a held name conflicts with `name`, so that no other job may hold it. Allocates nothing.
     pub fn excludes(&self, name: &LockName) -> bool
         ensures { result ≡ excludes self.now name.now }
     {
         some_excludes(self.entries.as_slice(), name)
     }
 
-    /// How often a name is held. It takes no memory.
+    /// The count of `name`. Allocates nothing.
     pub fn count(&self, name: &LockName) -> u32
         ensures { result ≡ count_of self.now name.now }
     {
         count_in(self.entries.as_slice(), name)
     }
 
-    /// All that is held once these are claimed, each once more; none where a count would pass the greatest.
+    /// The locks that are held once `names` are claimed, each once more, or `None` if a count would exceed the maximum.
     pub fn claimed(&self, alloc: Global, names: &[LockName]) -> Result<Option<Held>, AllocError>
         ensures { IfOk result (λ h. h ≡ claimed names.now self.now) }
     {
@@ -210,7 +210,7 @@ impl Held {
         Ok(Some(Held { entries }))
     }
 
-    /// Each of these is held once less, where it is held. It takes no memory.
+    /// Releases each of `names` once, if it is held. Allocates nothing.
     pub fn release(&mut self, names: &[LockName])
         ensures { self.new ≡ all_lowered names.now self.old }
     {

@@ -1,4 +1,4 @@
-// Jobs that may hold names of one key.
+// Jobs that may hold names with a given key.
 
 ghost use Rattle.std.specs.Prelude.{◌≡◌, ◌≢◌, ◌⊎◌, ◌<◌, ◌+◌, ◌^◌, ℕ, true, false, Some, IfSome, OnOk, length, slice_get};
 ghost use Rattle.std.specs.List.{list_any};
@@ -11,24 +11,24 @@ use indexmap::IndexSet;
 use mlk_names::LockName;
 use std::alloc::{AllocError, Global};
 
-/// Jobs by their places among all: each may hold a name of one key.
+/// Jobs by their indexes: each may hold a name with a given key.
 #[derive(Drop)]
 pub struct Holders {
     places: IndexSet<usize>,
 }
 
-// What a job says of a name.
+// The relation of a job to a name that another job asks for.
 #[derive(Clone, Copy, Drop)]
 enum Said {
-    // it keeps the name from the one that asks
+    // it keeps the name from the other job
     Keeps,
-    // it holds nothing of the key
+    // it holds no name with the key
     Stale,
-    // it holds something of the key, and does not keep the name
+    // it holds a name with the key, but does not keep the name from the other job
     Spares,
 }
 
-// What the job of this place says of a name to the job of this number.
+// The relation of the job at `place` to `name`, which the job `number` asks for.
 fn ask<J: Seen>(jobs: &[J], place: usize, key: u64, number: u32, name: &LockName) -> Said
     ensures keeps { result ≡ said.Keeps → list_any (keeps J.seen number name.now) jobs.now ≡ true }
     ensures stale { result ≡ said.Stale
@@ -48,21 +48,21 @@ fn ask<J: Seen>(jobs: &[J], place: usize, key: u64, number: u32, name: &LockName
 }
 
 impl Holders {
-    /// None yet.
+    /// No jobs.
     pub(crate) fn new(alloc: Global) -> Holders {
         Holders {
             places: IndexSet::new(alloc),
         }
     }
 
-    /// The places.
+    /// The indexes of the jobs.
     pub(crate) fn places(&self) -> &[usize]
         ensures { result.now ≡ self.now.places.keys }
     {
         self.places.as_slice()
     }
 
-    /// One more place, if it is not there.
+    /// Adds a job, unless it is there.
     pub(crate) fn add(&mut self, place: usize) -> Result<(), AllocError>
         ensures ok { OnOk result (is_one self.new place ≡ true) }
         ensures kept { (i : ℕ) → is_one self.old i ≡ true → is_one self.new i ≡ true }
@@ -73,7 +73,7 @@ impl Holders {
         Ok(())
     }
 
-    // The place that stands there.
+    // The job at `index`, or `None`.
     fn at(&self, index: usize) -> Option<usize>
         ensures place { result ≡ slice_get self.now.places.keys index }
         ensures small { IfSome result (λ p. index < 2 ^ 63) }
@@ -84,7 +84,7 @@ impl Holders {
         self.places.get_index(index).copied()
     }
 
-    // Takes the place away that stands there.
+    // Removes the job at `index`.
     fn remove_at(&mut self, index: usize)
         requires { index < length self.old.places.keys }
         ensures others { (i : ℕ) → is_one self.old i ≡ true → slice_get self.old.places.keys index ≢ Some i
@@ -96,7 +96,7 @@ impl Holders {
         let _ = self.places.swap_remove_index(index);
     }
 
-    /// Whether one of another number keeps the name. Those that are asked and hold nothing of the key are taken away.
+    /// Whether a job other than `number` keeps the name. Jobs that are tested and hold no name with the key are removed.
     pub(crate) fn some_keeps<J: Seen>(
         &mut self,
         jobs: &[J],

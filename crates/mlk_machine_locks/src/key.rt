@@ -1,4 +1,4 @@
-// Keys of lock names, by which a table finds who may hold a name.
+// Keys of lock names, by which a table finds the jobs that may hold a name.
 
 ghost use Rattle.std.specs.Prelude.{◌≡◌, ◌==◌, ◌&&◌, nat_lt};
 ghost use Rattle.std.specs.List.{list_any};
@@ -7,7 +7,7 @@ ghost use Rattle.mlk_machine_locks.specs.Keys.{mixed_one, mixed, root_key, deepe
 use mlk_names::{LockName, Root};
 use mlk_text::Value;
 
-// A key with one byte more, or with a mark that is no byte.
+// Extends a key by a byte, or by a mark that is not a byte.
 #[tactic(auto, unfolding(crate::specs::Keys::mixed_one))]
 fn mix_one(key: u64, byte: u64) -> u64
     ensures { result ≡ mixed_one key byte }
@@ -15,7 +15,7 @@ fn mix_one(key: u64, byte: u64) -> u64
     key.wrapping_mul(1_099_511_628_211).wrapping_add(byte)
 }
 
-// A key with all these bytes.
+// Extends a key by `bytes`.
 fn mix(key: u64, bytes: &[u8]) -> u64
     ensures { result ≡ mixed key bytes.now }
 {
@@ -28,7 +28,7 @@ fn mix(key: u64, bytes: &[u8]) -> u64
     mixed
 }
 
-/// The key of what a name begins with. It takes no memory.
+/// The key of the root of a name. Allocates nothing.
 #[tactic(auto, unfolding(crate::specs::Keys::root_key))]
 pub(crate) fn root_key(root: &Root) -> u64
     ensures { result ≡ root_key root.now }
@@ -39,7 +39,7 @@ pub(crate) fn root_key(root: &Root) -> u64
     }
 }
 
-/// The key of what stands below a name, by this subscript. It takes no memory.
+/// The key of the names below a name, with the next subscript `subscript`. Allocates nothing.
 #[tactic(auto, unfolding(crate::specs::Keys::deeper))]
 pub(crate) fn deeper(key: u64, subscript: &Value) -> u64
     ensures { result ≡ deeper key subscript.now }
@@ -47,7 +47,7 @@ pub(crate) fn deeper(key: u64, subscript: &Value) -> u64
     mix(mix_one(key, 256), subscript.as_bytes())
 }
 
-/// The key of a name alone, without those below it. It takes no memory.
+/// The key of a name alone, without those below it. Allocates nothing.
 #[tactic(auto, unfolding(crate::specs::Keys::itself))]
 pub(crate) fn itself(key: u64) -> u64
     ensures { result ≡ itself key }
@@ -55,7 +55,7 @@ pub(crate) fn itself(key: u64) -> u64
     mix_one(key, 257)
 }
 
-// Whether who holds this name is found under the key.
+// Whether a job that holds `name` is listed under `key`.
 fn is_key_of(name: &LockName, key: u64) -> bool
     ensures { result ≡ list_any (λ k. key == k) (keys_of name.now) }
 {
@@ -71,7 +71,7 @@ fn is_key_of(name: &LockName, key: u64) -> bool
     key == current || key == itself(current)
 }
 
-/// Whether some name that is held is found under the key. It takes no memory.
+/// Whether a job that holds `entries` is listed under `key` because of one of them. Allocates nothing.
 pub(crate) fn is_under(key: u64, entries: &[(LockName, u32)]) -> bool
     ensures { result ≡ is_under key entries.now }
 {

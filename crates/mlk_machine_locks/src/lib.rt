@@ -1,4 +1,4 @@
-//! Locks that jobs share: what each holds, who waits for whom, and what every run keeps to.
+//! Locks that jobs share: which each job holds, which job waits for which, and the laws of all runs.
 #![tactic(auto)]
 
 mod held;

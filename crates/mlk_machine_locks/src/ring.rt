@@ -1,5 +1,5 @@
-// Rings of jobs that wait, found by a search along those that wait for one another: each job is met once, and tries those
-// alone that may hold a name which it awaits.
+// Rings of waiting jobs, found by a search along the waits-for relation: each job is visited once, and only those jobs are tried
+// that may hold a name for which it waits.
 
 ghost use Rattle.std.specs.Prelude.{◌≡◌, ◌⊎◌, ◌<◌, ◌++◌, ◌∷◌, ◌&&◌, not, [], ℕ, suc, true, false, Some, IfOk, OnOk, IfSome, IfNone, length, reverse, set, slice_get};
 ghost use Rattle.mlk_names.specs.declared.lock_name.LockName.{LockName};
@@ -13,26 +13,26 @@ use crate::sharing::{Seen, waits_for};
 use crate::table::LockTable;
 use std::alloc::{AllocError, Global};
 
-// How far a search came with a job.
+// The progress of the search at a job.
 #[derive(Clone, Copy, Debug, Drop)]
 enum Mark {
-    // it was not met yet
+    // not visited yet
     New,
-    // it is on the path that the search follows
+    // on the current path
     OnPath,
-    // it is in no ring
+    // in no ring
     Free,
 }
 
-// A job on a path, by its place, and the places of those that it may have to be followed to: it waits for no other that may
-// be in a ring.
+// A job on a path, by its index, and the indexes of the jobs to which the search may still have to follow it: the job waits for
+// no other one that may be in a ring.
 #[derive(Debug, Drop)]
 struct Stop {
     place: usize,
     left: Vec<usize>,
 }
 
-// Whether a job waits for another one, of this mark, that may be in a ring.
+// Whether `job` waits for `other`, which has the mark `mark` and may be in a ring.
 #[tactic(auto, unfolding(crate::specs::Searches::is_free))]
 fn follows<J: Seen>(job: &J, other: &J, mark: Mark) -> bool
     ensures { result ≡ (not (is_free mark) && waits_as J.seen job.now other.now) }
@@ -43,7 +43,7 @@ fn follows<J: Seen>(job: &J, other: &J, mark: Mark) -> bool
     }
 }
 
-// Whether a job waits for the one of this place, and that one may be in a ring.
+// Whether `job` waits for the job at `place`, and that one may be in a ring.
 fn leads<J: Seen>(jobs: &[J], marks: &[Mark], job: &J, place: usize) -> bool
     requires all { length marks.now ≡ length jobs.now }
     requires free { AreFree (waits_as J.seen) jobs.now marks.now }
@@ -56,7 +56,7 @@ fn leads<J: Seen>(jobs: &[J], marks: &[Mark], job: &J, place: usize) -> bool
     follows(job, &jobs[place], marks[place])
 }
 
-// The last of these places of a job that it waits for and that may be in a ring. Those after it go.
+// The last of `left` for which `job` waits and that may be in a ring, or `None`. It and those after it are removed.
 fn next_of<J: Seen>(jobs: &[J], marks: &[Mark], job: &J, left: &mut Vec<usize>) -> Option<usize>
     requires all { length marks.now ≡ length jobs.now }
     requires free { AreFree (waits_as J.seen) jobs.now marks.now }
@@ -74,7 +74,7 @@ fn next_of<J: Seen>(jobs: &[J], marks: &[Mark], job: &J, left: &mut Vec<usize>) 
     None
 }
 
-// Whether a job of this mark was not met yet.
+// Whether a job with `mark` was not visited yet.
 #[tactic(auto, unfolding(crate::specs::Searches::is_new))]
 fn is_new(mark: Mark) -> bool
     ensures { result ≡ is_new mark }
@@ -85,7 +85,7 @@ fn is_new(mark: Mark) -> bool
     }
 }
 
-// A stop at the job of a place, before any that it waits for is followed.
+// A stop at the job at `place`, from which no other job was followed yet.
 fn stop_at<J: Seen>(jobs: &[J], table: &LockTable, place: usize) -> Result<Stop, AllocError>
     requires within { place < length jobs.now }
     requires covers { CoversWaiting J.seen table.now jobs.now }
@@ -96,7 +96,7 @@ fn stop_at<J: Seen>(jobs: &[J], table: &LockTable, place: usize) -> Result<Stop,
     Ok(Stop { place, left })
 }
 
-// A job that is met goes on the path.
+// Visits a job: puts it on the path.
 fn meet(marks: &mut Vec<Mark>, path: &mut Vec<Stop>, stop: Stop) -> Result<(), AllocError>
     requires { stop.place < length marks.old.items }
     ensures path { OnOk result (path.new.items ≡ path.old.items ++ stop ∷ []) }
@@ -108,7 +108,7 @@ fn meet(marks: &mut Vec<Mark>, path: &mut Vec<Stop>, stop: Stop) -> Result<(), A
     Ok(())
 }
 
-// Goes on from the last stop of a path: whether it waits for one of the path, so that there is a ring.
+// Takes one step from the last stop of a path, and returns whether that job waits for one on the path, so that there is a ring.
 fn go_on<J: Seen>(
     jobs: &[J],
     table: &LockTable,
@@ -145,8 +145,8 @@ fn go_on<J: Seen>(
     }
 }
 
-// Follows those that a job waits for, and those that these wait for: whether there is a ring. Where there is none, the job
-// is in none.
+// Follows the jobs for which a job waits, and those for which these wait, and returns whether there is a ring. If there is none,
+// the job is in none.
 fn search<J: Seen>(
     alloc: Global,
     jobs: &[J],
@@ -175,7 +175,7 @@ fn search<J: Seen>(
     Ok(false)
 }
 
-// What a job holds comes to a table, if the job waits: others are in no ring.
+// Lists what a job holds in a table if the job waits; other jobs are in no ring.
 fn list_waiting<J: Seen>(table: &mut LockTable, place: usize, job: &J) -> Result<(), AllocError>
     ensures found { OnOk result ((0 ≡ length (awaited (J.seen job.now).next))
         ⊎ ((n : LockName) → Holds (J.seen job.now) n → IsFound table.new place n)) }
@@ -187,7 +187,7 @@ fn list_waiting<J: Seen>(table: &mut LockTable, place: usize, job: &J) -> Result
     table.list_held(place, job.held().entries())
 }
 
-// A table of those that wait.
+// A table of the waiting jobs.
 fn table_of<J: Seen>(alloc: Global, jobs: &[J]) -> Result<LockTable, AllocError>
     ensures { IfOk result (λ table. CoversWaiting J.seen table jobs.now) }
 {
@@ -200,7 +200,7 @@ fn table_of<J: Seen>(alloc: Global, jobs: &[J]) -> Result<LockTable, AllocError>
     Ok(table)
 }
 
-/// Whether some of the jobs wait in a ring: each for one of them.
+/// Whether some of the jobs wait in a ring, each for one of them.
 pub fn has_ring<J: Seen>(alloc: Global, jobs: &[J]) -> Result<bool, AllocError>
     ensures { IfOk result (λ found. found ≡ has_ring (waits_as J.seen) jobs.now) }
 {

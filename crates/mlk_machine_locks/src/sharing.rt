@@ -1,4 +1,4 @@
-// What jobs share: which names are free, and who waits for whom.
+// What jobs share: which names are free, and which job waits for which.
 
 ghost use Rattle.std.specs.Prelude.{◌≡◌, ◌==◌, ◌&&◌, ◌<◌, not, IfSome, length, position};
 ghost use Rattle.std.specs.List.{list_any, list_all};
@@ -8,12 +8,12 @@ ghost use Rattle.mlk_machine_locks.specs.Waiting.{is_free_among, is_numbered, wa
 use crate::held::Held;
 use mlk_names::LockName;
 
-/// A job, as far as other jobs know of it.
+/// A job, as far as it is visible to other jobs.
 pub trait Seen {
     ghost use Rattle.std.specs.Prelude.{◌≡◌};
     ghost use Rattle.mlk_machine_locks.specs.Waiting.{View, awaited};
 
-    /// Its number, what it holds, and the claim that is its next task, if that is one.
+    /// Its number, the locks that it holds, and the claim that is its next task, if it is one.
     ghost seen: { Self → View };
 
     fn number(&self) -> u32
@@ -22,12 +22,12 @@ pub trait Seen {
     fn held(&self) -> &Held
         ensures { result.now ≡ (seen self.now).held };
 
-    /// The names that the job may have to wait for.
+    /// The names for which the job may have to wait.
     fn awaited(&self) -> &[LockName]
         ensures { result.now ≡ awaited (seen self.now).next };
 }
 
-// Whether one of the names is kept from other jobs.
+// Whether one of `names` is kept from other jobs.
 fn some_excluded(held: &Held, names: &[LockName]) -> bool
     ensures { result ≡ list_any (excludes held.now) names.now }
 {
@@ -41,21 +41,21 @@ fn some_excluded(held: &Held, names: &[LockName]) -> bool
     false
 }
 
-/// Whether one job waits for the other. It takes no memory.
+/// Whether `job` waits for `other`. Allocates nothing.
 pub fn waits_for<J: Seen>(job: &J, other: &J) -> bool
     ensures { result ≡ waits (J.seen job.now) (J.seen other.now) }
 {
     job.number() != other.number() && some_excluded(other.held(), job.awaited())
 }
 
-/// Whether the job, if it has another number, keeps the name from others.
+/// Whether `job` has another number than `number` and keeps `name` from others.
 pub(crate) fn keeps<J: Seen>(job: &J, number: u32, name: &LockName) -> bool
     ensures { result ≡ (not ((J.seen job.now).number == number) && excludes (J.seen job.now).held name.now) }
 {
     job.number() != number && job.held().excludes(name)
 }
 
-// Whether some job of another number keeps the name from others.
+// Whether some job other than `number` keeps `name` from others.
 fn some_keeps<J: Seen>(jobs: &[J], number: u32, name: &LockName) -> bool
     ensures { result ≡ list_any (λ j. not ((J.seen j).number == number) && excludes (J.seen j).held name.now) jobs.now }
 {
@@ -69,28 +69,28 @@ fn some_keeps<J: Seen>(jobs: &[J], number: u32, name: &LockName) -> bool
     false
 }
 
-/// Whether no other job than the one of this number holds a name that conflicts. It takes no memory.
+/// Whether no job other than `number` holds a name that conflicts with `name`. Allocates nothing.
 pub fn is_free<J: Seen>(jobs: &[J], number: u32, name: &LockName) -> bool
     ensures { result ≡ is_free_among J.seen jobs.now number name.now }
 {
     !some_keeps(jobs, number, name)
 }
 
-/// Whether each of these names is free for the job of this number. It takes no memory.
+/// Whether each of `names` is free for the job `number`. Allocates nothing.
 pub fn are_free<J: Seen>(jobs: &[J], number: u32, names: &[LockName]) -> bool
     ensures { result ≡ list_all (is_free_among J.seen jobs.now number) names.now }
 {
     names.iter().all(|name| is_free(jobs, number, name))
 }
 
-/// Whether some job has this number. It takes no memory.
+/// Whether some job has the number `number`. Allocates nothing.
 pub fn is_numbered<J: Seen>(jobs: &[J], number: u32) -> bool
     ensures { result ≡ is_numbered J.seen jobs.now number }
 {
     jobs.iter().any(|job| job.number() == number)
 }
 
-/// The place of the first job of this number, counted from 0. It takes no memory.
+/// The index of the first job with the number `number`, or `None`. Allocates nothing.
 pub fn place_of<J: Seen>(jobs: &[J], number: u32) -> Option<usize>
     ensures place { result ≡ position (λ j. (J.seen j).number == number) jobs.now }
     ensures within { IfSome result (λ i. i < length jobs.now) }

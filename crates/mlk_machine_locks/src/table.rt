@@ -1,4 +1,4 @@
-// Lock tables: by a name's keys, the jobs that may hold it.
+// Lock tables: the jobs that may hold a name, by the name's keys.
 
 ghost use Rattle.std.specs.Prelude.{◌≡◌, ◌<◌, ℕ, true, false, IfOk, OnOk};
 ghost use Rattle.std.specs.List.{list_any, list_all};
@@ -16,8 +16,8 @@ use indexmap::IndexMap;
 use mlk_names::LockName;
 use std::alloc::{AllocError, Global};
 
-/// Which jobs may hold which names, each job by its place among all. A job that is found is asked what it holds, so that
-/// nothing has to be taken out where a job releases a name.
+/// The jobs that may hold names, each by its index. A job that is found is asked what it holds, so that nothing has to be removed
+/// when a job releases a name.
 #[derive(Drop)]
 pub struct LockTable {
     alloc: Global,
@@ -25,7 +25,7 @@ pub struct LockTable {
 }
 
 impl LockTable {
-    /// No job may hold a name yet. It takes no memory.
+    /// A table without jobs. Allocates nothing.
     pub fn new(alloc: Global) -> LockTable
         ensures { (key place : ℕ) → IsListed result key place → ⊥ }
     {
@@ -35,7 +35,7 @@ impl LockTable {
         }
     }
 
-    // The place is listed under the key.
+    // Lists the job at `place` under `key`.
     fn add(&mut self, key: u64, place: usize) -> Result<(), AllocError>
         ensures ok { OnOk result (IsListed self.new key place) }
         ensures kept { ListsAll self.old self.new }
@@ -51,7 +51,7 @@ impl LockTable {
         Ok(())
     }
 
-    // The job at a place may hold this name.
+    // Records that the job at `place` may hold `name`.
     fn list_one(&mut self, place: usize, name: &LockName) -> Result<(), AllocError>
         ensures found { OnOk result (IsFound self.new place name.now) }
         ensures kept { ListsAll self.old self.new }
@@ -67,7 +67,7 @@ impl LockTable {
         self.add(itself(key), place)
     }
 
-    /// The job at a place may hold each of these names.
+    /// Records that the job at `place` may hold each of `names`.
     pub fn list(&mut self, place: usize, names: &[LockName]) -> Result<(), AllocError>
         ensures found { OnOk result ((n : LockNameOf) → Among n names.now → IsFound self.new place n) }
         ensures kept { ListsAll self.old self.new }
@@ -80,7 +80,7 @@ impl LockTable {
         Ok(())
     }
 
-    /// The job at a place holds these names.
+    /// Records that the job at `place` holds the names of `entries`.
     pub(crate) fn list_held(
         &mut self,
         place: usize,
@@ -97,8 +97,8 @@ impl LockTable {
         Ok(())
     }
 
-    // Whether some job of another number, of those that are listed under a key, keeps the name. Those that are asked and hold
-    // nothing of the key are listed there no longer.
+    // Whether some job other than `number` that is listed under `key` keeps the name. Jobs that are tested and hold no name with
+    // the key are removed from it.
     fn some_keeps<J: Seen>(&mut self, key: u64, jobs: &[J], number: u32, name: &LockName) -> bool
         requires { Covers J.seen self.old jobs.now }
         ensures kept { result ≡ true → list_any (keeps J.seen number name.now) jobs.now ≡ true }
@@ -111,7 +111,7 @@ impl LockTable {
         holders.some_keeps(jobs, key, number, name)
     }
 
-    /// Whether no other job than the one of this number holds a name that conflicts. It takes no memory.
+    /// Whether no job other than `number` holds a name that conflicts with `name`. Allocates nothing.
     pub fn is_free<J: Seen>(&mut self, jobs: &[J], number: u32, name: &LockName) -> bool
         requires { Covers J.seen self.old jobs.now }
         ensures free { result ≡ is_free_among J.seen jobs.now number name.now }
@@ -132,7 +132,7 @@ impl LockTable {
         !self.some_keeps(key, jobs, number, name)
     }
 
-    /// Whether each of these names is free for the job of this number. It takes no memory.
+    /// Whether each of `names` is free for the job `number`. Allocates nothing.
     pub fn are_free<J: Seen>(&mut self, jobs: &[J], number: u32, names: &[LockName]) -> bool
         requires { Covers J.seen self.old jobs.now }
         ensures free { result ≡ list_all (is_free_among J.seen jobs.now number) names.now }
@@ -148,7 +148,7 @@ impl LockTable {
         true
     }
 
-    // Those that are listed under a key come to a list.
+    // Adds the jobs that are listed under `key` to `found`.
     fn add_listed(&self, found: &mut Vec<usize>, key: u64) -> Result<(), AllocError>
         ensures listed { OnOk result ((i : ℕ) → IsListed self.now key i → Among i found.new.items) }
         ensures kept { OnOk result ((i : ℕ) → Among i found.old.items → Among i found.new.items) }
@@ -159,7 +159,7 @@ impl LockTable {
         Ok(())
     }
 
-    // Those that may hold a name which conflicts with this one come to a list.
+    // Adds the jobs that may hold a name which conflicts with `name` to `found`.
     fn add_against(&self, found: &mut Vec<usize>, name: &LockName) -> Result<(), AllocError>
         ensures listed { OnOk result ((key : ℕ) → Among key (asked_of name.now)
             → (i : ℕ) → IsListed self.now key i → Among i found.new.items) }
@@ -176,7 +176,7 @@ impl LockTable {
         self.add_listed(found, key)
     }
 
-    /// The places of all jobs that may hold a name which conflicts with one of these.
+    /// The indexes of all jobs that may hold a name which conflicts with one of `names`.
     pub(crate) fn against(&self, names: &[LockName]) -> Result<Vec<usize>, AllocError>
         ensures { IfOk result (λ found. AreAgainst self.now names.now found.items) }
     {

@@ -1,4 +1,4 @@
--- A step leaves all values as they are, but for the last ones, as many as its task uses.
+-- A step leaves all values unchanged, except the last ones, as many as its task uses.
 use Rattle.std.proofs.Common.{◌≡◌, ◌∙◌, ℕ, zero, suc, ◌+◌, Bool, true, false, List, [], ◌∷◌, ◌++◌, Option, Some, None, refl, sym, ap, subst, drop, take}
 use Rattle.std.specs.Prelude.{◌&&◌, Ok}
 use Rattle.std.specs.List.{list_all}
@@ -28,7 +28,7 @@ use Rattle.mlk_machine_progress.specs.Progress.{uses}
 use Rattle.mlk_machine_progress.specs.Laws.{UsesNoMore}
 use Rattle.mlk_machine_progress.proofs.Outcomes.{Each, done, refused, unasked, of_value, of_truth, of_last, of_condition, of_result}
 
--- all but so many of these values are there
+-- all but the last `n` of these values are there
 abbrev Below : ℕ → List (List ℕ) → Job → Type 0
 Below n vs i = (last : List (List ℕ)) × (i.values ≡ last ++ drop n vs)
 
@@ -107,7 +107,7 @@ of_answer j (EndFrame (AwaitsValue test) back next routine ∷ ts) = kept 1 j.va
 of_answer j ts = none 1 j.values _ refl
 
 module _ (routines : List RoutineTree) (free : LockName → Bool) (c : Choice) (j : Job) where
-  -- a step that asks nothing, and adds no value
+  -- a step without a choice that adds no value
   takes : (n : ℕ) (k : Job) → k.values ≡ drop n j.values → Each (Below n j.values) (without_choice c (Ok k))
   takes n k e = unasked (Below n j.values) c _ (none n j.values k e)
 

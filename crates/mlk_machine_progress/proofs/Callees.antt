@@ -1,4 +1,4 @@
--- At each moment of each run of one job of a program the calls of what is pending are found.
+-- At each moment of each run of one job of a program, the calls in what is pending are found.
 use Rattle.std.proofs.Common.{ℕ, Bool, true, false, List, [], ◌∷◌, ◌++◌, length, Option, Some, None, drop}
 use Rattle.std.specs.Prelude.{◌&&◌, nat_lt, if◌then◌else◌, Ok}
 use Rattle.std.specs.List.{list_all}

@@ -1,4 +1,4 @@
--- How many values lists of tasks need, and what parts of a task do to that.
+-- How many values lists of tasks need, and the effect of parts of a task on that.
 use Rattle.std.proofs.Common.{◌≡◌, ◌∙◌, ℕ, ◌+◌, ◌-◌, ◌≤◌, Bool, true, false, List, [], ◌∷◌, ◌++◌, append_assoc, refl, sym, ap, subst, arith}
 use Rattle.std.specs.Prelude.{◌||◌}
 use Rattle.std.proofs.lemmas.Bool.{cases_Bool}
@@ -8,12 +8,12 @@ use Rattle.mlk_machine_jobs.specs.Tasks.{Task, RunLines, RunCommands, Parameters
 use Rattle.mlk_machine_jobs.specs.Lines.{is_end, is_round, is_lines, from_first, skipped, to_end, quit, quit_from}
 use Rattle.mlk_machine_progress.specs.Progress.{uses, leaves, AreEnough}
 
--- how many values tasks need that were computed before
+-- the number of earlier computed values that tasks need
 abbrev pub needs : List Task → ℕ
 needs [] = 0
 needs (t ∷ ts) = uses t + (needs ts - leaves t)
 
--- tasks by which what is behind them may be skipped or quit, by themselves or by what they are replaced by
+-- tasks by which what follows them may be skipped or quit, by themselves or by the tasks that replace them
 abbrev pub may_leave : Task → Bool
 may_leave (task.SkipIf test) = true
 may_leave (task.Conditionally action block) = true
@@ -28,12 +28,12 @@ may_leave task.QuitHere = true
 may_leave task.QuitWithValue = true
 may_leave t = false
 
--- what is left needs as much
+-- what is left needs as many
 pub record IsRest (ts : List Task) : Type 0 where
   pub skips : needs (skipped ts) ≡ needs ts
   pub ends : needs (to_end ts) ≡ needs ts
 
--- all that a task leaves is used later, and nothing of it is skipped
+-- all that a task leaves is used later, and none of it is skipped
 abbrev pub Fits : List Task → Type 0
 Fits [] = Unit {0}
 Fits (t ∷ ts) = (leaves t ≤ needs ts) × (may_leave t ≡ true → IsRest ts) × Fits ts
@@ -86,7 +86,7 @@ fits_quit ts f = go (skipped ts) (fits_from _ ts f)
     go (t ∷ us) f =
         ⊎_elim (λ (u : is_round t ≡ true). rw u f.2) (λ (u : is_round t ≡ false). rw u (fits_from is_end (t ∷ us) f)) (cases_Bool (is_round t))
 
--- Tasks that take so many values to so many, whatever is below them and behind them.
+-- Tasks that take `a` values to `b`, whatever is below and behind them.
 pub record HasEffect (a b : ℕ) (xs : List Task) : Type 0 where
   pub fits : (m : ℕ) (ts : List Task) → Fits ts → needs ts ≡ b + m → Fits (xs ++ ts)
   pub needs : (m : ℕ) (ts : List Task) → Fits ts → needs ts ≡ b + m → needs (xs ++ ts) ≡ a + m
@@ -113,6 +113,6 @@ above k p = record {
   needs = λ m ts f e. let z = p.needs (k + m) ts f (omega (arith, e)) in omega (arith, z);
 }
 
--- counted in another way
+-- the same, with equal counts
 pub counted : {a b c d : ℕ} {xs : List Task} → HasEffect a b xs → a ≡ c → b ≡ d → HasEffect c d xs
 counted {a = a} {d = d} {xs = xs} p e f = subst (λ n. HasEffect n d xs) e (subst (λ n. HasEffect a n xs) f p)

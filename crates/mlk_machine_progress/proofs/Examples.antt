@@ -1,5 +1,5 @@
--- Worked examples, whose answers were found by hand: how many values are pending where a job stands still, and whether it
--- can go on from there. Each program stands above its example, ` / ` ends a line.
+-- Worked examples, whose answers were found by hand: how many values are pending where a job stops, and whether it can continue
+-- from there. Each program is above its example, ` / ` ends a line.
 use Rattle.std.proofs.Common.{◌≡◌, refl, ℕ, Bool, true, false, List, [], ◌∷◌, length, Some, None}
 use Rattle.std.specs.Prelude.{codes, Ok, Err}
 use Rattle.mlk_machine_locks.specs.NameTests.{same_name, is_above}
@@ -14,8 +14,8 @@ use Rattle.mlk_machine_jobs.proofs.Trees.{value_of, global, global_at, set, call
 use Rattle.mlk_machine_progress.specs.Progress.{can_go}
 use Rattle.mlk_machine_progress.proofs.Effects.{needs}
 
--- What is so of a job that goes on by itself from the first line as far as it can: the values that are pending, what its
--- tasks need, and whether it can go on, where names are free or not.
+-- A job that runs by itself from the first line until it stops: the number of pending values, the number that its tasks need,
+-- and whether it can continue, with all names free or none.
 abbrev of : Stepped → (Job → ℕ × ℕ × Bool) → ℕ × ℕ × Bool
 of (Ok j) f = f j
 of (Err why) f = (0, 0, false)
@@ -85,7 +85,7 @@ unfolding settled
 into_formals = refl
 
 -- A LOCK +^A
--- It goes on where the name is free.
+-- It continues if the name is free.
 abbrev locking : List RoutineTree
 locking = straight (Lock (LockNames sign.Plus (global (codes "A") ∷ []) None ∷ []) ∷ [])
 
@@ -98,7 +98,7 @@ unfolding settled
 where_not_free = refl
 
 -- A DO B
--- No program, since no line has the label: so the job has no next step, though nothing that a program may meet stops it.
+-- Not a program, since no line has the label: so the job has no next step, though nothing that can happen in a program stops it.
 pub no_program : stands (straight (do_label (codes "B") None ∷ [])) true ≡ (0, 0, true)
 unfolding settled
 no_program = refl

@@ -1,4 +1,4 @@
--- The calls in what is pending: each has a line that it goes to, in the routine of its frame.
+-- The calls in what is pending: each has a line to enter, in the routine of its frame.
 use Rattle.std.proofs.Common.{◌≡◌, ℕ, zero, suc, ◌+◌, Bool, true, false, List, [], ◌∷◌, ◌++◌, flat_map, map, Option, Some, None, refl, ap, subst, arith, ⊎_elim, drop}
 use Rattle.std.specs.Prelude.{Contains, slice_get, option_and_then, option_map}
 use Rattle.std.proofs.lemmas.Bool.{cases_Bool}
@@ -30,7 +30,7 @@ round_after r (EndFrame frame back next routine) h = cc
 round_after r t h = refl
 
 module _ (routines : List RoutineTree) where
-  -- a callee has a line of these routines
+  -- a callee has a line in these routines
   pub record Reaches (r : ℕ) (callee : Callee) : Type 0 where
     pub entry : EntryId
     pub is_entry : target_of routines r callee ≡ Some entry

@@ -1,4 +1,4 @@
--- What a task is replaced by has the calls that the task has.
+-- The tasks that replace a task have its calls.
 use Rattle.std.proofs.Common.{◌≡◌, ℕ, suc, Bool, true, false, List, [], ◌∷◌, ◌++◌, flat_map, Option, Some, None, refl, append_assoc, drop, take}
 use Rattle.mlk_text.specs.declared.operator.Op.{Op}
 use Rattle.mlk_syntax.specs.declared.expr.Special.{Special}

@@ -1,4 +1,4 @@
--- A job of a program has a next step just where it can go on.
+-- A job of a program has a next step exactly if it can take one.
 use Rattle.std.proofs.Common.{◌≡◌, ℕ, ◌≤◌, Bool, true, false, List, [], ◌∷◌, ◌++◌, length, Option, Some, None, refl, subst, arith, drop}
 use Rattle.std.specs.Prelude.{if◌then◌else◌, is_some, Ok}
 use Rattle.std.proofs.lemmas.List.{length-drop}
@@ -31,7 +31,7 @@ use Rattle.mlk_machine_progress.proofs.Outcomes.{Each, refused, unasked}
 use Rattle.mlk_machine_progress.proofs.Values.{suited}
 use Rattle.mlk_machine_progress.proofs.Callees.{finds_all}
 
--- it makes a job; and it does by some choice
+-- it yields a job; and it does so by some choice
 abbrev Makes : Stepped → Type 0
 Makes s = (i : Job) × (s ≡ Ok i)
 
@@ -66,7 +66,7 @@ folded : (o : Option (List ℕ)) (f : List ℕ → Stepped) → ((v : List ℕ) 
 folded None f m = asked f (m [])
 folded (Some v) f m = silent (f v) (m v)
 
--- a step that is no call, and asks nothing
+-- a step that is no call, and needs no choice
 makes : (k : Job) → MakesBySome (λ c. without_choice c (Ok k))
 makes k = (choice.None, (k, refl))
 
@@ -160,7 +160,7 @@ module _ (routines : List RoutineTree) where
   goes free j (EndBlock back next test ∷ ts) s f h = makes _
   goes free j (EndFrame frame back next routine ∷ ts) s f h = frame_ends frame _
 
--- where it can't go on
+-- where it cannot continue
 abbrev Never : Job → Type 0
 Never i = ⊥
 

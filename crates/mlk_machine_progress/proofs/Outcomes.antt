@@ -1,4 +1,4 @@
--- What is so of each job that a step can make, and so at each moment of a run.
+-- What holds of each job that a step can yield, and so at each moment of a run.
 use Rattle.std.proofs.Common.{◌≡◌, ℕ, Bool, true, false, List, [], ◌∷◌, Option, Some, None, refl, subst}
 use Rattle.std.specs.Prelude.{if◌then◌else◌, Ok, Err}
 use Rattle.mlk_machine_locks.specs.declared.refusal.Refusal.{Refusal}
@@ -59,7 +59,7 @@ module _ (P : Job → Type 0) where
   of_result c None f h = of_value c f h
   of_result c (Some v) f h = unasked c (f v) (h v)
 
-  -- what each step, each end and each begin keeps to
+  -- the invariants of each step, each end and each begin
   module _ (routines : List RoutineTree) (declared : EntryId → Bool) (goes : (c : Choice) (j : Job) → P j → Each (go routines (λ _. true) c j))
       (stops : (j : Job) → Each (aborted j j.tasks)) where
     acts_keep : (a : Act Choice EntryId) (j i : Job) → P j → alone (machine routines declared) a j ≡ Ok i → P i

@@ -1,4 +1,4 @@
--- What each task is replaced by takes as many values to as many as the task itself.
+-- The tasks that replace a task use and leave as many values as the task itself.
 use Rattle.std.proofs.Common.{◌≡◌, ℕ, suc, ◌+◌, ◌-◌, Bool, true, false, List, [], ◌∷◌, ◌++◌, flat_map, length, Option, Some, None, refl, ap, arith, drop, take}
 use Rattle.std.specs.Prelude.{is_some}
 use Rattle.mlk_syntax.specs.declared.expr.Special.{Special}
@@ -235,7 +235,7 @@ signed sign.None names timed = both (one _ 0 refl refl refl) (one _ 0 refl refl 
 signed sign.Plus names timed = one _ 0 refl refl refl
 signed sign.Minus names timed = one _ 0 refl refl refl
 
--- MERGE: one value where the source is a global
+-- MERGE: one value if the source is a global
 abbrev read_for : VariableTree → ℕ
 read_for (Named column (GlobalName caret name ss)) = 1
 read_for v = 0

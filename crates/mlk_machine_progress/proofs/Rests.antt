@@ -1,4 +1,4 @@
--- Commands, lines and rounds need what is needed behind them, and so does what is left when they are skipped or quit.
+-- Commands, lines and rounds need what is needed behind them, and so does what is left after they are skipped or quit.
 use Rattle.std.proofs.Common.{◌≡◌, ◌∙◌, ℕ, suc, ◌+◌, Bool, true, false, List, [], ◌∷◌, ◌++◌, Option, Some, None, refl, sym, ap, arith, append_assoc}
 use Rattle.std.specs.Prelude.{if◌then◌else◌}
 use Rattle.mlk_syntax.specs.ExprTrees.{Tree}
@@ -14,14 +14,14 @@ use Rattle.mlk_machine_progress.specs.Progress.{uses, leaves}
 use Rattle.mlk_machine_progress.proofs.Effects.{needs, IsRest, Fits, fits_from, quit_needs, fits_quit, HasEffect, none, one, both}
 use Rattle.mlk_machine_progress.proofs.Parts.{turns, value, evaluation, calls, blocks, jobs, kills, news, locks, merges, reads, sets, writes}
 
--- so many values are enough
+-- `n` values are enough
 abbrev pub Suits : ℕ → List Task → Type 0
 Suits n ts = Fits ts × (needs ts ≡ n)
 
 pub turned : {a b : ℕ} {xs : List Task} → HasEffect a b xs → (m n : ℕ) (ts : List Task) → Fits ts → needs ts ≡ b + m → n ≡ a + m → Suits n (xs ++ ts)
 turned p m n ts f e l = (p.fits m ts f e, p.needs m ts f e ∙ sym l)
 
--- tasks that need what is needed behind them, where that may be skipped or quit
+-- tasks that need what is needed behind them, if that may be skipped or quit
 abbrev pub Keeps : List Task → Type 0
 Keeps xs = (n : ℕ) (ts : List Task) → IsRest ts → Suits n ts → Suits n (xs ++ ts)
 
@@ -32,7 +32,7 @@ pub behind : {k : ℕ} {xs : List Task} → HasEffect 0 k xs → (t : Task) → 
 behind {xs = xs} p t u l n ts r (f, e) =
     rw (append_assoc xs (t ∷ []) ts) (turned p n n (t ∷ ts) (omega (arith, l), (λ z. r), f) (omega (arith, u, l, e)) (omega arith))
 
--- what can be skipped or quit at a task can be so behind it
+-- what can be skipped or quit at a task can be skipped or quit behind it
 pub before : (t : Task) (ts : List Task) → uses t ≡ 0 → leaves t ≡ 0 → skipped (t ∷ ts) ≡ skipped ts → to_end (t ∷ ts) ≡ to_end ts → IsRest ts → IsRest (t ∷ ts)
 before t ts u l s e r = record { skips = omega (arith, u, l, ap needs s, r.skips); ends = omega (arith, u, l, ap needs e, r.ends) }
 

@@ -1,4 +1,4 @@
--- At each moment of each run of one job the values that are pending are just enough for the tasks that are.
+-- At each moment of each run of one job, the pending values are exactly enough for the pending tasks.
 use Rattle.std.proofs.Common.{◌≡◌, ◌∙◌, ℕ, suc, ◌+◌, ◌-◌, ◌≤◌, Bool, true, false, List, [], ◌∷◌, ◌++◌, length, Option, Some, None, refl, sym, ap, subst, arith, drop}
 use Rattle.std.specs.Prelude.{◌&&◌, nat_lt, Ok}
 use Rattle.std.specs.List.{list_all}

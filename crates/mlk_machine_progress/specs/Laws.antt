@@ -1,4 +1,4 @@
--- What follows for jobs that can take a step.
+-- Laws of progress: which jobs can take a step.
 use Rattle.std.specs.Prelude.{Bool, List}
 use Rattle.mlk_syntax.specs.Trees.{RoutineTree}
 use Rattle.mlk_program.specs.Program.{IsProgram}
@@ -7,18 +7,18 @@ use Rattle.mlk_machine_jobs.specs.Tasks.{Job}
 use Rattle.mlk_machine_laws.specs.Moments.{AtEachMoment}
 use Rattle.mlk_machine_progress.specs.Progress.{HasEnough, LeavesBelow, GoesOn, IsGrantedSo}
 
--- At each moment of each run of one job, of any routines, its values are just enough for its tasks.
+-- At each moment of each run of one job, of any routines, its values are exactly enough for its tasks.
 abbrev pub ValuesSuffice : Type 0
 ValuesSuffice = (routines : List RoutineTree) (declared : EntryId → Bool) → AtEachMoment routines declared HasEnough
 
--- A step of any job, of any routines, uses up no value but those that its task uses.
+-- A step of any job, of any routines, uses up only the values that its task uses.
 abbrev pub UsesNoMore : Type 0
 UsesNoMore = (routines : List RoutineTree) (j : Job) → LeavesBelow routines j
 
--- At each moment of each run of one job of a program, the job has a next step just where it can take one.
+-- At each moment of each run of one job of a program, the job has a next step exactly if it can take one.
 abbrev pub JobsGoOn : Type 0
 JobsGoOn = (routines : List RoutineTree) (declared : EntryId → Bool) → IsProgram routines → AtEachMoment routines declared (GoesOn routines)
 
--- Any job, of any routines, is granted a claim just where it is free.
+-- Any job, of any routines, is granted a claim exactly if it is free.
 abbrev pub ClaimsAreGranted : Type 0
 ClaimsAreGranted = (routines : List RoutineTree) (j : Job) → IsGrantedSo routines j

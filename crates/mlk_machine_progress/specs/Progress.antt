@@ -19,7 +19,7 @@ use Rattle.mlk_machine_jobs.specs.Locking.{count_all}
 use Rattle.mlk_machine_jobs.specs.Calling.{count_given}
 use Rattle.mlk_machine_jobs.specs.Runs.{go}
 
--- how many of the values that were computed last a task uses up
+-- the number of values that a task uses up, of those computed last
 abbrev pub uses : Task → ℕ
 uses (task.ApplyUnary op) = 1
 uses (task.ApplyBinary op) = 2
@@ -40,17 +40,17 @@ uses task.QuitWithValue = 1
 uses (EndFrame (HasValue test) back next routine) = 1
 uses t = 0
 
--- what a touch gives: a value where it reads
+-- what a touch yields: a value if it reads
 abbrev pub given_by : Access → ℕ
 given_by Reads = 1
 given_by Writes = 0
 
--- a frame of `$$`, and the call that begins it, give one value
+-- a frame of an extrinsic call, and the call that begins it, yield one value
 abbrev pub value_of : Bool → ℕ
 value_of true = 1
 value_of false = 0
 
--- how many values there are in their place once it is done, with all that it is replaced by
+-- the number of values that replace them once the task and all that it expands to are done
 abbrev pub leaves : Task → ℕ
 leaves (task.Evaluate t) = 1
 leaves (task.Push value) = 1
@@ -69,27 +69,27 @@ leaves (EndFrame (AwaitsValue test) back next routine) = 1
 leaves (EndFrame (HasValue test) back next routine) = 1
 leaves t = 0
 
--- So many values are just enough for tasks: the first finds what it uses, and the others what they use, and at the end
--- none is left.
+-- `n` values are exactly enough for tasks: the first has the values that it uses, so have the others, and none remain at the
+-- end.
 abbrev pub AreEnough : ℕ → List Task → Type 0
 AreEnough n [] = n ≡ 0
 AreEnough n (t ∷ ts) = (kept : ℕ) × (n ≡ uses t + kept) × AreEnough (leaves t + kept) ts
 
--- While tasks are left its values are just enough for them; HALT and an abort leave what was computed.
+-- While tasks are left, its values are exactly enough for them; HALT and an abort leave the computed values.
 abbrev pub HasEnough : Job → Type 0
 HasEnough j = (j.tasks ≡ [] → ⊥) → AreEnough (length j.values) j.tasks
 
--- A step leaves all values as they are, but for the last ones, as many as its task uses.
+-- A step leaves all values unchanged, except the last ones, as many as its task uses.
 abbrev pub LeavesBelow : List RoutineTree → Job → Type 0
 LeavesBelow routines j = (t : Task) (ts : List Task) (free : LockName → Bool) (c : Choice) (i : Job) → j.tasks ≡ t ∷ ts
     → go routines free c j ≡ Ok i → (last : List (List ℕ)) × (i.values ≡ last ++ drop (uses t) j.values)
 
--- all names of a claim are free, and no count passes the greatest
+-- all names of a claim are free, and no count exceeds the maximum
 abbrev pub is_granted : (LockName → Bool) → Job → List LockName → Bool
 is_granted free j names = list_all free names && has_room names j.held
 
--- Whether a job with these tasks can take a step, where these names are free: not where it has ended, where a local has no
--- value, where no condition of `$SELECT` was true, where a claim has to wait, or before a line with a formal list.
+-- Whether a job with these tasks can take a step, if these names are free: not if it has ended, if a local has no value, if no
+-- condition of `$SELECT` was true, if a claim has to wait, or before a line with a formal list.
 abbrev pub can_go : (LockName → Bool) → Job → List Task → Bool
 can_go free j [] = false
 can_go free j (task.Fetch name ∷ ts) = is_some (j.cells (look j.bindings name))
@@ -98,24 +98,24 @@ can_go free j (task.Claim names false ∷ ts) = is_granted free j names
 can_go free j (RunLines (l ∷ lines) ∷ ts) = lacks_formals l
 can_go free j ts = true
 
--- a step by some choice, and one by this choice
+-- a step by this choice, and one by some choice
 abbrev pub Steps : List RoutineTree → (LockName → Bool) → Choice → Job → Type 0
 Steps routines free c j = (i : Job) × (go routines free c j ≡ Ok i)
 
 abbrev pub HasStep : List RoutineTree → (LockName → Bool) → Job → Type 0
 HasStep routines free j = (c : Choice) × Steps routines free c j
 
--- it has a next step where it can take one, and else it has none
+-- it has a next step if it can take one, and none otherwise
 pub record GoesOn (routines : List RoutineTree) (j : Job) : Type 0 where
   pub goes : (free : LockName → Bool) → can_go free j j.tasks ≡ true → HasStep routines free j
   pub stands : (free : LockName → Bool) → can_go free j j.tasks ≡ false → HasStep routines free j → ⊥
 
--- the choice by which a claim is made: a timed one does not fail by it
+-- the choice by which a claim is made: it does not let a timed claim fail
 abbrev pub claiming : Bool → Choice
 claiming false = choice.None
 claiming true = choice.Truth true
 
--- A claim is granted where all its names are free and no count passes the greatest, and else not; a timed one may always
+-- A claim is granted if all its names are free and no count exceeds the maximum, and not otherwise; a timed one may always
 -- fail.
 pub record IsGrantedSo (routines : List RoutineTree) (j : Job) : Type 0 where
   pub granted : (free : LockName → Bool) (names : List LockName) (timed : Bool) (ts : List Task) → j.tasks ≡ task.Claim names timed ∷ ts

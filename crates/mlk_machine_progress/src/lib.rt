@@ -1,5 +1,5 @@
-//! Whether a job can go on. No step ever lacks a value that it uses; and a job has a next step but where it has ended, waits
-//! for a lock, or meets what ends a run: a local without a value, `$SELECT` without a true condition, a line with formals.
+//! Progress of jobs. Each step finds the values that it uses; and a job has a next step unless it has ended, waits for a lock, or
+//! meets something that ends a run: a local without a value, `$SELECT` without a true condition, a line with formals.
 #![tactic(auto)]
 
 mod law;

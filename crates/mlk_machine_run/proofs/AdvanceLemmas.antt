@@ -77,7 +77,7 @@ same_tested : (vs : List (List ℕ)) (c : Choice) (f g : Bool → Stepped) → (
     → with_last vs (λ v. truth_or_asked c (truth_of_text v) f) ≡ with_last vs (λ v. truth_or_asked c (truth_of_text v) g)
 same_tested vs c f g h = ap (λ (k : Bool → Stepped). with_last vs (λ v. truth_or_asked c (truth_of_text v) k)) (λ i t. h t i)
 
--- the tasks that a job has meanwhile say nothing
+-- the job's present tasks do not matter
 pub again : (routines : List RoutineTree) (free : LockName → Bool) (c : Choice) (j : Job) (us : List Task) (t : Task)
     (ts : List Task) → advance routines free c (doing us j) (t ∷ ts) ≡ advance routines free c j (t ∷ ts)
 again routines free c j us (task.Evaluate t) ts = refl
@@ -133,7 +133,7 @@ again routines free c j us task.HaltJob ts = refl
 again routines free c j us (task.EndBlock back next test) ts = refl
 again routines free c j us (task.EndFrame frame back next routine) ts = refl
 
--- what kinds of tasks ask of the routines and of the locks of other jobs: most ask nothing
+-- which kinds of tasks depend on the routines and on the locks of other jobs: most do not
 module _ (routines : List RoutineTree) (free : LockName → Bool) (c : Choice) (j : Job) (ts : List Task) where
   abbrev alone : Task → Stepped
   alone t = advance [] (λ n. true) c j (t ∷ ts)

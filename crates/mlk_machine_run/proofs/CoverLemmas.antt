@@ -26,7 +26,7 @@ use Rattle.mlk_machine_jobs.proofs.MachineLemmas.{is_machine}
 use Rattle.mlk_machine_run.specs.Frames.{claimed_in}
 use Rattle.mlk_machine_run.specs.Jobs.{seen_in, StayCovered, TakesNone, TakesClaimed}
 
--- what stands in a list of which one is set, or to which one is added
+-- the elements of a list in which one is set, or to which one is added
 set_at : {X : Type 0} (xs : List X) (i : ℕ) (y : X) (k : ℕ) (x : X) → slice_get (slice_set xs i y) k ≡ Some x
     → ((k ≡ i) × (x ≡ y)) ⊎ (slice_get xs k ≡ Some x)
 set_at [] i y k x h = inr h
@@ -45,7 +45,7 @@ added_at [] y (suc k) x h = absurd (cc)
 added_at (z ∷ xs) y zero x h = inr h
 added_at (z ∷ xs) y (suc k) x h = added_at xs y k x h
 
--- A step does no more where just the names are free that it claims, if some others are.
+-- A step does no more if only the names that it claims are free, and some others are.
 module _ (some : LockName → Bool) (all : List LockName) where
   abbrev within : LockName → Bool
   within n = list_any (same_name n) all && some n
@@ -82,7 +82,7 @@ pub takes_claimed : {A : Type 0} (routines : List RoutineTree) (some : LockName 
 takes_claimed routines some c b (Ok u) old new e goes same = took_claimed routines some c b old new e goes
 takes_claimed routines some c b (Err why) old new e goes same = λ n p. inl (subst (λ j. Holds (seen j) n) same p)
 
--- where nothing is claimed
+-- if nothing is claimed
 pub takes_none : (old new : Job) → claimed_in old.tasks ≡ [] → TakesClaimed old new → TakesNone old new
 takes_none old new e takes n p = elim (takes n p) [
   | inl q ↦ q
@@ -104,7 +104,7 @@ begun_holds routines e k test values new may h =
     (is_machine routines (λ _. true)).begin_holds e test values k (job_of new)
     (ap (λ b. if b then begun routines e k test values else Err NotEnabled) may ∙ h)
 
--- One job of all does something.
+-- One of all jobs makes a step.
 pub set_covered : (js : List JobIn) (i : ℕ) (old new : JobIn) → slice_get js i ≡ Some old
     → TakesNone (job_of old) (job_of new) → StayCovered js (slice_set js i new)
 set_covered js i old new at none t covers k n h = elim (set_at js i new k h.0 h.1) [

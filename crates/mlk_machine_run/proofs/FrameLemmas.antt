@@ -305,7 +305,7 @@ pub entered_at : (frame : Frame) (r : ℕ) (given : List ActualTree) (l : LineTr
     })
 entered_at frame r given (head, block) lines ts j = refl
 
--- a frame that begins by a call, once its values were used up
+-- a frame that begins by a call, after its values were used up
 pub bound_job : (j : Job) (frame : Frame) (r : ℕ) (l : LineTree) (lines : List LineTree) (found : List Binder) (cells : Cells)
     (count skipped : ℕ) (given : List ActualTree) → found ≡ binders j.bindings j.next (formals_in l.0) given
     → cells ≡ with_actuals j.next (formals_in l.0) given (last_values (count_given given) (dropped skipped j)) j.cells
@@ -342,7 +342,7 @@ none_left zero (v ∷ vs) l = absurd (omega (arith, l))
 none_left (suc n) [] l = refl
 none_left (suc n) (v ∷ vs) l = none_left n vs (omega (arith, l))
 
--- of values that are all there
+-- values that all exist
 all_there : (vs : List (List ℕ)) → present (map Some vs) ≡ vs
 all_there [] = refl
 all_there (v ∷ vs) = ap (λ (z : List (List ℕ)). v ∷ z) (all_there vs)

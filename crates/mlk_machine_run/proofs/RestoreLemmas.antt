@@ -1,4 +1,4 @@
--- A job whose next task is taken away, and put back where the step fails.
+-- A job whose next task is removed, and restored if the step fails.
 use Rattle.std.proofs.Common.{◌≡◌, ◌∙◌, ◌<◌, ℕ, zero, suc, Bool, List, [], ◌∷◌, ◌++◌, length, take, map, reverse, refl, sym, ap, subst}
 use Rattle.std.specs.List.{list_all}
 use Rattle.std.proofs.lemmas.List.{reverse-append, reverse-reverse}
@@ -24,7 +24,7 @@ use Rattle.mlk_machine_steps.specs.Steps.{AreBack}
 use Rattle.mlk_machine_run.specs.Frames.{claimed_in}
 use Rattle.mlk_machine_run.proofs.AdvanceLemmas.{again}
 
--- binders that are seen as the same
+-- binders with the same view
 map_taken : (k : ℕ) (bs : List BinderIn) → map binder_of (take k bs) ≡ take k (map binder_of bs)
 map_taken zero [] = refl
 map_taken zero (b ∷ bs) = refl
@@ -79,7 +79,7 @@ mapped_length (b ∷ bs) = ap suc (mapped_length bs)
 same_length : (bs cs : List BinderIn) → map binder_of bs ≡ map binder_of cs → length bs ≡ length cs
 same_length bs cs h = sym (mapped_length bs) ∙ ap length h ∙ mapped_length cs
 
--- A job after a step that failed, with what is pending as it was before the step.
+-- A job after a failed step, with what was pending before the step.
 pub restored : (j i : JobIn) (ts : List Task) (ps : List Pending) → job_of i ≡ doing ts (job_of j) → ps ≡ j.pending.items
     → record (job_of i) { tasks = tasks_of i.binders.items ps } ≡ job_of j
 restored j i ts ps e p =
@@ -109,7 +109,7 @@ sound_restored j i ts ps e p h =
           (reverse j.pending.items) same h.nested)));
     }
 
--- what is back at an end
+-- what is restored at an end
 pub back_of_block : (bs : List BinderIn) (n : ℕ) (ps : List Pending) (back : Back) (test : Bool)
     → Stands bs n (ps ++ pending.EndBlock back test ∷ []) → AreBack bs n ps back
 back_of_block bs n ps back test h =
@@ -123,7 +123,7 @@ back_of_frame bs n ps frame back routine h =
     (reverse-append ps (pending.EndFrame frame back routine ∷ [])) h.nested in
     record { within = s.0; nested = s.1 }
 
--- the first task is taken away: what it makes of the job is the same
+-- the first task is removed: it has the same effect on the job
 first_claimed : (t : Task) (ts : List Task) → claimed_in (t ∷ ts) ≡ claimed_in (t ∷ [])
 first_claimed (task.Claim names timed) ts = refl
 first_claimed t ts = refl

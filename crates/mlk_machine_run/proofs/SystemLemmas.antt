@@ -105,19 +105,19 @@ module _ {J C E : Type 0} (m : Machine J C E) (f : J → Result J Refusal) (k : 
         )
   ]
 
--- what is answered of one job is answered of all
+-- a result for one job is one for all jobs
 pub answers_all : {A : Type 0} (g : Job → List Job) (result : Result A (Failure Refusal)) (j : Job) (x : Result Job Refusal)
     → Answers (λ _. j) result x → Answers (λ _. g j) result (and_then (λ y. Ok (g y)) x)
 answers_all g (Ok a) j x h = ap (and_then (λ y. Ok (g y))) h
 answers_all g (Err OutOfMemory) j x h = h
 answers_all g (Err (Refused why)) j x h = ap (and_then (λ y. Ok (g y))) h
 
--- a job more
+-- one more job
 pub sound_more : (js : List JobIn) (j : JobIn) → AreSound js → Sound j → AreSound (js ++ j ∷ [])
 sound_more [] j h k = (k, tt)
 sound_more (x ∷ js) j h k = (h.0, sound_more js j h.1 k)
 
--- what is said of one job is said of all
+-- what is set for one job is set among all
 pub set_same : (js : List JobIn) (i : ℕ) (j : JobIn) → j ≡ get_or js i j → slice_set (map job_of js) i (job_of j) ≡ map job_of js
 set_same [] i j e = refl
 set_same (x ∷ js) zero j e = ap (λ (z : JobIn). job_of z ∷ map job_of js) e
@@ -153,7 +153,7 @@ same_at [] i x y l e d = absurd (omega arith)
 same_at (j ∷ js) zero x y l e d = e ∙ sym d
 same_at (j ∷ js) (suc i) x y l e d = same_at js i x y (omega arith) e d
 
--- the names that a job claims which is read twice, and whether they are free
+-- the names that a job claims that is read twice, and whether they are free
 module _ (js : List JobIn) (i : ℕ) (x y : JobIn) (l : i < length js) (e : x ≡ get_or js i x) (d : y ≡ get_or js i y)
     (names : List LockName) (are : names ≡ claimed_in (job_of x).tasks) where
   pub claimed_at : names ≡ claimed_in (job_of y).tasks

@@ -1,4 +1,4 @@
--- How frames begin. This project's own.
+-- The begin of frames. This project's own.
 use Rattle.std.specs.Prelude.{ℕ, suc, Bool, true, false, if◌then◌else◌, List, [], ◌∷◌, ◌++◌, Option, Some, bytes_eq}
 use Rattle.mlk_names.specs.declared.lock_name.LockName.{LockName}
 use Rattle.mlk_syntax.specs.ExprTrees.{ActualTree, Given, ByRef, Missing}
@@ -19,24 +19,24 @@ Held = List ℕ → Option (List ℕ)
 abbrev pub with_held : List ℕ → List ℕ → Held → Held
 with_held name value held n = if bytes_eq name n then Some value else held n
 
--- the formals that are given a value have it
+-- the formals that are passed by value have their values
 abbrev pub filled : List (List ℕ) → List ActualTree → List (List ℕ) → Held → Held
 filled (f ∷ formals) (Given t ∷ given) (v ∷ values) held = filled formals given values (with_held f v held)
 filled (f ∷ formals) (ByRef column name ∷ given) values held = filled formals given values held
 filled (f ∷ formals) (Missing ∷ given) values held = filled formals given values held
 filled formals given values held = held
 
--- the first formals have these values
+-- the first formals have the given values
 abbrev pub filled_first : List (List ℕ) → List (List ℕ) → Held → Held
 filled_first (f ∷ formals) (v ∷ values) held = filled_first formals values (with_held f v held)
 filled_first formals values held = held
 
--- the tasks of a frame: its line, the lines after it, and its end, which puts these back
+-- the tasks of a frame: its line, the lines after it, and its end, which restores the given bindings
 abbrev pub begun_tasks : Frame → Bindings → ℕ → ℕ → LineTree → List LineTree → List Task
 begun_tasks frame back next routine l lines =
     RunCommands (commands_in l.0) l ∷ RunLines lines ∷ EndFrame frame back next routine ∷ []
 
--- a frame begins at a line, with these binders and what cells hold then
+-- a frame begins at a line, with the given binders and values of cells
 abbrev pub frame_begun : Frame → ℕ → LineTree → List LineTree → List Binder → Cells → Job → Job
 frame_begun frame r l lines found cells j = record j {
   routine = r;
@@ -46,7 +46,7 @@ frame_begun frame r l lines found cells j = record j {
   tasks = RunCommands (commands_in l.0) l ∷ RunLines lines ∷ EndFrame frame j.bindings j.next j.routine ∷ j.tasks;
 }
 
--- the names of the claim that is the first task, if one is
+-- the names of the claim that is the first task, if it is one
 abbrev pub claimed_in : List Task → List LockName
 claimed_in (task.Claim names timed ∷ ts) = names
 claimed_in ts = []

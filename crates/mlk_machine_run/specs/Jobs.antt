@@ -16,7 +16,7 @@ abbrev pub AreSound : List JobIn → Type 0
 AreSound [] = Unit {0}
 AreSound (j ∷ jobs) = Sound j × AreSound jobs
 
--- the place of the first job of this number, counted from 0, if there is one
+-- the index of the first job with the given number, if there is one
 pub record IsPlaceOf (number : ℕ) (jobs : List JobIn) (place : Option ℕ) : Type 0 where
   pub first : place ≡ position (λ j. (seen j).number == number) (map job_of jobs)
   pub within : IfSome place (λ i. i < length jobs)
@@ -24,14 +24,14 @@ pub record IsPlaceOf (number : ℕ) (jobs : List JobIn) (place : Option ℕ) : T
 abbrev pub seen_in : JobIn → View
 seen_in j = seen (job_of j)
 
--- whoever is found by what the jobs held is found by what they hold
+-- a table that finds the jobs by what they held finds them by what they hold
 abbrev pub StayCovered : List JobIn → List JobIn → Type 0
 StayCovered old new = (t : LockTable) → Covers seen_in t old → Covers seen_in t new
 
--- what the job holds it held before
+-- what the job holds, it held before
 abbrev pub TakesNone : Job → Job → Type 0
 TakesNone old new = (n : LockName) → Holds (seen new) n → Holds (seen old) n
 
--- what the job holds it held before, or it claimed it
+-- what the job holds, it held before, or claimed now
 abbrev pub TakesClaimed : Job → Job → Type 0
 TakesClaimed old new = (n : LockName) → Holds (seen new) n → Holds (seen old) n ⊎ Among n (claimed_in old.tasks)

@@ -1,4 +1,4 @@
--- A step that a job makes by itself, where its next one is such. This project's own.
+-- A step that a job makes by itself, if its next one is silent. This project's own.
 use Rattle.std.specs.Prelude.{Bool, true, false, List, [], ◌∷◌, Ok, Err}
 use Rattle.mlk_machine_locks.specs.declared.refusal.Refusal.TheVariants.{NotEnabled}
 use Rattle.mlk_machine_jobs.specs.Tasks as task
@@ -14,7 +14,7 @@ is_shown (task.Release names ∷ ts) = true
 is_shown (task.ReleaseAll ∷ ts) = true
 is_shown (t ∷ ts) = false
 
--- the job after a step, or that there was none
+-- the job after a step, or none if none was made
 abbrev pub if_made : Bool → Job → Stepped
 if_made true j = Ok j
 if_made false j = Err NotEnabled

@@ -1,4 +1,4 @@
-// How a job begins.
+// The begin of a job.
 
 ghost use Rattle.std.specs.Prelude.{◌≡◌, ◌∷◌, [], IfOk, OnOk, Ok, Some, length, map};
 ghost use Rattle.mlk_text.specs.Failures.{Answers};
@@ -43,7 +43,7 @@ fn blank<'a>(alloc: Global, number: u32, test: bool) -> Result<Job<'a>, AllocErr
     })
 }
 
-// How many formals the first of these lines has.
+// The number of formals of the first of `lines`.
 fn formals_at(lines: &[Line]) -> usize
     ensures { result ≡ formals_at (map line_of lines.now) }
 {
@@ -53,7 +53,7 @@ fn formals_at(lines: &[Line]) -> usize
     }
 }
 
-// The first frame of a job begins.
+// Begins the first frame of a job.
 fn begin_first<'a>(
     alloc: Global,
     job: &mut Job<'a>,
@@ -81,8 +81,8 @@ fn begin_first<'a>(
     Ok(())
 }
 
-/// A job begins at an entry, as by a call, with this `$TEST` and values for its first formals: as many as there are, or
-/// fewer.
+/// A job that begins at `entry`, as by a call, with `$TEST` and with values for its first formals, at most as many as there
+/// are formals.
 pub fn begin<'a>(
     alloc: Global,
     program: &Program<'a>,

@@ -1,4 +1,4 @@
-// Calls: of DO, and of extrinsic functions.
+// Calls by DO, and of extrinsic functions.
 
 ghost use Rattle.std.specs.Prelude.{◌≡◌, ◌∷◌, OnOk, OnErr, Ok, drop, map};
 ghost use Rattle.mlk_text.specs.Failures.{Answers};
@@ -25,8 +25,8 @@ use mlk_syntax::{Actual, Callee, Line};
 use mlk_text::Failure;
 use std::alloc::{AllocError, Global};
 
-/// What a call brings: what its frame owes, its actuals, whose values were computed, and how many values came after
-/// those.
+/// The input of a call: what its frame owes, its actuals, whose values were computed, and the number of values that were computed
+/// after those.
 #[derive(Clone, Copy, Drop)]
 pub(crate) struct Brought<'a> {
     pub(crate) frame: Frame,
@@ -34,7 +34,7 @@ pub(crate) struct Brought<'a> {
     pub(crate) skipped: usize,
 }
 
-// The lines from this one on, counted from 0.
+// The lines after the first `count`.
 fn from_line(lines: &[Line], count: usize) -> &[Line]
     ensures { result.now ≡ drop count lines.now }
 {
@@ -56,7 +56,7 @@ pub(crate) fn lines_after<'a>(program: &Program<'a>, entry: EntryId) -> &'a [Lin
     from_line(routine.lines.as_slice(), entry.line())
 }
 
-// The formals of the first line are bound, and its frame begins.
+// Binds the formals of the first line, and begins its frame.
 fn bind<'a>(
     alloc: Global,
     job: &mut Job<'a>,
@@ -95,7 +95,7 @@ fn bind<'a>(
     Ok(())
 }
 
-// A call of the routine at these lines.
+// Calls the routine at the given lines.
 fn enter<'a>(
     alloc: Global,
     job: &mut Job<'a>,
@@ -126,7 +126,7 @@ fn enter<'a>(
     Ok(())
 }
 
-// A call of what a callee names.
+// Calls the entry that a callee names.
 fn call_named<'a>(
     alloc: Global,
     program: &Program<'a>,
@@ -151,7 +151,7 @@ fn call_named<'a>(
     enter(alloc, job, choice, entry.routine(), lines, brought)
 }
 
-// What a frame owes: that of `$$` gives a value, and puts `$TEST` back.
+// What a frame owes: that of an extrinsic call returns a value, and restores `$TEST`.
 fn frame_of(calling: Calling, test: bool) -> Frame
     ensures { frame_of result ≡ owed (is_extrinsic calling) test }
 {
@@ -161,7 +161,7 @@ fn frame_of(calling: Calling, test: bool) -> Frame
     }
 }
 
-/// A call, whose actuals were evaluated.
+/// Makes a call whose actuals were evaluated.
 pub(crate) fn call<'a>(
     alloc: Global,
     program: &Program<'a>,
@@ -188,7 +188,7 @@ pub(crate) fn call<'a>(
     call_named(alloc, program, job, choice, callee, brought)
 }
 
-// A call where this is true; else its actuals were computed for nothing. The truth was the last value.
+// Makes a call if its postconditional is true; otherwise its actuals are dropped. The truth value was the last value.
 fn call_where<'a>(
     alloc: Global,
     program: &Program<'a>,
@@ -221,7 +221,7 @@ fn call_where<'a>(
     Ok(())
 }
 
-/// A call of DO with its own postconditional, which was evaluated after the actuals.
+/// Makes a call by DO with its own postconditional, which was evaluated after the actuals.
 #[tactic(auto, using(crate::proofs::FrameLemmas::no_condition, crate::proofs::FrameLemmas::known_condition, crate::proofs::FrameLemmas::asked_condition))]
 pub(crate) fn call_if<'a>(
     alloc: Global,

@@ -1,4 +1,4 @@
-// What each kind of task makes of a job.
+// The effect of each kind of task on a job.
 
 ghost use Rattle.std.specs.Prelude.{◌≡◌, ◌∷◌, [], OnErr, Bool, true, map};
 ghost use Rattle.std.specs.List.{list_all};
@@ -28,7 +28,7 @@ use mlk_program::Program;
 use mlk_text::Failure;
 use std::alloc::Global;
 
-/// What expressions are made of.
+/// Runs a task of an expression.
 pub(crate) fn value_step<'a>(
     alloc: Global,
     job: &mut Job<'a>,
@@ -60,7 +60,7 @@ pub(crate) fn value_step<'a>(
     }
 }
 
-/// What is done to locals.
+/// Runs a task on locals.
 pub(crate) fn local_step<'a>(
     alloc: Global,
     job: &mut Job<'a>,
@@ -85,7 +85,7 @@ pub(crate) fn local_step<'a>(
     }
 }
 
-/// What is done by a truth.
+/// Runs a task that depends on a truth value.
 pub(crate) fn test_step<'a>(
     alloc: Global,
     job: &mut Job<'a>,
@@ -106,7 +106,7 @@ pub(crate) fn test_step<'a>(
     }
 }
 
-/// What is done to locks; `are_free` says whether other jobs leave the names of a claim free.
+/// Runs a task on locks; `are_free` says whether other jobs leave the names of a claim free.
 pub(crate) fn lock_step<'a>(
     alloc: Global,
     job: &mut Job<'a>,
@@ -133,7 +133,7 @@ pub(crate) fn lock_step<'a>(
     }
 }
 
-/// What begins a frame, a block or another job, which is one of its own.
+/// Runs a task that begins a frame, a block or another job, which is separate.
 pub(crate) fn scope_step<'a>(
     alloc: Global,
     program: &Program<'a>,
@@ -159,7 +159,7 @@ pub(crate) fn scope_step<'a>(
     }
 }
 
-/// What is done of lines.
+/// Runs a task on lines.
 pub(crate) fn line_step<'a>(
     alloc: Global,
     job: &mut Job<'a>,
@@ -193,7 +193,7 @@ pub(crate) fn line_step<'a>(
     }
 }
 
-/// What a task makes of a job; `are_free` says whether other jobs leave the names of a claim free.
+/// Runs a task; `are_free` says whether other jobs leave the names of a claim free.
 pub(crate) fn perform<'a>(
     alloc: Global,
     program: &Program<'a>,

@@ -1,4 +1,4 @@
-// What formals are bound to, and the values that they are given.
+// The bindings of formals, and their values.
 
 ghost use Rattle.std.specs.Prelude.{◌≡◌, IfOk, OnOk, List, ℕ, map, Some};
 ghost use Rattle.mlk_syntax.specs.ExprTrees.{actual_of, actual_trees};
@@ -11,7 +11,7 @@ use mlk_syntax::Actual;
 use mlk_text::{Name, Value};
 use std::alloc::{AllocError, Global};
 
-// What a formal is bound to, by the first of the actuals that are left.
+// The binding of a formal, by the first of the remaining actuals.
 fn binder<'a>(
     caller: &[Binder<'a>],
     generation: usize,
@@ -40,8 +40,7 @@ fn later(given: &[Actual]) -> &[Actual]
     }
 }
 
-/// What formals are bound to, the first of them first: each to a new cell, or to that of a name which is given by
-/// reference.
+/// The bindings of `formals`, in order: each to a new cell, or to that of a name which is passed by reference.
 pub(crate) fn binders<'a>(
     alloc: Global,
     caller: &[Binder<'a>],
@@ -65,7 +64,7 @@ pub(crate) fn binders<'a>(
     Ok(found)
 }
 
-// Whether an actual is a value.
+// Whether an actual is passed by value.
 fn is_given(actual: &Actual) -> bool
     ensures { result ≡ is_given (actual_of actual.now) }
 {
@@ -75,7 +74,7 @@ fn is_given(actual: &Actual) -> bool
     }
 }
 
-/// How many actuals are values.
+/// The number of actuals that are passed by value.
 pub(crate) fn count_given(given: &[Actual]) -> usize
     ensures { result ≡ count_given (actual_trees given.now) }
 {
@@ -90,7 +89,7 @@ pub(crate) fn count_given(given: &[Actual]) -> usize
     count
 }
 
-/// The formals that are given a value have it.
+/// Sets the values of the formals that are passed by value.
 pub(crate) fn fill<'a>(
     table: &mut CellTable<'a>,
     formals: &'a [Name],
@@ -120,7 +119,7 @@ pub(crate) fn fill<'a>(
     Ok(())
 }
 
-/// The first formals have these values.
+/// Sets the values of the first formals.
 pub(crate) fn fill_first<'a>(
     table: &mut CellTable<'a>,
     formals: &'a [Name],

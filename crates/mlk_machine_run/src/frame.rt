@@ -1,4 +1,4 @@
-// Frames: how they begin.
+// The begin of frames.
 
 ghost use Rattle.std.specs.Prelude.{◌≡◌, ◌∷◌, ◌++◌, ◌+◌, ◌≤◌, [], List, ℕ, suc, length, map, reverse, take, OnOk, OnErr};
 ghost use Rattle.std.specs.Vec.{vec_len, vec_capacity};
@@ -14,7 +14,7 @@ use mlk_machine_tasks::line_rest;
 use mlk_syntax::Line;
 use std::alloc::AllocError;
 
-/// A line at which a frame begins, in a routine, counted from 0, and the lines after it.
+/// A line at which a frame begins, with the index of its routine, and the lines after it.
 #[derive(Clone, Copy, Drop)]
 pub(crate) struct Begin<'a> {
     pub(crate) frame: Frame,
@@ -23,7 +23,7 @@ pub(crate) struct Begin<'a> {
     pub(crate) later: &'a [Line],
 }
 
-// These binders are the newest, the first of them the very newest. There is room for them.
+// Adds the binders `found` as the newest ones, the first of them as the very newest. There must be room for them.
 fn add_binders<'a>(binders: &mut Vec<Binder<'a>>, found: Vec<Binder<'a>>)
     requires { vec_len binders.old + vec_len found ≤ vec_capacity binders.old }
     ensures { binders.new.items ≡ binders.old.items ++ reverse found.entry.items }
@@ -34,7 +34,7 @@ fn add_binders<'a>(binders: &mut Vec<Binder<'a>>, found: Vec<Binder<'a>>)
     }
 }
 
-// What is pending of a frame: its line, the lines after it, and its end.
+// Adds what is pending for a frame: its line, the lines after it, and its end.
 fn add_pending<'a>(pending: &mut Vec<Pending<'a>>, begin: Begin<'a>, back: Back, own: usize)
     requires { vec_len pending.old + 3 ≤ vec_capacity pending.old }
     ensures tasks { (bs : List BinderIn) → tasks_of bs pending.new.items ≡ begun_tasks (frame_of begin.entry.frame)
@@ -49,7 +49,7 @@ fn add_pending<'a>(pending: &mut Vec<Pending<'a>>, begin: Begin<'a>, back: Back,
     pending.push_reserved(Pending::Task(Task::Line(LineTask::RunCommands(line_rest(begin.line)))));
 }
 
-/// A frame begins at a line, with these binders, and the values of their cells.
+/// Begins a frame at a line, with the binders `found` and the values `table` of their cells.
 pub(crate) fn begin_frame<'a>(
     job: &mut Job<'a>,
     begin: Begin<'a>,

@@ -27,7 +27,7 @@ fn shows(task: &Task) -> bool
     )
 }
 
-// Whether a job has nothing left to do, or others see what it does next.
+// Whether a job has nothing left to do, or its next task is visible to other jobs.
 fn is_shown(job: &Job) -> bool
     ensures { result ≡ is_shown (job_of job.now).tasks }
 {
@@ -38,8 +38,8 @@ fn is_shown(job: &Job) -> bool
     }
 }
 
-/// A step that a job makes by itself: nothing is chosen, and no other job sees it. Whether one was made; where none was,
-/// or there is no memory, the job is as it was.
+/// Makes a step that is silent: nothing is chosen, and it is not visible to other jobs. Returns whether one was made; if none
+/// was, or if memory runs out, the job is unchanged.
 pub fn silent_step<'a>(
     alloc: Global,
     program: &Program<'a>,

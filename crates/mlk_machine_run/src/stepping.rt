@@ -21,7 +21,7 @@ use mlk_program::Program;
 use mlk_text::Failure;
 use std::alloc::Global;
 
-// The names that a task claims, if it is a claim.
+// The names that a task claims; empty if it is not a claim.
 fn claimed_by<'t>(task: &'t Task) -> &'t [LockName]
     ensures { result.now ≡ claimed_in (task_of task.now ∷ []) }
 {
@@ -31,7 +31,7 @@ fn claimed_by<'t>(task: &'t Task) -> &'t [LockName]
     }
 }
 
-/// The names that a job claims next, timed or not; none where its next task is no claim. It takes no memory.
+/// The names that a job claims next, with or without a timeout; empty if its next task is not a claim. Allocates nothing.
 pub fn claimed_names<'j>(job: &'j Job) -> &'j [LockName]
     ensures { result.now ≡ claimed_in (job_of job.now).tasks }
 {
@@ -41,7 +41,7 @@ pub fn claimed_names<'j>(job: &'j Job) -> &'j [LockName]
     }
 }
 
-// What is done of what was pending next.
+// Runs the pending item `next`.
 fn perform_next<'a>(
     alloc: Global,
     program: &Program<'a>,
@@ -66,8 +66,8 @@ fn perform_next<'a>(
     }
 }
 
-/// One step of a job, with this choice; `are_free` says whether other jobs leave the names free that it claims next.
-/// Where there is no memory, or the step is refused, the job is as it was.
+/// Makes one step of a job, with the choice `choice`; `are_free` says whether other jobs leave the names free that it claims
+/// next. If memory runs out, or the step is refused, the job is unchanged.
 pub fn step<'a>(
     alloc: Global,
     program: &Program<'a>,

@@ -21,8 +21,8 @@ use mlk_program::{EntryId, Program};
 use mlk_text::{Failure, Value};
 use std::alloc::Global;
 
-/// One step of the job of this number, which is at this place, if there is one, with this choice. Which names others
-/// hold is asked of a table that finds them. Where there is no memory, or the step is refused, all jobs are as they were.
+/// Makes one step of the job `number`, which is at `place`, if there is one, with the choice `choice`. The table finds the jobs
+/// that hold conflicting names. If memory runs out, or the step is refused, all jobs are unchanged.
 pub fn go<'a>(
     alloc: Global,
     program: &Program<'a>,
@@ -50,8 +50,7 @@ pub fn go<'a>(
     step(alloc, program, &mut jobs[place], choice, are_free)
 }
 
-/// The job of this number, which is at this place, if there is one, is aborted: it holds no lock then, and does nothing
-/// more.
+/// Aborts the job `number`, which is at `place`, if there is one: it then holds no lock and does nothing more.
 pub fn abort(
     alloc: Global,
     jobs: &mut Vec<Job>,
@@ -73,22 +72,21 @@ pub fn abort(
     jobs[place].abort(alloc)
 }
 
-// Whether jobs may have a number: 0 is none.
+// Whether a job may have the number `number`: 0 is not allowed.
 fn is_job_number(number: u32) -> bool
     ensures { result ≡ is_job_number number }
 {
     number > 0
 }
 
-// Whether a job of this number may begin at an entry, if that is declared.
+// Whether a job with the number `number` may begin at an entry, given whether that is declared.
 fn may_begin(is_declared: bool, number: u32) -> bool
     ensures { result ≡ (is_declared && is_job_number number) }
 {
     is_declared && is_job_number(number)
 }
 
-/// A new job begins at an entry, after the others; `is_declared` says whether the entry may be begun at, `is_used` whether
-/// a job has its number.
+/// Adds a job that begins at `entry`; `is_declared` says whether jobs may begin there, `is_used` whether a job has its number.
 pub fn join<'a>(
     alloc: Global,
     program: &Program<'a>,

@@ -1,4 +1,4 @@
--- The last values, of which as many are used as can be counted.
+-- The last values, as many as are used, within the range of counts.
 use Rattle.std.proofs.Common.{◌≡◌, ◌∙◌, ◌⊎◌, inl, inr, ◌+◌, ◌-◌, ◌≤◌, ℕ, suc, List, [], ◌∷◌, ◌++◌, take, drop, reverse, length, min, sym, ap, arith}
 use Rattle.std.specs.Prelude.{◌^◌}
 use Rattle.std.proofs.Math.Nat.{min-eq_left, min-eq_right}
@@ -32,7 +32,7 @@ pub dropped_within : {A : Type 0} (vs : List A) (n count most used : ℕ) → le
 dropped_within vs n count most used l e d u =
     ap (λ k. drop k vs) (u ∙ within n count most (length vs) l e d) ∙ drop_min n vs
 
--- one more than a count that stops at the greatest number
+-- one more than a count that saturates at the greatest number
 pub one_more : (n count more : ℕ) → count ≡ min n (2 ^ 64 - 1) → more ≡ min (count + 1) (2 ^ 64 - 1)
     → more ≡ min (n + 1) (2 ^ 64 - 1)
 one_more n count more e d = elim (cases_lt n (2 ^ 64 - 1)) [

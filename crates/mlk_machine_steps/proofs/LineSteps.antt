@@ -1,4 +1,4 @@
--- The next of lines and of commands.
+-- The next line, and the next command.
 use Rattle.std.proofs.Common.{◌≡◌, List, [], ◌∷◌, ◌++◌, true, false, Some, None, Ok, Err, refl, sym, append_assoc}
 use Rattle.std.specs.Prelude.{is_some}
 use Rattle.std.proofs.lemmas.Bool.{false≢true}

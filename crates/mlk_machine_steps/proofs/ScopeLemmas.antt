@@ -56,7 +56,7 @@ pub same_tasks : (bs cs : List BinderIn) (c n : ℕ) (ps : List Pending) → ((k
 same_tasks bs cs c n ps e h =
     turned (pending_of bs) ps ∙ same_each bs cs c n (reverse ps) e h ∙ sym (turned (pending_of cs) ps)
 
--- another binder: what is pending stays the same
+-- one more binder: what is pending stays the same
 pub tasks_with_binder : (bs : List BinderIn) (b : BinderIn) (n : ℕ) (ps : List Pending) → Stands bs n ps
     → tasks_of (bs ++ b ∷ []) ps ≡ tasks_of bs ps
 tasks_with_binder bs b n ps h =
@@ -151,7 +151,7 @@ pub stands_with_block : (bs : List BinderIn) (n : ℕ) (ps : List Pending) (test
     → Stands bs n ((ps ++ pending.EndBlock (record { binders = length bs; next = n }) test ∷ []) ++ pending.Task t ∷ [])
 stands_with_block bs n ps test t h = stands_task bs n _ t (stands_block bs n ps test h)
 
--- a job that is back, part by part
+-- a restored job, part by part
 pub job_back : (j : JobIn) (back : Back) (bs : List BinderIn) (n : ℕ) (cells : Cells) → IsBack back j
     → bs ≡ take back.binders j.binders.items → n ≡ min back.next (length j.tables.items)
     → cells ≡ forgotten back.next (value_at j.tables.items)
@@ -192,7 +192,7 @@ sound_back j back bs n h e d =
     (sym (d ∙ next_back j.binders.items (length j.tables.items) j.pending.items back h))
     (stands_back j.binders.items (length j.tables.items) j.pending.items back h))
 
--- a job whose names are new, part by part
+-- a job with new names, part by part
 pub job_new : (j : JobIn) (names : NamesIn) (g : ℕ) (bs : List BinderIn) (n : ℕ) (cells : Cells) → Sound j
     → g ≡ length j.tables.items → bs ≡ j.binders.items ++ binder.Fresh g names ∷ []
     → n ≡ suc (length j.tables.items) → cells ≡ value_at j.tables.items

@@ -1,4 +1,4 @@
--- What steps of the code answer. This project's own.
+-- Results of steps of the code. This project's own.
 use Rattle.std.specs.Prelude.{ℕ, suc, Bool, true, false, List, ◌∷◌, length, reverse, Option, Some, None, Result, Ok, Err}
 use Rattle.mlk_names.specs.declared.lock_name.LockName.{LockName}
 use Rattle.mlk_machine_locks.specs.declared.refusal.Refusal.{Refusal}
@@ -18,7 +18,7 @@ use Rattle.mlk_machine_jobs.specs.Choices.{Stepped, without_choice, with_truth}
 use Rattle.mlk_machine_jobs.specs.Locking.{tested}
 use Rattle.mlk_machine_jobs.specs.Sound.{IsWithin, AreNested}
 
--- what is held after a claim, where the names are free and there is room for them
+-- the locks that are held after a claim, if the names are free and the counts allow it
 abbrev pub held_if : Bool → Option Counts → Result Counts Refusal
 held_if true (Some held) = Ok held
 held_if true None = Err NotEnabled
@@ -34,17 +34,17 @@ abbrev pub timed_if : Bool → List LockName → Job → Bool → Stepped
 timed_if are_free names j true = granted_if are_free names (tested true j)
 timed_if are_free names j false = Ok (tested false j)
 
--- a claim, of names that are free or not
+-- a claim, given whether the names are free
 abbrev pub claim_if : Bool → Choice → List LockName → Bool → Job → Stepped
 claim_if are_free c names false j = without_choice c (granted_if are_free names j)
 claim_if are_free c names true j = with_truth c (timed_if are_free names j)
 
--- these names are bound to new cells
+-- the names are bound to new cells
 abbrev pub made_new : Names → Job → Job
 made_new names j = record j { bindings = Fresh j.next names ∷ j.bindings; next = suc j.next }
 
--- A job that is back at the end of what began so: the end itself is no more to be done. Of the binders, the number of
--- tables, and what is still to be done.
+-- A job after restoring what an end restores, where the end itself is done. About the binders, the number of tables, and the
+-- pending items.
 pub record AreBack (bs : List BinderIn) (n : ℕ) (ps : List Pending) (back : Back) : Type 0 where
   pub within : IsWithin bs (length bs) n back
   pub nested : AreNested bs back.binders back.next (reverse ps)
@@ -52,6 +52,6 @@ pub record AreBack (bs : List BinderIn) (n : ℕ) (ps : List Pending) (back : Ba
 abbrev pub IsBack : Back → JobIn → Type 0
 IsBack back j = AreBack j.binders.items (length j.tables.items) j.pending.items back
 
--- names and the routine are as they were at the begin of a frame
+-- names and the routine are restored to the begin of a frame
 abbrev pub left_to : Bindings → ℕ → ℕ → Job → Job
 left_to back next routine j = record (back_to back next j) { routine = routine }

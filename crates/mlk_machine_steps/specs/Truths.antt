@@ -1,4 +1,4 @@
--- The truth that a step is taken by. This project's own.
+-- The truth value on which a step depends. This project's own.
 use Rattle.std.specs.Prelude.{ℕ, Bool, true, false, List, [], ◌∷◌, Option, Some, None, Result, Ok, Err}
 use Rattle.mlk_syntax.specs.ExprTrees.{Tree, Choices}
 use Rattle.mlk_machine_locks.specs.declared.refusal.Refusal.{Refusal}
@@ -13,7 +13,7 @@ truth_chosen choice.None = Err BadChoice
 truth_chosen (choice.Value value) = Err BadChoice
 truth_chosen (choice.Truth truth) = Ok truth
 
--- nothing may be chosen beside a truth that is known
+-- nothing may be chosen if the truth value is known
 abbrev pub truth_known : Choice → Bool → Result Bool Refusal
 truth_known choice.None truth = Ok truth
 truth_known c truth = Err BadChoice
@@ -27,7 +27,7 @@ abbrev pub step_truth : Choice → List (List ℕ) → Result Bool Refusal
 step_truth c [] = Err NotEnabled
 step_truth c (v ∷ vs) = truth_or c (truth_of_text v)
 
--- what comes after a condition of `$SELECT`
+-- the task after a condition of `$SELECT`
 abbrev pub part_chosen : Tree → Choices → Bool → Task
 part_chosen value others true = Evaluate value
 part_chosen value others false = Select others

@@ -1,4 +1,4 @@
-// What steps ask for, where a step may fail for want of memory too.
+// Choices of steps that may also run out of memory.
 
 ghost use Rattle.std.specs.Prelude.{◌≡◌, List, ℕ, Bool, Ok};
 ghost use Rattle.mlk_text.specs.Failures.{Answers};
@@ -9,7 +9,7 @@ use mlk_machine_jobs::{Choice, not_asked};
 use mlk_machine_locks::Refusal;
 use mlk_text::Failure;
 
-/// The answer, or the reason why there is none.
+/// `answer`, with its error as `Refused`.
 pub fn or_refused<T>(answer: Result<T, Refusal>) -> Result<T, Failure<Refusal>>
     ensures { Answers (λ x. x) result answer }
 {
@@ -19,7 +19,7 @@ pub fn or_refused<T>(answer: Result<T, Refusal>) -> Result<T, Failure<Refusal>>
     }
 }
 
-/// Nothing may be chosen at a step that asks nothing.
+/// Checks that nothing is chosen. Refused otherwise.
 pub fn nothing_asked(choice: &Choice) -> Result<(), Failure<Refusal>>
     ensures { (j : Job) → Answers (λ _. j) result (without_choice choice.now (Ok j)) }
 {

@@ -1,4 +1,4 @@
-// SET, once all that it needs was computed.
+// SET, once everything that it needs was computed.
 
 ghost use Rattle.std.specs.Prelude.{◌≡◌, ◌++◌, ◌+◌, ◌-◌, ◌^◌, suc, min, OnErr, Ok, map};
 ghost use Rattle.mlk_text.specs.Failures.{Answers};
@@ -16,7 +16,7 @@ use mlk_syntax::Target;
 use mlk_text::{Failure, Value};
 use std::alloc::Global;
 
-// How many values SET uses: those that its targets need, and its own.
+// The number of values that SET uses: those that its targets need, and its own.
 #[tactic(auto, using(crate::proofs::AssignSteps::one_more))]
 fn count_used(targets: &[Target]) -> usize
     ensures { result ≡ min (count_parts (map target_of targets.now) + 1) (2 ^ 64 - 1) }
@@ -33,7 +33,7 @@ fn all_used<'j>(job: &'j Job, targets: &[Target]) -> &'j [Value]
     job.last_values(count_used(targets).min(most))
 }
 
-// The values that the targets of SET need: those before its own.
+// The values that the targets of SET need: those before its own value.
 #[tactic(auto, using(crate::proofs::AssignSteps::all_but_last, crate::proofs::AssignSteps::none_before))]
 fn needs_of<'j>(job: &'j Job, targets: &[Target]) -> &'j [Value]
     ensures { result.now ≡ last_values (count_parts (map target_of targets.now)) (dropped 1 (job_of job.now)) }
@@ -45,7 +45,7 @@ fn needs_of<'j>(job: &'j Job, targets: &[Target]) -> &'j [Value]
     }
 }
 
-// What SET needs is used up.
+// Drops the values that SET uses.
 #[tactic(auto, using(crate::proofs::AssignSteps::dropped_within))]
 fn use_up_assigned(job: &mut Job, targets: &[Target])
     ensures changed { job_of job.new ≡ dropped (count_parts (map target_of targets.now) + 1) (job_of job.old) }
@@ -55,7 +55,7 @@ fn use_up_assigned(job: &mut Job, targets: &[Target])
     job.use_up(count_used(targets).min(most));
 }
 
-/// The assignments of SET: the value was computed last.
+/// Adds the assignments of SET, whose value was computed last.
 #[tactic(auto, using(crate::proofs::StepLemmas::no_last, crate::proofs::StepLemmas::the_last, crate::proofs::AssignSteps::one_plus))]
 pub fn assign<'a>(
     alloc: Global,

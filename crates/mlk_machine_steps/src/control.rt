@@ -1,4 +1,4 @@
-// Conditions, and what is skipped, quit or ended.
+// Conditions, and steps that skip, quit or end something.
 
 ghost use Rattle.std.specs.Prelude.{◌≡◌, OnErr, Ok, if◌then◌else◌};
 ghost use Rattle.mlk_text.specs.Failures.{Answers};
@@ -18,7 +18,7 @@ use mlk_syntax::Expr;
 use mlk_text::Failure;
 use std::alloc::Global;
 
-/// `$TEST` is set to any truth.
+/// Sets `$TEST` to the truth value that is chosen.
 pub fn ask_test(job: &mut Job, choice: &Choice) -> Result<(), Failure<Refusal>>
     ensures answer { Answers (λ _. job_of job.new) result
         (with_truth choice.now (λ t. Ok (tested t (job_of job.old)))) }
@@ -31,14 +31,14 @@ pub fn ask_test(job: &mut Job, choice: &Choice) -> Result<(), Failure<Refusal>>
     Ok(())
 }
 
-// Whether both are true, or both are false.
+// Whether the two truth values are equal.
 fn same_truth(first: bool, second: bool) -> bool
     ensures { result ≡ same_truth first second }
 {
     if first { second } else { !second }
 }
 
-/// The rest of the line is skipped where `$TEST` is this.
+/// Skips the rest of the line if `$TEST` is `test`.
 pub fn skip_if(job: &mut Job, choice: &Choice, test: bool) -> Result<(), Failure<Refusal>>
     ensures answer { Answers (λ _. job_of job.new) result (without_choice choice.now
         (Ok (doing (if same_truth test (job_of job.old).test then skipped (job_of job.old).tasks
@@ -54,7 +54,7 @@ pub fn skip_if(job: &mut Job, choice: &Choice, test: bool) -> Result<(), Failure
     Ok(())
 }
 
-/// `$SELECT`: its first condition is evaluated.
+/// `$SELECT`: evaluates its first condition.
 pub fn select<'a>(
     alloc: Global,
     job: &mut Job<'a>,

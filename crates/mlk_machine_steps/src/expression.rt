@@ -1,4 +1,4 @@
-// Values that expressions make, one after another.
+// Values of expressions, one after another.
 
 ghost use Rattle.std.specs.Prelude.{◌≡◌, IfOk, OnErr, Ok, drop};
 ghost use Rattle.std.specs.Fmt.{decimal};
@@ -16,7 +16,7 @@ use mlk_numbers::{fold, fold_unary};
 use mlk_text::{Failure, Name, Op, UnaryOp, Value};
 use std::alloc::{AllocError, Global};
 
-// A value is computed. Nothing is asked.
+// Pushes a value that was computed. It asks for no choice.
 fn push(job: &mut Job, choice: &Choice, value: Value) -> Result<(), Failure<Refusal>>
     ensures answer { Answers (λ _. job_of job.new) result (without_choice choice.now (Ok (pushed value (job_of job.old)))) }
     ensures stays { OnErr result (job_of job.new ≡ job_of job.old) }
@@ -28,7 +28,7 @@ fn push(job: &mut Job, choice: &Choice, value: Value) -> Result<(), Failure<Refu
     Ok(())
 }
 
-/// A value of the program's text. Nothing is asked.
+/// Pushes a value of the program's text. It asks for no choice.
 pub fn push_copy(job: &mut Job, choice: &Choice, value: &Value) -> Result<(), Failure<Refusal>>
     ensures answer { Answers (λ _. job_of job.new) result (without_choice choice.now (Ok (pushed value.now (job_of job.old)))) }
     ensures stays { OnErr result (job_of job.new ≡ job_of job.old) }
@@ -39,7 +39,7 @@ pub fn push_copy(job: &mut Job, choice: &Choice, value: &Value) -> Result<(), Fa
     push(job, choice, copy)
 }
 
-/// The value of a local without subscripts, where it has one.
+/// Pushes the value of a local without subscripts, if it has one.
 #[tactic(auto, using(crate::proofs::StepLemmas::none_fetched, crate::proofs::StepLemmas::some_fetched))]
 pub fn fetch(job: &mut Job, choice: &Choice, name: &Name) -> Result<(), Failure<Refusal>>
     ensures answer { Answers (λ _. job_of job.new) result (without_choice choice.now
@@ -55,7 +55,7 @@ pub fn fetch(job: &mut Job, choice: &Choice, name: &Name) -> Result<(), Failure<
     push(job, choice, copy)
 }
 
-// The text of a number.
+// The decimal digits of `number`.
 fn number_text(alloc: Global, number: u32) -> Result<Value, AllocError>
     ensures { IfOk result (λ text. text ≡ decimal number) }
 {
@@ -63,7 +63,7 @@ fn number_text(alloc: Global, number: u32) -> Result<Value, AllocError>
     Value::of(alloc, text.as_bytes())
 }
 
-/// `$JOB`.
+/// Pushes `$JOB`.
 pub fn push_job(alloc: Global, job: &mut Job, choice: &Choice) -> Result<(), Failure<Refusal>>
     ensures answer { Answers (λ _. job_of job.new) result (without_choice choice.now
         (Ok (pushed (decimal (job_of job.old).number) (job_of job.old)))) }
@@ -83,7 +83,7 @@ fn test_text(alloc: Global, test: bool) -> Result<Value, AllocError>
     Value::of(alloc, bytes)
 }
 
-/// `$TEST`.
+/// Pushes `$TEST`.
 pub fn push_test(alloc: Global, job: &mut Job, choice: &Choice) -> Result<(), Failure<Refusal>>
     ensures answer { Answers (λ _. job_of job.new) result (without_choice choice.now
         (Ok (pushed (test_text (job_of job.old).test) (job_of job.old)))) }
@@ -95,7 +95,7 @@ pub fn push_test(alloc: Global, job: &mut Job, choice: &Choice) -> Result<(), Fa
     push(job, choice, text)
 }
 
-/// Any value, in place of the last `count` values.
+/// Replaces the last `count` values by the chosen one.
 pub fn ask_value(job: &mut Job, choice: Choice, count: usize) -> Result<(), Failure<Refusal>>
     ensures answer { Answers (λ _. job_of job.new) result
         (with_value choice (λ v. Ok (pushed v (dropped count (job_of job.old))))) }
@@ -108,7 +108,7 @@ pub fn ask_value(job: &mut Job, choice: Choice, count: usize) -> Result<(), Fail
     Ok(())
 }
 
-// A known value, or else any, in place of the last `count` values.
+// Replaces the last `count` values by `known`, or by the chosen one if it is `None`.
 fn give_value(
     job: &mut Job,
     choice: Choice,
@@ -129,7 +129,7 @@ fn give_value(
     Ok(())
 }
 
-/// An operator before the last value.
+/// Applies a unary operator to the last value.
 #[tactic(auto, using(crate::proofs::StepLemmas::no_last, crate::proofs::StepLemmas::the_last))]
 pub fn apply_unary(
     alloc: Global,
@@ -150,7 +150,7 @@ pub fn apply_unary(
     give_value(job, choice, known, 1)
 }
 
-/// An operator between the last two values.
+/// Applies a binary operator to the last two values.
 #[tactic(auto, using(crate::proofs::StepLemmas::no_last, crate::proofs::StepLemmas::no_second, crate::proofs::StepLemmas::last_two))]
 pub fn apply_binary(
     alloc: Global,

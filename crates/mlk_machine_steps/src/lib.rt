@@ -1,4 +1,4 @@
-//! One step of a job: what its next task makes of it.
+//! One step of a job: the effect of its next task.
 #![tactic(auto)]
 
 mod ask;

@@ -21,7 +21,7 @@ use mlk_syntax::{Line, Parameter};
 use mlk_text::{Failure, Name};
 use std::alloc::Global;
 
-/// Begins the next line; a job does not run on into a line with a formal list.
+/// Begins the next line; a job does not continue into a line with a formal list.
 #[tactic(auto, using(crate::proofs::LineSteps::line_entered, crate::proofs::LineSteps::line_refused))]
 pub fn run_lines<'a>(
     alloc: Global,
@@ -46,7 +46,7 @@ pub fn run_lines<'a>(
     replace(job, choice, parts)
 }
 
-/// What is left of a line.
+/// Runs the rest of a line.
 #[tactic(auto, using(crate::proofs::LineSteps::command_then))]
 pub fn run_commands<'a>(
     alloc: Global,
@@ -66,7 +66,7 @@ pub fn run_commands<'a>(
     replace(job, choice, parts)
 }
 
-/// The parameters of FOR that are left.
+/// Runs the remaining parameters of FOR.
 pub fn run_parameters<'a>(
     alloc: Global,
     job: &mut Job<'a>,
@@ -87,7 +87,7 @@ pub fn run_parameters<'a>(
     replace(job, choice, parts)
 }
 
-/// A round of FOR without an argument.
+/// Runs a round of FOR without an argument.
 pub fn run_forever<'a>(
     alloc: Global,
     job: &mut Job<'a>,
@@ -107,7 +107,7 @@ pub fn run_forever<'a>(
     replace(job, choice, parts)
 }
 
-/// The next round of FOR without a limit: its variable may have any value.
+/// Runs the next round of FOR without a limit: its variable may have any value.
 pub fn run_next_value<'a>(
     alloc: Global,
     job: &mut Job<'a>,
@@ -130,7 +130,7 @@ pub fn run_next_value<'a>(
     replace(job, choice, parts)
 }
 
-/// Whether there is a first round, where FOR has a limit.
+/// Decides whether there is a first round of a FOR with a limit.
 pub fn run_first_round<'a>(
     alloc: Global,
     job: &mut Job<'a>,
@@ -153,7 +153,7 @@ pub fn run_first_round<'a>(
     Ok(())
 }
 
-/// Whether there is a later round, where FOR has a limit.
+/// Decides whether there is another round of a FOR with a limit.
 pub fn run_later_round<'a>(
     alloc: Global,
     job: &mut Job<'a>,

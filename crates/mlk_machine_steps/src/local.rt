@@ -1,4 +1,4 @@
-// Locals: values that are stored, and names that are left without one.
+// Locals: values that are stored and removed.
 
 ghost use Rattle.std.specs.Prelude.{◌≡◌, OnErr, Ok};
 ghost use Rattle.mlk_text.specs.Failures.{Answers};
@@ -14,7 +14,7 @@ use mlk_machine_locks::Refusal;
 use mlk_text::{Failure, Name, Value};
 use std::alloc::Global;
 
-/// A value is stored in a local. Nothing is asked.
+/// Stores a value in a local. It asks for no choice.
 pub fn store<'a>(
     job: &mut Job<'a>,
     choice: &Choice,
@@ -34,7 +34,7 @@ pub fn store<'a>(
     Ok(())
 }
 
-/// Any value is stored in a local.
+/// Stores the chosen value in a local.
 pub fn store_any<'a>(
     job: &mut Job<'a>,
     choice: Choice,
@@ -52,7 +52,7 @@ pub fn store_any<'a>(
     Ok(())
 }
 
-/// The last value is stored in a local.
+/// Stores the last value in a local.
 #[tactic(auto, using(crate::proofs::StepLemmas::no_last, crate::proofs::StepLemmas::the_last))]
 pub fn store_last<'a>(
     job: &mut Job<'a>,
@@ -76,7 +76,7 @@ pub fn store_last<'a>(
     Ok(())
 }
 
-// KILL of one name leaves the cell that it is bound to without a value.
+// KILL of one name: removes the value of its cell.
 fn kill_one<'a>(job: &mut Job<'a>, choice: &Choice, name: &'a Name) -> Result<(), Failure<Refusal>>
     requires { Sound job.old }
     ensures answer { Answers (λ _. job_of job.new) result (without_choice choice.now
@@ -108,7 +108,7 @@ fn kill_all_but<'a>(
     Ok(())
 }
 
-/// KILL leaves the cells of its names without a value.
+/// KILL: removes the values of the cells of its names.
 pub fn kill<'a>(
     alloc: Global,
     job: &mut Job<'a>,

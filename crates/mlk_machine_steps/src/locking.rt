@@ -21,7 +21,7 @@ use mlk_syntax::{Sign, Variable};
 use mlk_text::Failure;
 use std::alloc::{AllocError, Global};
 
-/// Each of these names is held once less.
+/// Releases each of `names` once.
 pub fn release(job: &mut Job, choice: &Choice, names: &[LockName]) -> Result<(), Failure<Refusal>>
     ensures answer { Answers (λ _. job_of job.new) result (without_choice choice.now
         (Ok (releasing names.now (job_of job.old)))) }
@@ -34,7 +34,7 @@ pub fn release(job: &mut Job, choice: &Choice, names: &[LockName]) -> Result<(),
     Ok(())
 }
 
-/// Nothing is held any more.
+/// Releases all locks.
 pub fn release_all(alloc: Global, job: &mut Job, choice: &Choice) -> Result<(), Failure<Refusal>>
     ensures answer { Answers (λ _. job_of job.new) result (without_choice choice.now
         (Ok (holding_nothing (job_of job.old)))) }
@@ -47,7 +47,7 @@ pub fn release_all(alloc: Global, job: &mut Job, choice: &Choice) -> Result<(), 
     Ok(())
 }
 
-// What is held with these names, where they are free and no count passes the greatest.
+// The locks that are held once `names` are claimed too, or `None` if they are not free or a count would exceed the maximum.
 fn held_with(
     alloc: Global,
     held: &Held,
@@ -65,7 +65,7 @@ fn held_with(
     }
 }
 
-// A claim without a timeout.
+// Claims names without a timeout.
 fn claim_untimed(
     alloc: Global,
     job: &mut Job,
@@ -84,7 +84,7 @@ fn claim_untimed(
     Ok(())
 }
 
-// A claim with a timeout, which may fail at any time.
+// Claims names with a timeout; the claim may fail at any time.
 fn claim_timed(
     alloc: Global,
     job: &mut Job,
@@ -106,7 +106,7 @@ fn claim_timed(
     Ok(())
 }
 
-/// All names of an argument are claimed in one step; `are_free` says whether other jobs leave them free.
+/// Claims all names of an argument in one step; `are_free` says whether other jobs leave them free.
 #[tactic(auto, using(crate::proofs::ClaimLemmas::claimed_by))]
 pub fn claim(
     alloc: Global,
@@ -129,7 +129,7 @@ pub fn claim(
     }
 }
 
-// The names of an argument, of the last values.
+// The names of an argument, from the last values.
 fn found_names(alloc: Global, job: &Job, names: &[Variable]) -> Result<Vec<LockName>, AllocError>
     ensures { IfOk result (λ found. found.items ≡ names_of
         (last_values (count_all (map variable_of names.now)) (job_of job.now)) (map variable_of names.now)) }
@@ -138,7 +138,7 @@ fn found_names(alloc: Global, job: &Job, names: &[Variable]) -> Result<Vec<LockN
     lock_names(alloc, names, job.last_values(count_all(names).min(most)))
 }
 
-// The subscripts of these names are used up.
+// Drops the subscripts of `names`.
 fn use_up_subscripts(job: &mut Job, names: &[Variable])
     ensures changed { job_of job.new ≡ dropped (count_all (map variable_of names.now)) (job_of job.old) }
     ensures sound { Sound job.old → Sound job.new }
@@ -147,7 +147,7 @@ fn use_up_subscripts(job: &mut Job, names: &[Variable])
     job.use_up(count_all(names).min(most));
 }
 
-/// The names of an argument, whose subscripts were evaluated.
+/// Adds the effect of an argument whose names' subscripts were evaluated.
 pub fn name_locks<'a>(
     alloc: Global,
     job: &mut Job<'a>,

@@ -27,7 +27,7 @@ fn of_both<'j>(job: &'j Job, target: &Variable, source: &Variable) -> &'j [Value
     job.last_values(count.min(most))
 }
 
-// The subscripts of both sides are used up.
+// Drops the subscripts of both sides.
 #[tactic(auto, using(crate::proofs::AssignSteps::dropped_within))]
 fn use_up_both(job: &mut Job, target: &Variable, source: &Variable)
     ensures changed { job_of job.new ≡ dropped (count_in (variable_of target.now) + count_in (variable_of source.now)) (job_of job.old) }
@@ -38,7 +38,7 @@ fn use_up_both(job: &mut Job, target: &Variable, source: &Variable)
     job.use_up(count.min(most));
 }
 
-/// The tree on the right is read, then the left side is written.
+/// Reads the tree on the right, then writes the left side.
 pub fn merge<'a>(
     alloc: Global,
     job: &mut Job<'a>,

@@ -56,7 +56,7 @@ pub fn halt(job: &mut Job, choice: &Choice) -> Result<(), Failure<Refusal>>
     Ok(())
 }
 
-// All is as it was at the begin of a frame, the routine too.
+// Restores everything to the begin of a frame, the routine too.
 fn leave(job: &mut Job, back: Back, routine: usize)
     requires { IsBack back job.old }
     ensures job { job_of job.new ≡ left_to (bindings_of (take back.binders job.old.binders.items)) back.next routine (job_of job.old) }
@@ -66,7 +66,7 @@ fn leave(job: &mut Job, back: Back, routine: usize)
     job.routine = routine;
 }
 
-/// The end of a frame: one of `$$` puts `$TEST` back, and gives any value where QUIT gave none.
+/// Ends a frame: that of an extrinsic call restores `$TEST`, and returns the chosen value if QUIT provided none.
 pub fn end_frame(
     job: &mut Job,
     choice: Choice,

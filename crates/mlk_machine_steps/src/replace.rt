@@ -17,7 +17,7 @@ use mlk_syntax::Expr;
 use mlk_text::Failure;
 use std::alloc::Global;
 
-/// These tasks are done in place of the one that was taken away. Nothing is asked.
+/// Replaces the removed task by `parts`. It asks for no choice.
 pub(crate) fn replace<'a>(
     job: &mut Job<'a>,
     choice: &Choice,
@@ -34,7 +34,7 @@ pub(crate) fn replace<'a>(
     Ok(())
 }
 
-/// An expression.
+/// Replaces an expression by its tasks.
 pub fn evaluate<'a>(
     alloc: Global,
     job: &mut Job<'a>,

@@ -1,4 +1,4 @@
-// Names that are made new, and blocks, at whose end all names are as they were.
+// NEW, and blocks, at whose end the bindings of all names are restored.
 
 ghost use Rattle.std.specs.Prelude.{◌≡◌, ◌∷◌, OnErr, Ok, take, length};
 ghost use Rattle.mlk_text.specs.Failures.{Answers};
@@ -29,7 +29,7 @@ fn next_generation(job: &Job) -> usize
     job.tables.len()
 }
 
-/// The names are bound to new cells.
+/// Binds names to new cells.
 pub fn make_new<'a>(
     alloc: Global,
     job: &mut Job<'a>,
@@ -51,7 +51,7 @@ pub fn make_new<'a>(
     Ok(())
 }
 
-/// A block begins: its end puts names and `$TEST` back.
+/// Begins a block; its end restores names and `$TEST`.
 #[tactic(auto, using(crate::proofs::ScopeLemmas::lines_again, crate::proofs::ScopeLemmas::block_begun, crate::proofs::ScopeLemmas::stands_with_block))]
 pub fn begin_block<'a>(
     job: &mut Job<'a>,
@@ -78,7 +78,7 @@ pub fn begin_block<'a>(
     Ok(())
 }
 
-/// All names are as they were at a begin.
+/// Restores the bindings of all names to those at the begin of a block or frame.
 pub(crate) fn go_back(job: &mut Job, back: Back)
     requires { IsBack back job.old }
     ensures job { job_of job.new ≡ back_to (bindings_of (take back.binders job.old.binders.items)) back.next (job_of job.old) }
@@ -88,7 +88,7 @@ pub(crate) fn go_back(job: &mut Job, back: Back)
     forget(&mut job.tables, back.next);
 }
 
-/// The end of a block.
+/// Ends a block.
 pub fn end_block(
     job: &mut Job,
     choice: &Choice,

@@ -1,4 +1,4 @@
-// References to globals: they are formed, and then touched in one step each.
+// References to globals: each is formed, and then touched in one step.
 
 ghost use Rattle.std.specs.Prelude.{◌≡◌, ◌∷◌, OnErr, Ok};
 ghost use Rattle.mlk_text.specs.Failures.{Answers};
@@ -15,7 +15,7 @@ use mlk_names::{Access, Extent};
 use mlk_text::{Failure, Name};
 use std::alloc::Global;
 
-/// A reference, whose subscripts are the last values.
+/// Forms a reference, whose subscripts are the last values.
 pub fn form_reference<'a>(
     alloc: Global,
     job: &mut Job<'a>,
@@ -41,7 +41,7 @@ pub fn form_reference<'a>(
     Ok(())
 }
 
-/// A reference is touched: a read gives any value.
+/// Touches a reference; a read pushes the chosen value.
 pub fn touch(job: &mut Job, choice: Choice, access: Access) -> Result<(), Failure<Refusal>>
     ensures answer { Answers (λ _. job_of job.new) result
         (touched choice access (job_of job.old) (job_of job.old).tasks) }

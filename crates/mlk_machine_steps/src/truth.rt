@@ -1,4 +1,4 @@
-// Steps by the truth of the last value.
+// Steps that depend on the truth value of the last value.
 
 ghost use Rattle.std.specs.Prelude.{◌≡◌, ◌∷◌, ◌++◌, [], OnErr, OnOk, Ok};
 ghost use Rattle.mlk_text.specs.Failures.{Answers};
@@ -22,7 +22,7 @@ use mlk_syntax::{Action, Expr, Line};
 use mlk_text::Failure;
 use std::alloc::{AllocError, Global};
 
-// The truth that is chosen, where one has to be.
+// The truth value that is chosen, if one has to be; otherwise `BadChoice`.
 fn truth_chosen(choice: &Choice) -> Result<bool, Refusal>
     ensures { result ≡ truth_chosen choice.now }
 {
@@ -32,7 +32,7 @@ fn truth_chosen(choice: &Choice) -> Result<bool, Refusal>
     }
 }
 
-// A truth that is known: nothing may be chosen beside it.
+// `truth`, which is known: nothing may be chosen then.
 fn truth_known(choice: &Choice, truth: bool) -> Result<bool, Refusal>
     ensures { result ≡ truth_known choice.now truth }
 {
@@ -42,7 +42,7 @@ fn truth_known(choice: &Choice, truth: bool) -> Result<bool, Refusal>
     }
 }
 
-// The truth of the last value.
+// The truth value of the last value, known or chosen.
 #[tactic(auto, using(crate::proofs::TruthLemmas::no_truth, crate::proofs::TruthLemmas::the_truth))]
 fn last_truth(job: &Job, choice: &Choice) -> Result<bool, Refusal>
     ensures { result ≡ step_truth choice.now (job_of job.now).values }
@@ -56,7 +56,7 @@ fn last_truth(job: &Job, choice: &Choice) -> Result<bool, Refusal>
     }
 }
 
-/// `$TEST` is set to the truth of the last value.
+/// Sets `$TEST` to the truth value of the last value.
 pub fn set_test(job: &mut Job, choice: &Choice) -> Result<(), Failure<Refusal>>
     ensures answer { Answers (λ _. job_of job.new) result
         (by_truth choice.now (job_of job.old) (λ t i. Ok (doing (job_of job.old).tasks (tested t i)))) }
@@ -70,7 +70,7 @@ pub fn set_test(job: &mut Job, choice: &Choice) -> Result<(), Failure<Refusal>>
     Ok(())
 }
 
-// What comes after a condition that is true.
+// The tasks of a command after its postconditional, if that is true.
 fn parts_if<'a>(
     parts: &mut Vec<Task<'a>>,
     is_true: bool,
@@ -87,7 +87,7 @@ fn parts_if<'a>(
     }
 }
 
-/// A command whose postconditional was evaluated.
+/// Runs a command whose postconditional was evaluated.
 pub fn conditionally<'a>(
     alloc: Global,
     job: &mut Job<'a>,
@@ -110,7 +110,7 @@ pub fn conditionally<'a>(
     Ok(())
 }
 
-// What comes after a condition of `$SELECT`.
+// The tasks after a condition of `$SELECT`.
 fn part_chosen<'a>(
     parts: &mut Vec<Task<'a>>,
     value: &'a Expr,
@@ -127,7 +127,7 @@ fn part_chosen<'a>(
     }
 }
 
-/// The value beside a condition of `$SELECT` that was true, or else the other conditions.
+/// Evaluates the value for a condition of `$SELECT` if it was true, otherwise the next conditions.
 pub fn choose<'a>(
     alloc: Global,
     job: &mut Job<'a>,

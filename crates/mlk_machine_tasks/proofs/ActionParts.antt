@@ -1,4 +1,4 @@
--- What commands are replaced by, by kind.
+-- The tasks that replace commands, by kind.
 use Rattle.std.proofs.Common.{◌≡◌, ℕ, suc, List, [], ◌∷◌, ◌++◌, Option, Some, None, refl, ap}
 use Rattle.std.specs.Prelude.{map}
 use Rattle.mlk_syntax.specs.ExprTrees.{Tree}
@@ -17,7 +17,7 @@ use Rattle.mlk_machine_jobs.specs.Tasks.{Task, NextArgument}
 use Rattle.mlk_machine_jobs.specs.Commands.{in_turn, block_parts, action_parts, do_parts, kill_parts, if_parts, lock_parts, new_parts, job_parts, merge_parts, read_parts, set_parts, write_parts}
 use Rattle.mlk_machine_tasks.specs.ArgumentViews.{do_all, if_all, kill_all, lock_all, new_all, quit_parts}
 
--- arguments in turn, seen otherwise
+-- arguments in turn, through a view of them
 turn_mapped : {A B : Type 0} (parts : B → List Task) (view : A → B) (action : ActionTree) (done : ℕ) (xs : List A)
     → in_turn parts action done (map view xs) ≡ in_turn (λ x. parts (view x)) action done xs
 turn_mapped parts view action done [] = refl

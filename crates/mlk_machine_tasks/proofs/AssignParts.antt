@@ -85,7 +85,7 @@ merged_source subs (Named column (Selected cs)) = refl
 merged_source subs (Named column (BareCall caret callee)) = refl
 merged_source subs (Named column (CallOf caret callee given)) = refl
 
--- a count that stops at the greatest number
+-- a count that saturates at the greatest number
 pub counted_up : (left : List Target) (count whole : ℕ) → length left ≡ 0 → count ≤ 2 ^ 64 - 1
     → min (count_parts (map target_of left) + count) (2 ^ 64 - 1) ≡ whole → count ≡ whole
 counted_up [] count whole e l h =

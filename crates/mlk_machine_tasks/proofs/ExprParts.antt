@@ -1,4 +1,4 @@
--- What expressions are replaced by, construct by construct.
+-- The tasks that replace expressions, construct by construct.
 use Rattle.std.proofs.Common.{◌≡◌, true, false, List, [], ◌∷◌, ◌++◌, refl, sym, ap}
 use Rattle.std.proofs.lemmas.Bool.{false≢true}
 use Rattle.mlk_text.specs.declared.operator.Op.{Op}

@@ -1,4 +1,4 @@
--- What lines and their commands are, one level taken apart.
+-- Lines and their commands, taken apart by one level.
 use Rattle.std.proofs.Common.{◌≡◌, ap, sym, refl, List, [], ◌∷◌, Option, Some, None, Box, Global, ℕ}
 use Rattle.std.specs.Prelude.{map, option_map}
 use Rattle.mlk_syntax.specs.declared.command.Commands.{Commands}

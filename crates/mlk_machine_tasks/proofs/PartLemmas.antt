@@ -22,7 +22,7 @@ adds_both p q old now new h k = k ∙ ap (λ (z : List Task). z ++ q) h ∙ appe
 pub adds_none : (tasks : List TaskIn) → Adds [] tasks tasks
 adds_none tasks = sym (append-nil (map task_of tasks))
 
--- what is left of a list, once the first of it was added
+-- what is left of a list, once its first element was added
 pub adds_more : (p q all : List Task) (old now new : List TaskIn) → map task_of now ++ (p ++ q) ≡ map task_of old ++ all
     → Adds p now new → map task_of new ++ q ≡ map task_of old ++ all
 adds_more p q all old now new h k =
@@ -31,7 +31,7 @@ adds_more p q all old now new h k =
 pub adds_all : (all : List Task) (old new : List TaskIn) → map task_of new ++ [] ≡ map task_of old ++ all → Adds all old new
 adds_all all old new h = sym (append-nil (map task_of new)) ∙ h
 
--- what is left of arguments, once the first of them and how many are done was added
+-- what is left of arguments, once the first of them and the count of those done were added
 pub argument_added : {A : Type 0} (parts : A → List Task) (action : ActionTree) (a : A) (more : List A) (count : ℕ) (all : List Task) (old now mid new : List TaskIn)
     → suc (length more) ≤ count
     → map task_of now ++ in_turn parts action (count - suc (length more)) (a ∷ more) ≡ map task_of old ++ all

@@ -1,4 +1,4 @@
--- What the code's expressions are replaced by, construct by construct.
+-- The tasks that replace the code's expressions, construct by construct.
 use Rattle.std.proofs.Common.{◌≡◌, ◌∙◌, ap, sym, ℕ, Bool, true, false, refl, inl, inr, List, [], ◌∷◌, ◌++◌, Option, Some, None, Vec, Box, Global}
 use Rattle.std.specs.Prelude.{option_map}
 use Rattle.std.proofs.lemmas.Bool.{cases_Bool, false≢true}

@@ -1,4 +1,4 @@
--- What arguments of commands are replaced by, in parts. This project's own.
+-- The tasks of arguments of commands, in parts. This project's own.
 use Rattle.std.specs.Prelude.{ℕ, false, List, [], ◌∷◌, ◌++◌, flat_map, Option, Some, None}
 use Rattle.mlk_syntax.specs.ExprTrees.{Tree, LocalName, no_subs, ActualTree}
 use Rattle.mlk_syntax.specs.Trees.{VariableTree, Named, DoTree, KillTree, LockTree, NewTree, ActionTree, LineTrees}
@@ -12,12 +12,12 @@ abbrev pub bare_name : VariableTree → Option (List ℕ)
 bare_name (Named column (LocalName name no_subs)) = Some name
 bare_name v = None
 
--- what READ does once its length was evaluated
+-- the tasks of READ after the evaluation of its length
 abbrev pub read_after : VariableTree → Option Tree → List Task
 read_after v timeout =
     evaluated_if timeout ++ AskValue (count_in v) ∷ store_last v ++ in_time timeout
 
--- the last value is stored in a local of this name, or not used
+-- stores the last value in a local, or drops it
 abbrev pub stored_in : Option (List ℕ) → List Task
 stored_in (Some name) = StoreLast name ∷ []
 stored_in None = Drop 1 ∷ []
@@ -26,7 +26,7 @@ stored_in None = Drop 1 ∷ []
 abbrev pub each_value : List Tree → List Task
 each_value ts = flat_map (λ t. Evaluate t ∷ []) ts
 
--- commands with lists of arguments, which have a meaning of their own without them
+-- commands with lists of arguments that have a meaning of their own without arguments
 abbrev pub do_all : LineTrees → ActionTree → List DoTree → List Task
 do_all block action [] = block_parts block
 do_all block action (c ∷ calls) = in_turn do_parts action 0 (c ∷ calls)

@@ -1,4 +1,4 @@
--- What assignments are replaced by, by the names of what is assigned. This project's own.
+-- The tasks of assignments, by the names of the targets. This project's own.
 use Rattle.std.specs.Prelude.{ℕ, Bool, true, false, List, [], ◌∷◌, ◌++◌, Option, Some, None}
 use Rattle.mlk_names.specs.declared.reference.Extent.TheVariants as extent
 use Rattle.mlk_names.specs.declared.reference.Access.TheVariants.{Reads, Writes}
@@ -17,7 +17,7 @@ abbrev pub read_and_written : List ℕ → List (List ℕ) → List Task
 read_and_written name subs =
     DoTouch (touch_at name subs extent.Node Reads) ∷ Drop 1 ∷ DoTouch (touch_at name subs extent.Node Writes) ∷ []
 
--- of the name of a local without subscripts, and of a global, where there are any
+-- to a local without subscripts, or to a global, if there is one
 abbrev pub whole_assigned : List ℕ → List (List ℕ) → Option (List ℕ) → Option (List ℕ) → List Task
 whole_assigned value subs (Some name) global = Store name value ∷ []
 whole_assigned value subs None (Some name) = DoTouch (touch_at name subs extent.Node Writes) ∷ []
@@ -33,12 +33,12 @@ abbrev pub source_read : List (List ℕ) → Option (List ℕ) → List Task
 source_read subs None = []
 source_read subs (Some name) = DoTouch (touch_at name subs extent.Tree Reads) ∷ []
 
--- what a local is merged with: the tree that was read, or any value
+-- merges the tree that was read, or any value, into a local
 abbrev pub into_local : List ℕ → Bool → List Task
 into_local name true = StoreLast name ∷ []
 into_local name false = StoreAny name ∷ []
 
--- what was read is not used
+-- drops the value that was read
 abbrev pub unread : Bool → List Task
 unread true = Drop 1 ∷ []
 unread false = []
@@ -47,7 +47,7 @@ abbrev pub tree_written : List (List ℕ) → Option (List ℕ) → List Task
 tree_written subs None = []
 tree_written subs (Some name) = DoTouch (touch_at name subs extent.Tree Writes) ∷ []
 
--- MERGE into a local without subscripts, or else into a global, where a tree was read or not
+-- MERGE into a local without subscripts, or into a global, with a tree that was read or without
 abbrev pub merged_into : List (List ℕ) → Option (List ℕ) → Option (List ℕ) → Bool → List Task
 merged_into subs (Some name) global is_read = into_local name is_read
 merged_into subs None global is_read = unread is_read ++ tree_written subs global

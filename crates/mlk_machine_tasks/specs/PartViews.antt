@@ -1,4 +1,4 @@
--- What expressions are replaced by, of the code's values. This project's own.
+-- The tasks of expressions, from the code's values. This project's own.
 use Rattle.std.specs.Prelude.{◌+◌, Bool, true, false, if◌then◌else◌, List, [], ◌∷◌, ◌++◌, Option, Some, None}
 use Rattle.mlk_text.specs.declared.operator.Op.{Op}
 use Rattle.mlk_syntax.specs.declared.expr.Expr.{Expr}
@@ -22,11 +22,11 @@ args_of es = trees_from (trees es)
 abbrev pub links_of : List (Op × Expr) → Links
 links_of ls = links_from (links ls)
 
--- subscripts and arguments that are used up for any value
+-- subscripts and arguments whose values are replaced by any value
 abbrev pub asked : Subs → Trees → List Task
 asked subs more = each_sub subs ++ each_tree more ++ AskValue (count_subs subs + count_trees more) ∷ []
 
--- functions that are given a name
+-- functions whose first argument is a name
 abbrev pub naming_of : Naming → Function
 naming_of naming.Data = function.Data
 naming_of naming.Get = function.Get
@@ -37,7 +37,7 @@ naming_of naming.Name = function.Name
 abbrev pub named_function : Function → Option Function
 named_function f = if takes_name f then Some f else None
 
--- a pattern comes after `?` alone
+-- a pattern follows `?` only
 abbrev pub is_pattern_text : Tree → Bool
 is_pattern_text (PatternText text) = true
 is_pattern_text _ = false
@@ -50,7 +50,7 @@ abbrev pub extrinsic_parts : Callee → Option (List ActualTree) → List Task
 extrinsic_parts callee None = Call true callee [] ∷ []
 extrinsic_parts callee (Some given) = called_with callee given
 
--- any value, once these arguments were evaluated
+-- any value, after the evaluation of the arguments
 abbrev pub values_with : Trees → List Task
 values_with args = each_tree args ++ AskValue (count_trees args) ∷ []
 

@@ -1,4 +1,4 @@
-// What commands are replaced by.
+// The tasks of commands.
 
 ghost use Rattle.std.specs.Prelude.{OnOk, map, option_map};
 ghost use Rattle.mlk_syntax.specs.ExprTrees.{tree_of, trees};
@@ -18,7 +18,7 @@ use mlk_syntax::{
 };
 use std::alloc::AllocError;
 
-// Expressions of `action` whose values are not used.
+// Evaluates the arguments of `action` without using their values.
 #[tactic(auto, using(crate::proofs::PartLemmas::argument_added))]
 fn each_evaluated<'a>(
     parts: &mut Vec<Task<'a>>,
@@ -36,7 +36,7 @@ fn each_evaluated<'a>(
     Ok(())
 }
 
-// The conditions of IF; without one `$TEST` is asked.
+// The conditions of IF; without arguments, the test of `$TEST`.
 #[tactic(auto, using(crate::proofs::PartLemmas::argument_added, crate::proofs::ActionParts::if_some))]
 fn if_all<'a>(
     parts: &mut Vec<Task<'a>>,
@@ -57,7 +57,7 @@ fn if_all<'a>(
     Ok(())
 }
 
-// The calls of DO; without one the block is run.
+// The calls of DO; without arguments, the block.
 #[tactic(auto, using(crate::proofs::ActionParts::do_none, crate::proofs::ActionParts::do_some))]
 fn do_all<'a>(
     parts: &mut Vec<Task<'a>>,
@@ -73,7 +73,7 @@ fn do_all<'a>(
     }
 }
 
-// What KILL removes; without an argument all locals.
+// The arguments of KILL; without arguments, all locals.
 #[tactic(auto, using(crate::proofs::ActionParts::kill_none, crate::proofs::ActionParts::kill_some))]
 fn kill_all<'a>(
     parts: &mut Vec<Task<'a>>,
@@ -88,7 +88,7 @@ fn kill_all<'a>(
     }
 }
 
-// What LOCK claims or releases; without an argument all is released.
+// The arguments of LOCK; without arguments, the release of all locks.
 #[tactic(auto, using(crate::proofs::ActionParts::lock_none, crate::proofs::ActionParts::lock_some))]
 fn lock_all<'a>(
     parts: &mut Vec<Task<'a>>,
@@ -103,7 +103,7 @@ fn lock_all<'a>(
     }
 }
 
-// What NEW makes new; without an argument all locals.
+// The arguments of NEW; without arguments, all locals.
 #[tactic(auto, using(crate::proofs::ActionParts::new_none, crate::proofs::ActionParts::new_some))]
 fn new_all<'a>(
     parts: &mut Vec<Task<'a>>,
@@ -118,7 +118,7 @@ fn new_all<'a>(
     }
 }
 
-// Calls of JOB.
+// The arguments of JOB.
 #[tactic(auto, using(crate::proofs::ActionParts::job_mapped))]
 fn job_all<'a>(
     parts: &mut Vec<Task<'a>>,
@@ -200,7 +200,7 @@ fn quit_parts<'a>(parts: &mut Vec<Task<'a>>, value: &'a Option<Box<Expr>>) -> Re
     }
 }
 
-/// What a command does, on a line with this block.
+/// Adds the tasks of a command's action, on a line with the block `block`.
 #[tactic(auto, using(crate::proofs::ActionParts::does_do, crate::proofs::ActionParts::does_if, crate::proofs::ActionParts::does_kill, crate::proofs::ActionParts::does_lock, crate::proofs::ActionParts::does_new, crate::proofs::ActionParts::does_quit))]
 pub fn action_parts<'a>(
     parts: &mut Vec<Task<'a>>,
@@ -227,7 +227,7 @@ pub fn action_parts<'a>(
     }
 }
 
-/// A command, after its postconditional if it has one.
+/// Adds the tasks of a command, those of its postconditional first.
 pub(crate) fn command_parts<'a>(
     parts: &mut Vec<Task<'a>>,
     block: &'a [Line],

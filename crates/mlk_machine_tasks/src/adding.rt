@@ -1,4 +1,4 @@
-// Parts, one after another.
+// Adding tasks one after another.
 
 ghost use Rattle.std.specs.Prelude.{◌∷◌, [], OnOk};
 ghost use Rattle.mlk_machine_jobs.specs.TaskViews.{Adds, task_of};

@@ -1,4 +1,4 @@
-// What the arguments of commands are replaced by.
+// The tasks of arguments of DO, MERGE, NEW, READ and WRITE.
 
 ghost use Rattle.std.specs.Prelude.{◌≡◌, OnOk, option_map};
 ghost use Rattle.mlk_syntax.specs.ExprTrees.{tree_of};
@@ -17,7 +17,7 @@ use mlk_syntax::{
 use mlk_text::Name;
 use std::alloc::AllocError;
 
-// The name of a local without subscripts.
+// The name of a local without subscripts, or `None` for any other variable.
 #[tactic(auto, using(crate::proofs::CommandParts::bare_local, crate::proofs::CommandParts::no_bare_local))]
 pub(crate) fn bare_name(variable: &Variable) -> Option<&Name>
     ensures { option_map (λ n. n.now) result ≡ bare_name (variable_of variable.now) }
@@ -41,7 +41,7 @@ pub(crate) fn bare_name(variable: &Variable) -> Option<&Name>
     }
 }
 
-// The last value is stored in a local without subscripts.
+// Stores the last value in a local without subscripts; for any other variable it drops the value.
 #[tactic(auto, using(crate::proofs::CommandParts::last_stored))]
 fn store_last<'a>(parts: &mut Vec<Task<'a>>, variable: &'a Variable) -> Result<(), AllocError>
     ensures { OnOk result (Adds (store_last (variable_of variable.now)) parts.old.items parts.new.items) }
@@ -112,7 +112,7 @@ pub(crate) fn merge_parts<'a>(
     Ok(())
 }
 
-// What READ does once its length was evaluated.
+// The tasks of READ after the evaluation of its length.
 fn read_after<'a>(
     parts: &mut Vec<Task<'a>>,
     variable: &'a Variable,

@@ -1,4 +1,4 @@
-// What SET, MERGE and LOCK do once all that they need was computed.
+// The tasks of SET, MERGE and LOCK once everything that they need was computed.
 
 ghost use Rattle.std.specs.Prelude.{◌≡◌, ◌∷◌, [], IfOk, OnOk, map, min, ◌^◌, ◌-◌, is_some, option_map};
 ghost use Rattle.mlk_syntax.specs.Views.{variable_of, target_of};
@@ -20,7 +20,7 @@ use mlk_syntax::{Expr, Sign, Target, Variable};
 use mlk_text::{Name, Subscripts, Value};
 use std::alloc::{AllocError, Global};
 
-/// What is touched, of subscripts that were computed.
+/// The touch of a global with the subscripts `values`.
 pub fn concrete(
     alloc: Global,
     name: &Name,
@@ -44,7 +44,7 @@ pub fn concrete(
     })
 }
 
-/// A node or a tree is touched.
+/// Touches a node or a tree.
 pub(crate) fn touch<'a>(
     alloc: Global,
     parts: &mut Vec<Task<'a>>,
@@ -60,7 +60,7 @@ pub(crate) fn touch<'a>(
     Ok(())
 }
 
-// A node that is assigned a part of its value is read, and then written.
+// Reads a node and then writes it, as the assignment of a part of its value does.
 fn read_and_written<'a>(
     alloc: Global,
     parts: &mut Vec<Task<'a>>,
@@ -75,7 +75,7 @@ fn read_and_written<'a>(
     Ok(())
 }
 
-/// The name of a global.
+/// The name of a global, or `None` for any other variable.
 #[tactic(auto, using(crate::proofs::AssignParts::name_of_global, crate::proofs::AssignParts::no_global))]
 pub(crate) fn global_name(variable: &Variable) -> Option<&Name>
     ensures { option_map (λ n. n.now) result ≡ global_name (variable_of variable.now) }
@@ -96,7 +96,7 @@ pub(crate) fn global_name(variable: &Variable) -> Option<&Name>
     }
 }
 
-/// Whether a variable is a global.
+/// Whether `variable` is a global.
 pub(crate) fn is_global(variable: &Variable) -> bool
     ensures { result ≡ is_some (global_name (variable_of variable.now)) }
 {
@@ -106,7 +106,7 @@ pub(crate) fn is_global(variable: &Variable) -> bool
     }
 }
 
-// A local of this name, or else a global of that one, is assigned a value.
+// Assigns a value to the local, if there is one, otherwise to the global, if there is one.
 #[tactic(auto, using(crate::proofs::PartLemmas::adds_none))]
 fn assign_whole<'a>(
     alloc: Global,
@@ -129,7 +129,7 @@ fn assign_whole<'a>(
     }
 }
 
-// A local of this name, or else a global of that one, is assigned a part of its value.
+// Assigns a part of the value of the local, if there is one, otherwise of the global, if there is one.
 #[tactic(auto, using(crate::proofs::PartLemmas::adds_none))]
 fn assign_part<'a>(
     alloc: Global,
@@ -151,7 +151,7 @@ fn assign_part<'a>(
     }
 }
 
-// One target, of the value and of the target's own subscripts.
+// Assigns `value` to one target, whose own subscripts are `subs`.
 #[tactic(auto, using(crate::proofs::AssignParts::assigned_whole, crate::proofs::AssignParts::assigned_part))]
 fn assigned<'a>(
     alloc: Global,
@@ -181,7 +181,7 @@ fn assigned<'a>(
     }
 }
 
-// How many values a target needs for its subscripts.
+// The number of values that a target needs for its subscripts.
 fn count_subs(target: &Target) -> usize
     ensures { result ≡ subs_of_target (target_of target.now) }
 {
@@ -191,7 +191,7 @@ fn count_subs(target: &Target) -> usize
     }
 }
 
-// How many values a target needs in all.
+// The number of values that a target needs.
 #[tactic(auto, using(crate::proofs::AssignParts::arguments_counted))]
 fn count_needs(target: &Target) -> usize
     ensures { result ≡ parts_in (target_of target.now) }
@@ -204,7 +204,7 @@ fn count_needs(target: &Target) -> usize
     }
 }
 
-/// How many values the targets of SET need in all; no more than the greatest number that a count has.
+/// The number of values that the targets of SET need, at most the greatest `usize`.
 pub fn count_parts(targets: &[Target]) -> usize
     ensures { result ≡ min (count_parts (map target_of targets.now)) (2 ^ 64 - 1) }
 {
@@ -217,7 +217,7 @@ pub fn count_parts(targets: &[Target]) -> usize
     count
 }
 
-/// The assignments of SET, from left to right, of a value and the values that the targets need.
+/// Adds the assignments of SET, from left to right, of `value`, where `needs` are the values that the targets need.
 pub fn assignments<'a>(
     alloc: Global,
     parts: &mut Vec<Task<'a>>,
@@ -239,7 +239,7 @@ pub fn assignments<'a>(
     Ok(())
 }
 
-/// What LOCK does with its names: without a sign all is released before the claim.
+/// Adds the effect of LOCK on its names: without a sign all locks are released before the claim.
 pub fn by_sign<'a>(
     parts: &mut Vec<Task<'a>>,
     sign: Sign,

@@ -1,4 +1,4 @@
-// What the arguments of commands are replaced by.
+// The tasks that arguments of several commands share.
 
 ghost use Rattle.std.specs.Prelude.{◌≡◌, OnOk, option_map};
 ghost use Rattle.mlk_syntax.specs.ExprTrees.{tree_of, actual_trees};
@@ -13,7 +13,7 @@ use mlk_machine_jobs::{ScopeTask, Task, TestTask, ValueTask};
 use mlk_syntax::{Actual, Expr, Line, Subscript, Variable};
 use std::alloc::AllocError;
 
-/// The subscripts of a variable.
+/// The subscripts of a variable; empty unless it is a local or a global.
 #[tactic(auto, using(crate::proofs::CommandParts::local_subs, crate::proofs::CommandParts::global_subs, crate::proofs::CommandParts::other_subs))]
 pub(crate) fn subscripts_of(variable: &Variable) -> &[Subscript]
     ensures { subs_of result.now ≡ subs_in (variable_of variable.now) }
@@ -42,7 +42,7 @@ pub(crate) fn in_variable<'a>(
     each_subscript(parts, subscripts_of(variable))
 }
 
-/// An expression whose value is not used.
+/// Evaluates an expression without using its value.
 pub(crate) fn evaluated<'a>(
     parts: &mut Vec<Task<'a>>,
     expression: &'a Expr,
@@ -67,7 +67,7 @@ pub(crate) fn evaluated_if<'a>(
     }
 }
 
-/// The actuals of a call, none where there is no list.
+/// The actuals of a call; empty without an actual list.
 pub(crate) fn given_in(actuals: &Option<Vec<Actual>>) -> &[Actual]
     ensures { actual_trees result.now ≡ given_in (option_map (λ v. actual_trees v.items) actuals.now) }
 {
@@ -77,7 +77,7 @@ pub(crate) fn given_in(actuals: &Option<Vec<Actual>>) -> &[Actual]
     }
 }
 
-/// DO without arguments runs the block, if there is one.
+/// Runs the block of a DO without arguments, if there is one.
 #[tactic(auto, using(crate::proofs::PartLemmas::adds_none))]
 pub(crate) fn block_parts<'a>(
     parts: &mut Vec<Task<'a>>,
@@ -91,7 +91,7 @@ pub(crate) fn block_parts<'a>(
     }
 }
 
-/// A condition of IF.
+/// Tests a condition of IF.
 pub(crate) fn if_parts<'a>(parts: &mut Vec<Task<'a>>, condition: &'a Expr) -> Result<(), AllocError>
     ensures { OnOk result (Adds (if_parts (tree_of condition.now)) parts.old.items parts.new.items) }
 {
@@ -101,7 +101,7 @@ pub(crate) fn if_parts<'a>(parts: &mut Vec<Task<'a>>, condition: &'a Expr) -> Re
     Ok(())
 }
 
-/// READ's timeout sets `$TEST`.
+/// Sets `$TEST` by READ's timeout, if there is one.
 #[tactic(auto, using(crate::proofs::PartLemmas::adds_none))]
 pub(crate) fn in_time<'a>(
     parts: &mut Vec<Task<'a>>,

@@ -1,4 +1,4 @@
-// What the evaluation of a whole expression is replaced by.
+// The tasks of the evaluation of a whole expression.
 
 ghost use Rattle.std.specs.Prelude.{◌≡◌, ◌∷◌, [], OnOk, option_map};
 ghost use Rattle.mlk_syntax.specs.ExprTrees.{tree_of, actual_of, actual_trees, link, no_links};
@@ -36,7 +36,7 @@ fn is_pattern(operand: &Expr) -> bool
     }
 }
 
-// An operand after its operator; a pattern match may have any value.
+// Applies a binary operator to its right operand; a pattern match may have any value.
 #[tactic(auto, using(crate::proofs::ExprParts::pattern_operation, crate::proofs::ExprParts::other_operation))]
 fn operand<'a>(parts: &mut Vec<Task<'a>>, op: Op, operand: &'a Expr) -> Result<(), AllocError>
     ensures { OnOk result (Adds (operation (link op (tree_of operand.now) no_links)) parts.old.items parts.new.items) }
@@ -70,7 +70,7 @@ fn actual_parts<'a>(parts: &mut Vec<Task<'a>>, actual: &'a Actual) -> Result<(),
     }
 }
 
-/// Actuals by value.
+/// Evaluates the actuals that are passed by value.
 #[tactic(auto, using(crate::proofs::ExprParts::actual_turn))]
 pub fn each_actual<'a>(parts: &mut Vec<Task<'a>>, actuals: &'a [Actual]) -> Result<(), AllocError>
     ensures { OnOk result (Adds (each_actual (actual_trees actuals.now)) parts.old.items parts.new.items) }
@@ -98,7 +98,7 @@ fn call_parts<'a>(
     Ok(())
 }
 
-// Any value, once these arguments were evaluated.
+// Evaluates `arguments` and replaces their values by any value.
 fn value_parts<'a>(parts: &mut Vec<Task<'a>>, arguments: &'a [Expr]) -> Result<(), AllocError>
     ensures { OnOk result (Adds (values_with (args_of arguments.now)) parts.old.items parts.new.items) }
 {
@@ -140,7 +140,7 @@ fn function_parts<'a>(
     }
 }
 
-// `$$`, with or without an actual list.
+// An extrinsic call, with or without an actual list.
 fn extrinsic<'a>(
     parts: &mut Vec<Task<'a>>,
     callee: &'a Callee,
@@ -157,7 +157,7 @@ fn extrinsic<'a>(
     }
 }
 
-/// What an expression is replaced by.
+/// Adds the tasks of an expression.
 #[tactic(auto, using(crate::proofs::TreeParts::local_parts, crate::proofs::TreeParts::global_parts, crate::proofs::TreeParts::binary_parts, crate::proofs::TreeParts::func_parts, crate::proofs::TreeParts::select_parts, crate::proofs::TreeParts::extrinsic_call))]
 pub fn parts_of<'a>(parts: &mut Vec<Task<'a>>, expression: &'a Expr) -> Result<(), AllocError>
     ensures { OnOk result (Adds (parts_of (tree_of expression.now)) parts.old.items parts.new.items) }

@@ -1,4 +1,4 @@
-// What an expression is replaced by.
+// The tasks of names with subscripts and of functions.
 
 ghost use Rattle.std.specs.Prelude.{◌≡◌, ◌++◌, OnOk, length, option_map};
 ghost use Rattle.mlk_syntax.specs.ExprTrees.{tree_of, actual_trees, count_subs};
@@ -14,7 +14,7 @@ use mlk_syntax::{Actual, Expr, Function, Special, Subscript};
 use mlk_text::{Name, Op};
 use std::alloc::AllocError;
 
-/// How many subscripts there are.
+/// The number of subscripts.
 #[tactic(auto, using(crate::proofs::PartCounts::subs_counted))]
 pub fn count_subscripts(subscripts: &[Subscript]) -> usize
     ensures count { result ≡ count_subs (subs_of subscripts.now) }
@@ -31,7 +31,7 @@ pub(crate) fn count_arguments(arguments: &[Expr]) -> usize
     arguments.len()
 }
 
-/// Each subscript is evaluated.
+/// Evaluates each subscript.
 pub fn each_subscript<'a>(
     parts: &mut Vec<Task<'a>>,
     subscripts: &'a [Subscript],
@@ -46,7 +46,7 @@ pub fn each_subscript<'a>(
     Ok(())
 }
 
-/// Each argument is evaluated.
+/// Evaluates each argument.
 pub fn each_argument<'a>(parts: &mut Vec<Task<'a>>, arguments: &'a [Expr]) -> Result<(), AllocError>
     ensures { OnOk result (Adds (each_tree (args_of arguments.now)) parts.old.items parts.new.items) }
 {
@@ -58,7 +58,7 @@ pub fn each_argument<'a>(parts: &mut Vec<Task<'a>>, arguments: &'a [Expr]) -> Re
     Ok(())
 }
 
-// A global is read.
+// Reads a global.
 pub(crate) fn read_global<'a>(
     parts: &mut Vec<Task<'a>>,
     name: &'a Name,
@@ -123,7 +123,7 @@ pub(crate) fn special_parts<'a>(
     }
 }
 
-// Further arguments, whose values are not used.
+// Evaluates further arguments without using their values.
 fn unused<'a>(parts: &mut Vec<Task<'a>>, arguments: &'a [Expr]) -> Result<(), AllocError>
     ensures { OnOk result (Adds (unused (args_of arguments.now)) parts.old.items parts.new.items) }
 {
@@ -174,7 +174,7 @@ fn query_parts<'a>(
     Ok(())
 }
 
-// Subscripts and further arguments are used up, and any value is given.
+// Replaces the values of subscripts and further arguments by any value.
 pub(crate) fn ask_parts<'a>(
     parts: &mut Vec<Task<'a>>,
     subscripts: &'a [Subscript],
@@ -189,7 +189,7 @@ pub(crate) fn ask_parts<'a>(
     Ok(())
 }
 
-// `$DATA` and `$GET` read what they name.
+// `$DATA` and `$GET` read the variable that they name.
 fn read_parts<'a>(
     parts: &mut Vec<Task<'a>>,
     name: &'a Name,
@@ -204,7 +204,7 @@ fn read_parts<'a>(
     Ok(())
 }
 
-// Functions that are given a name.
+// Functions whose first argument is a name.
 #[derive(Clone, Copy, Drop)]
 pub(crate) enum Naming {
     Data,

@@ -1,4 +1,5 @@
-//! What the tasks of a job are replaced by: expressions, commands and their arguments, lines, FOR, SET, MERGE and LOCK.
+//! The tasks into which a job's tasks are expanded: of expressions, commands and their arguments, lines, FOR, SET, MERGE and
+//! LOCK.
 #![tactic(auto)]
 
 mod action;

@@ -1,4 +1,4 @@
-// What is left of lines, and what comes next of it.
+// The rest of a line, and its next command.
 
 ghost use Rattle.std.specs.Prelude.{◌≡◌, ◌∷◌, [], OnOk, map, is_some, option_map};
 ghost use Rattle.mlk_syntax.specs.Views.{line_of, commands_of, last_or_none};
@@ -15,7 +15,7 @@ use mlk_syntax::{Commands, For, Line};
 use mlk_text::Name;
 use std::alloc::AllocError;
 
-// The FOR that ends commands, if there is one.
+// The FOR that ends commands, or `None`.
 fn last_for(last: &Option<Box<For>>) -> Option<&For>
     ensures { option_map (λ f. for_of f.now) result ≡ option_map (λ b. for_of b.value) last.now }
 {
@@ -25,7 +25,7 @@ fn last_for(last: &Option<Box<For>>) -> Option<&For>
     }
 }
 
-// All of these commands of a line.
+// The rest of a line that consists of all of `commands`.
 #[tactic(auto, using(crate::proofs::LineParts::commands_out))]
 fn rest_of<'a>(commands: &'a Commands, line: &'a Line) -> Rest<'a>
     ensures commands { commands_left result ≡ commands_of commands.now }
@@ -38,7 +38,7 @@ fn rest_of<'a>(commands: &'a Commands, line: &'a Line) -> Rest<'a>
     }
 }
 
-// FOR holds the rest of its line.
+// A FOR with the rest of its line.
 #[tactic(auto, using(crate::proofs::LineParts::for_without, crate::proofs::LineParts::for_with))]
 fn for_parts<'a>(parts: &mut Vec<Task<'a>>, last: &'a For, line: &'a Line) -> Result<(), AllocError>
     ensures { OnOk result (Adds (next_command (for_of last.now) (line_of line.now) []) parts.old.items parts.new.items) }
@@ -57,7 +57,7 @@ fn for_parts<'a>(parts: &mut Vec<Task<'a>>, last: &'a For, line: &'a Line) -> Re
     }
 }
 
-// What comes after all commands before it.
+// The end of commands: the FOR, if there is one.
 #[tactic(auto, using(crate::proofs::PartLemmas::adds_none))]
 fn last_parts<'a>(
     parts: &mut Vec<Task<'a>>,
@@ -80,7 +80,7 @@ fn block_of(line: &Line) -> &[Line]
     line.block.as_slice()
 }
 
-/// The next command of what is left of a line, and what is left then.
+/// Adds the next command of the rest of a line, and the rest after it.
 pub fn next_command<'a>(parts: &mut Vec<Task<'a>>, rest: Rest<'a>) -> Result<(), AllocError>
     ensures { OnOk result (Adds (next_command (commands_left rest.entry) (line_of rest.entry.line.now) []) parts.old.items parts.new.items) }
 {
@@ -105,7 +105,7 @@ pub fn has_formals(line: &Line) -> bool
     line.formals.is_some()
 }
 
-/// The formals of a line, none where it has no list of them.
+/// The formals of a line; empty without a formal list.
 #[tactic(auto, using(crate::proofs::LineParts::formals_none, crate::proofs::LineParts::formals_some))]
 pub fn formals_in(line: &Line) -> &[Name]
     ensures { result.now ≡ formals_in (line_of line.now).0 }
@@ -125,7 +125,7 @@ pub fn line_rest(line: &Line) -> Rest<'_>
     rest_of(&line.commands, line)
 }
 
-/// A line, and the lines after it.
+/// Adds a line, and the lines after it.
 pub fn line_parts<'a>(
     parts: &mut Vec<Task<'a>>,
     line: &'a Line,

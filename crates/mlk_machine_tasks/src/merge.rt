@@ -1,4 +1,4 @@
-// What MERGE does once the subscripts of both sides were computed.
+// The tasks of MERGE once the subscripts of both sides were computed.
 
 ghost use Rattle.std.specs.Prelude.{OnOk, option_map};
 ghost use Rattle.mlk_syntax.specs.Views.{variable_of};
@@ -15,7 +15,7 @@ use mlk_syntax::Variable;
 use mlk_text::{Name, Value};
 use std::alloc::{AllocError, Global};
 
-// The tree of a global is read, if it is one.
+// Reads the tree of the global, if there is one.
 #[tactic(auto, using(crate::proofs::PartLemmas::adds_none))]
 fn read_source<'a>(
     alloc: Global,
@@ -31,7 +31,7 @@ fn read_source<'a>(
     }
 }
 
-/// The tree on the right is read.
+/// Reads the tree on the right.
 #[tactic(auto, using(crate::proofs::AssignParts::merged_source))]
 pub fn merge_source<'a>(
     alloc: Global,
@@ -44,7 +44,7 @@ pub fn merge_source<'a>(
     read_source(alloc, parts, subs, global_name(source))
 }
 
-// What a local is merged with: the tree that was read, or any value.
+// Merges the tree that was read, or any value, into a local.
 fn into_local<'a>(
     parts: &mut Vec<Task<'a>>,
     name: &'a Name,
@@ -59,7 +59,7 @@ fn into_local<'a>(
     }
 }
 
-// What was read is not used.
+// Drops the value that was read, if one was.
 #[tactic(auto, using(crate::proofs::PartLemmas::adds_none))]
 fn unread<'a>(parts: &mut Vec<Task<'a>>, is_read: bool) -> Result<(), AllocError>
     ensures { OnOk result (Adds (unread is_read) parts.old.items parts.new.items) }
@@ -71,7 +71,7 @@ fn unread<'a>(parts: &mut Vec<Task<'a>>, is_read: bool) -> Result<(), AllocError
     }
 }
 
-// The tree of a global is written, if it is one.
+// Writes the tree of the global, if there is one.
 #[tactic(auto, using(crate::proofs::PartLemmas::adds_none))]
 fn write_tree<'a>(
     alloc: Global,
@@ -87,7 +87,7 @@ fn write_tree<'a>(
     }
 }
 
-// A local of this name, or else a global of that one, is merged with the tree that was read, if there is one.
+// Merges the tree that was read, if one was, into the local, if there is one, otherwise into the global, if there is one.
 fn merge_into<'a>(
     alloc: Global,
     parts: &mut Vec<Task<'a>>,
@@ -108,7 +108,7 @@ fn merge_into<'a>(
     Ok(())
 }
 
-/// The left side is written, with the tree of the right one, or with any value.
+/// Writes the left side, with the tree of the right one, or with any value.
 #[tactic(auto, using(crate::proofs::MergeParts::merged_target))]
 pub fn merge_target<'a>(
     alloc: Global,

@@ -1,4 +1,4 @@
-// Parts of commands, each replaced by tasks, and lists of them.
+// Parts of commands that are expanded into tasks, and lists of them.
 
 ghost use Rattle.std.specs.Prelude.{OnOk, ◌∷◌, [], ◌-◌, ◌≤◌, length, flat_map};
 ghost use Rattle.mlk_syntax.specs.Views.{variable_of, call_of, do_of, kill_of, new_of, lock_of, merge_of, read_of, target_of, set_of, write_of, action_of};
@@ -16,7 +16,7 @@ use mlk_syntax::{
 };
 use std::alloc::AllocError;
 
-/// What is replaced by tasks.
+/// A part of a command that is expanded into tasks.
 pub(crate) trait Expanded {
     ghost use Rattle.std.specs.Prelude.{List, OnOk};
     ghost use Rattle.mlk_machine_jobs.specs.Tasks.{Task};
@@ -30,7 +30,7 @@ pub(crate) trait Expanded {
         ensures { OnOk result (Adds (tasks self.now) parts.old.items parts.new.items) };
 }
 
-/// Adds the tasks of each of these.
+/// Adds the tasks of each of `items`.
 pub(crate) fn add_all<'a, P: Expanded>(
     parts: &mut Vec<Task<'a>>,
     items: &'a [P],
@@ -43,7 +43,7 @@ pub(crate) fn add_all<'a, P: Expanded>(
     Ok(())
 }
 
-/// All of these arguments of `action` but the `left` ones are done.
+/// Records that all `arguments` of `action` except those in `left` are done.
 pub(crate) fn ended<'a, P>(
     parts: &mut Vec<Task<'a>>,
     action: &'a Action,
@@ -57,7 +57,7 @@ pub(crate) fn ended<'a, P>(
     add(parts, Task::Line(LineTask::NextArgument(action, done)))
 }
 
-/// Adds the tasks of each of these arguments of `action`, and after each how many are done.
+/// Adds the tasks of each argument of `action`, and after each one the number of arguments that are done.
 #[tactic(auto, using(crate::proofs::PartLemmas::argument_added))]
 pub(crate) fn add_arguments<'a, P: Expanded>(
     parts: &mut Vec<Task<'a>>,

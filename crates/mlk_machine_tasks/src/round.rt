@@ -13,7 +13,7 @@ use mlk_syntax::{Expr, Parameter};
 use mlk_text::Name;
 use std::alloc::AllocError;
 
-// The start and the step are evaluated, in this order.
+// Evaluates the start and the step, in this order.
 fn both_evaluated<'a>(
     parts: &mut Vec<Task<'a>>,
     start: &'a Expr,
@@ -26,7 +26,7 @@ fn both_evaluated<'a>(
     Ok(())
 }
 
-// So many values are not used, and the one before them is stored.
+// Drops the last `unused` values, and stores the one before them.
 fn start_stored<'a>(
     parts: &mut Vec<Task<'a>>,
     unused: usize,
@@ -39,7 +39,7 @@ fn start_stored<'a>(
     Ok(())
 }
 
-/// The parameters that are left: the first of them, and then the others.
+/// Adds the remaining parameters: the first of them, and then the others.
 #[tactic(auto, using(crate::proofs::PartLemmas::adds_none))]
 pub fn parameter_parts<'a>(
     parts: &mut Vec<Task<'a>>,
@@ -84,7 +84,7 @@ pub fn parameter_parts<'a>(
     }
 }
 
-/// The first round, where there is one; else the other parameters.
+/// Adds the first round, if there is one, otherwise the other parameters.
 pub fn first_round<'a>(
     parts: &mut Vec<Task<'a>>,
     variable: &'a Name,
@@ -109,7 +109,7 @@ pub fn first_round<'a>(
     Ok(())
 }
 
-/// A later round, where there is one: the variable has any value then; else the other parameters.
+/// Adds another round, if there is one, in which the variable may have any value; otherwise the other parameters.
 pub fn later_round<'a>(
     parts: &mut Vec<Task<'a>>,
     variable: &'a Name,

@@ -1,4 +1,4 @@
-// What the arguments of JOB, KILL, LOCK and SET are replaced by.
+// The tasks of arguments of JOB, KILL, LOCK and SET.
 
 ghost use Rattle.std.specs.Prelude.{◌≡◌, OnOk, length, flat_map, map};
 ghost use Rattle.mlk_syntax.specs.ExprTrees.{tree_of, trees, actual_trees};
@@ -18,7 +18,7 @@ use mlk_names::{Access, Extent};
 use mlk_syntax::{Call, Expr, KillArgument, LockArgument, SetArgument, Target, Variable};
 use std::alloc::AllocError;
 
-/// JOB evaluates its actuals: the job that it starts is another one.
+/// JOB evaluates its actuals; the job that it starts is a separate one.
 pub(crate) fn job_parts<'a>(parts: &mut Vec<Task<'a>>, call: &'a Call) -> Result<(), AllocError>
     ensures { OnOk result (Adds (job_parts (call_of call.now)) parts.old.items parts.new.items) }
 {
@@ -28,7 +28,7 @@ pub(crate) fn job_parts<'a>(parts: &mut Vec<Task<'a>>, call: &'a Call) -> Result
     Ok(())
 }
 
-// What KILL does to a name whose subscripts were evaluated.
+// Kills a variable whose subscripts were evaluated.
 #[tactic(auto, using(crate::proofs::CommandParts::kill_bare, crate::proofs::CommandParts::kill_with_subs, crate::proofs::CommandParts::kill_global, crate::proofs::CommandParts::kill_other))]
 fn kill_variable<'a>(parts: &mut Vec<Task<'a>>, variable: &'a Variable) -> Result<(), AllocError>
     ensures { OnOk result (Adds (kill_variable (variable_of variable.now)) parts.old.items parts.new.items) }
@@ -89,7 +89,7 @@ fn in_variables<'a>(parts: &mut Vec<Task<'a>>, names: &'a [Variable]) -> Result<
     Ok(())
 }
 
-/// LOCK: the names, then the timeout, then what the sign says.
+/// LOCK: evaluates the names, then the timeout, then applies the sign.
 #[tactic(auto, using(crate::proofs::PartLemmas::is_there))]
 pub(crate) fn lock_parts<'a>(
     parts: &mut Vec<Task<'a>>,
@@ -107,7 +107,7 @@ pub(crate) fn lock_parts<'a>(
     Ok(())
 }
 
-// Further arguments of a function, each for its value.
+// Evaluates further arguments of a function.
 #[tactic(auto, using(crate::proofs::PartLemmas::values_each))]
 fn each_value<'a>(parts: &mut Vec<Task<'a>>, arguments: &'a [Expr]) -> Result<(), AllocError>
     ensures { OnOk result (Adds (each_value (trees arguments.now)) parts.old.items parts.new.items) }
@@ -141,7 +141,7 @@ fn in_targets<'a>(parts: &mut Vec<Task<'a>>, targets: &'a [Target]) -> Result<()
     Ok(())
 }
 
-/// SET: what its targets need, from left to right, then the value, then the assignments.
+/// SET: evaluates what its targets need, from left to right, then the value, then assigns.
 pub(crate) fn set_parts<'a>(
     parts: &mut Vec<Task<'a>>,
     argument: &'a SetArgument,

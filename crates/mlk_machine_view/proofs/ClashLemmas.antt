@@ -1,4 +1,4 @@
--- The test of two jobs says whether they clash.
+-- The test of two jobs decides whether they clash.
 use Rattle.std.proofs.Common.{◌≡◌, ◌∙◌, ◌≢◌, ◌==◌, Bool, true, sym, Option, Some, None, refl, inl, inr}
 use Rattle.std.specs.Prelude.{◌↔◌, IsTrue, ◌⊎◌, ◌||◌, not}
 use Rattle.std.proofs.lemmas.Bool.{and_parts, and_from, or_left, or_right, not-true, not_from_false, eqb-false, ne_eqb, false≢true}

@@ -42,7 +42,7 @@ not_above x y = ap not (below_is y x) ∙ not_not (upto x y)
     not_not true = refl
     not_not false = refl
 
--- What is held is printed in the order of the names' texts, and nothing is left out.
+-- What is held is printed in the order of the names' texts, without omissions.
 pub held_is_sorted : HeldIsSorted
 held_is_sorted held =
     let text : LockName × ℕ → List ℕ = λ h. name_text h.0 in

@@ -13,7 +13,7 @@ use Rattle.mlk_numbers.proofs.Folds.{folded-short}
 use Rattle.mlk_numbers.specs.Operators.{if_joined, truth_of_text, fold_before, fold_between}
 use Rattle.mlk_numbers.proofs.Operators.{folds_are}
 
--- what is found, or not
+-- what is found, or not found
 none_found : {A : Type 0} (r : Option A) → ((a : A) → r ≡ Some a → ⊥) → false ≡ is_some r
 none_found None h = refl
 none_found (Some a) h = absurd (h a refl)

@@ -1,5 +1,4 @@
--- A list that ascends by a test, in which items that tie stand as they stood, is what comes of putting its items in one
--- by one.
+-- A list that ascends by a test, and keeps the order of items that tie, is the result of inserting its items one by one.
 use Rattle.std.proofs.Common.{◌≡◌, ◌∙◌, ℕ, suc, ◌+◌, ◌<◌, Bool, true, false, cond, not, ◌&&◌, List, [], ◌∷◌, length, get_or, filter, refl, sym, ap, true≢false, inl, inr, arith, IsSortedBy, IsPermutation}
 use Rattle.mlk_cert_lexemes.specs.Lists.{ascends}
 use Rattle.std.specs.Cmp.{IsStrictWeakOrder}
@@ -9,7 +8,7 @@ use Rattle.std.proofs.lemmas.List.Sorted.{sorted_far, IsPermutation-refl, IsPerm
 use native.Mathlib.Numerals.{unary_clauses}
 
 module _ {X : Type 0} (lt : X → X → Bool) where
-  -- an item goes after those that are below it
+  -- an item is inserted after those that are below it
   abbrev pub put : X → List X → List X
   put a [] = a ∷ []
   put a (b ∷ xs) = cond (lt b a) (b ∷ put a xs) (a ∷ b ∷ xs)
@@ -37,7 +36,7 @@ module _ {X : Type 0} (lt : X → X → Bool) (o : IsStrictWeakOrder lt) where
     | inr e ↦ e
   ]
 
-  -- what is above something is above what that ties with or is above
+  -- what is above an item is above what ties with it or is above it
   above : (x y z : X) → lt x y ≡ true → lt z y ≡ false → lt x z ≡ true
   above x y z t f = elim (cases_Bool (lt x z)) [
     | inl e ↦ e
@@ -126,7 +125,7 @@ module _ {X : Type 0} (lt : X → X → Bool) (o : IsStrictWeakOrder lt) where
   all_ties x [] = refl
   all_ties x (a ∷ xs) = put_ties x a (put_all lt xs) ∙ same_behind (ties lt x) a (put_all lt xs) xs (all_ties x xs)
 
-  -- nothing ties with what is below all
+  -- nothing ties with an item that is below all
   no_ties : (x y : X) (ys : List X) → lt x y ≡ true → Least lt y ys → filter (ties lt x) (y ∷ ys) ≡ []
   no_ties x y [] t l = rw t refl
   no_ties x y (z ∷ ys) t (e, l) = rw (t, above x y z t e) (none_left x y ys t l)
@@ -138,7 +137,7 @@ module _ {X : Type 0} (lt : X → X → Bool) (o : IsStrictWeakOrder lt) where
   ties_itself : (x : X) → ties lt x x ≡ true
   ties_itself x = rw (not_itself x) refl
 
-  -- the first of two lists that ascend, in which the same tie, is not below that of the other
+  -- of two lists that ascend and have the same ties, the first item of one is not below that of the other
   first_not_below : (y z : X) (ys zs : List X) → Least lt y ys
       → ((x : X) → filter (ties lt x) (y ∷ ys) ≡ filter (ties lt x) (z ∷ zs)) → lt z y ≡ false
   first_not_below y z ys zs l same = elim (cases_Bool (lt z y)) [

@@ -1,4 +1,4 @@
--- A system's text, put together.
+-- A system's text, joined.
 use Rattle.std.proofs.Common.{◌≡◌, ◌∙◌, ◌++◌, ◌+◌, ◌<◌, ℕ, suc, Bool, List, [], ◌∷◌, length, get_or, drop, map, refl, sym, ap, add-one, drop-cons, append_assoc}
 use Rattle.std.specs.Prelude.{codes}
 use Rattle.mlk_cert_lexemes.specs.Lists.{flat}

@@ -1,4 +1,4 @@
--- Constants, spelled as subscripts of terms are.
+-- Constants, spelled like subscripts of terms.
 use Rattle.std.proofs.Common.{◌≡◌, ◌++◌, ℕ, List, [], ◌∷◌, map, refl, ap, append_assoc}
 use Rattle.mlk_names.specs.declared.known_symbol.KnownSym.TheVariants.{Const}
 use Rattle.mlk_names.specs.declared.lock_name.LockName.{LockName}

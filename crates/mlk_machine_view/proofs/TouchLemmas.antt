@@ -1,4 +1,4 @@
--- A node of a global, spelled as a term of it is.
+-- A node of a global, spelled like a term of it.
 use Rattle.std.proofs.Common.{◌≡◌, ◌++◌, ℕ, List, map, append_assoc}
 use Rattle.mlk_text.specs.declared.root.Root.TheVariants.{Global}
 use Rattle.mlk_names.specs.declared.known_symbol.KnownSym.TheVariants.{Const}

@@ -1,4 +1,4 @@
--- What a job does next, by what a step needs. This project's own.
+-- What a job does next, depending on what a step needs. This project's own.
 use Rattle.std.specs.Prelude.{ℕ, Bool, true, false, if◌then◌else◌, List, [], ◌∷◌, Option, Some, None, is_some}
 use Rattle.mlk_text.specs.declared.operator.Op.{Op}
 use Rattle.mlk_text.specs.declared.operator.UnaryOp.{UnaryOp}
@@ -12,12 +12,12 @@ use Rattle.mlk_machine_jobs.specs.Tasks.{LineTree, Frame, NoValue, AwaitsValue, 
 use Rattle.mlk_machine_jobs.specs.Calling.{lines_after}
 use Rattle.mlk_machine_jobs.specs.Seen.{State, AsksChoice, Stuck, Silent}
 
--- a step that has to be enabled
+-- a step that must be enabled
 abbrev pub if_enabled : Bool → State
 if_enabled true = Silent
 if_enabled false = Stuck
 
--- a step that asks for what is not known
+-- a step that asks for a value unless it is known
 abbrev pub if_known : Bool → State
 if_known true = Silent
 if_known false = AsksChoice
@@ -45,7 +45,7 @@ abbrev pub has_choices : Choices → Bool
 has_choices no_choices = false
 has_choices (choice condition value rest) = true
 
--- a truth, and what comes where it is true and where it is false
+-- a truth value, and the states if it is true and if it is false
 abbrev pub by_known_truth : Option Bool → State → State → State
 by_known_truth None one other = AsksChoice
 by_known_truth (Some true) one other = one

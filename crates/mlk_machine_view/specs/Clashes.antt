@@ -1,4 +1,4 @@
--- Which jobs clash, and which wait for which, as tests; that the one says what `Clash` of `mlk_machine_jobs` says is a law. This
+-- Which jobs clash, and which wait for which, as tests; a law says that the first decides `Clash` of `mlk_machine_jobs`. This
 -- project's own.
 use Rattle.std.specs.Prelude.{◌≡◌, ◌↔◌, ℕ, ◌==◌, Bool, true, false, ◌&&◌, ◌||◌, not, List, [], ◌∷◌, ◌++◌, map, filter, flat_map}
 use Rattle.std.specs.Prelude.{Option, Some, None}
@@ -29,7 +29,7 @@ both_clash None o = false
 unfoldable pub clash : Job → Job → Bool
 clash i j = not (i.number == j.number) && both_clash (ready i) (ready j)
 
--- the pairs of numbers of a job and of those that it clashes with, or waits for
+-- the pairs of numbers of a job and of those with which it clashes, or for which it waits
 abbrev pub clashes_with : Job → List Job → List (ℕ × ℕ)
 clashes_with j others = map (λ i. (j.number, i.number)) (filter (λ i. clash j i) others)
 
@@ -43,6 +43,6 @@ waits_of j others = map (λ i. (j.number, i.number)) (filter (λ i. waits (seen 
 abbrev pub waits_among : List Job → List (ℕ × ℕ)
 waits_among jobs = flat_map (λ j. waits_of j jobs) jobs
 
--- The test says whether two jobs clash.
+-- The test decides whether two jobs clash.
 abbrev pub ClashIsTested : Type 0
 ClashIsTested = (i j : Job) → (clash i j ≡ true) ↔ Clash i j

@@ -1,4 +1,4 @@
--- The line of a job of the code's. For private clauses alone. This project's own.
+-- The line of a job of the code. For private clauses only. This project's own.
 use Rattle.std.specs.Prelude.{ℕ, List, map}
 use Rattle.mlk_syntax.specs.declared.routine.Routine.{Routine}
 use Rattle.mlk_syntax.specs.Views.{routine_of}

@@ -1,5 +1,5 @@
--- What is printed of a system: what each job does next and holds, which two clash, which wait for which, and whether
--- some wait in a ring. This project's own.
+-- The printed text of a system: what each job does next and holds, which two clash, which wait for which, and whether some wait
+-- in a ring. This project's own.
 use Rattle.std.specs.Prelude.{ℕ, Bool, true, false, List, ◌∷◌, ◌++◌, codes}
 use Rattle.std.specs.Fmt.{decimal}
 use Rattle.mlk_cert_lexemes.specs.Lists.{flat}
@@ -17,7 +17,7 @@ abbrev pub job_line : List RoutineTree → Job → List ℕ
 job_line routines j = line (codes "job ")
     (decimal j.number ++ 32 ∷ (state_text (state routines j) ++ (codes " holds " ++ holds_text j.held)))
 
--- the line of two jobs, by their numbers
+-- the line of a pair of jobs, by their numbers
 abbrev pub pair_line : List ℕ → ℕ × ℕ → List ℕ
 pair_line word p = line word (decimal p.0 ++ 32 ∷ decimal p.1)
 

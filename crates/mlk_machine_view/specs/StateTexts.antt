@@ -1,4 +1,4 @@
--- What is printed of a job: names as in certificates, what it does next, and what it holds. This project's own.
+-- The printed text of a job: names as in certificates, what it does next, and what it holds. This project's own.
 use Rattle.std.specs.Prelude.{ℕ, Bool, true, false, if◌then◌else◌, List, [], ◌∷◌, ◌++◌, map, codes}
 use Rattle.std.specs.Fmt.{decimal}
 use Rattle.mlk_text.specs.declared.root.Root.{Root}
@@ -25,7 +25,7 @@ name_text n = constants_text n.root n.subs
 abbrev pub node_text : GlobalNode → List ℕ
 node_text n = constants_text (Global n.root) n.subs
 
--- what a job is ready to touch: the node, alone or with all below it, to read or to write
+-- the reference that a job is ready to touch: the node, alone or with everything below it, to read or to write
 abbrev pub extent_text : Extent → List ℕ
 extent_text Node = codes " node"
 extent_text Tree = codes " tree"
@@ -53,7 +53,7 @@ state_text Silent = codes "silent"
 state_text Ended = codes "ended"
 state_text Stopped = codes "stopped"
 
--- Items in the order of their texts: each after those whose text is below its own.
+-- Items in the order of their texts: each is inserted after those whose text is below its own.
 abbrev pub put_in : {A : Type 0} → (A → List ℕ) → A → List A → List A
 put_in text a [] = a ∷ []
 put_in text a (b ∷ items) = if below (text b) (text a) then b ∷ put_in text a items else a ∷ b ∷ items
@@ -62,7 +62,7 @@ abbrev pub ascending : {A : Type 0} → (A → List ℕ) → List A → List A
 ascending text [] = []
 ascending text (a ∷ items) = put_in text a (ascending text items)
 
--- what a job holds: each name and how often, in the order of the names' texts
+-- the locks of a job: each name and its count, in the order of the names' texts
 abbrev pub held_text : LockName × ℕ → List ℕ
 held_text h = name_text h.0 ++ 42 ∷ decimal h.1
 

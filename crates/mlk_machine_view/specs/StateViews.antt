@@ -1,4 +1,4 @@
--- The definition's states of the code's. This project's own.
+-- The definition's states, from those of the code. This project's own.
 use Rattle.mlk_machine_jobs.specs.Seen as seen
 use Rattle.mlk_machine_jobs.specs.Seen.{State}
 use Rattle.mlk_machine_jobs.specs.TaskViews.{touch_of}

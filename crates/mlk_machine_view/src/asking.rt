@@ -1,4 +1,4 @@
-// What a job that no other sees does next.
+// The state of a job whose next task is not visible to other jobs.
 
 ghost use Rattle.std.specs.Prelude.{◌≡◌};
 ghost use Rattle.mlk_syntax.specs.ExprTrees.{choices, choices_from};
@@ -14,7 +14,7 @@ use mlk_numbers::known_truth;
 use mlk_syntax::Expr;
 use mlk_text::{Name, Op, UnaryOp};
 
-/// What a job does where it reads a local.
+/// The state of a job that reads the local `name` next.
 pub(crate) fn fetches<'j>(job: &Job, name: &Name) -> State<'j>
     ensures { state_of result ≡ by_value ((job_of job.now).cells (look (job_of job.now).bindings name.now)) }
 {
@@ -24,7 +24,7 @@ pub(crate) fn fetches<'j>(job: &Job, name: &Name) -> State<'j>
     }
 }
 
-/// What a job does where it uses its last value.
+/// The state of a job that uses its last value next.
 pub(crate) fn uses_last<'j>(job: &Job) -> State<'j>
     ensures { state_of result ≡ by_last (job_of job.now).values }
 {
@@ -34,7 +34,7 @@ pub(crate) fn uses_last<'j>(job: &Job) -> State<'j>
     }
 }
 
-/// What a job does at an operator before its last value.
+/// The state of a job that applies a unary operator to its last value next.
 pub(crate) fn applies_unary<'j>(job: &Job, op: UnaryOp) -> State<'j>
     ensures { state_of result ≡ by_unary op (job_of job.now).values }
 {
@@ -48,7 +48,7 @@ pub(crate) fn applies_unary<'j>(job: &Job, op: UnaryOp) -> State<'j>
     }
 }
 
-/// What a job does at an operator between its last two values.
+/// The state of a job that applies a binary operator to its last two values next.
 pub(crate) fn applies_binary<'j>(job: &Job, op: Op) -> State<'j>
     ensures { state_of result ≡ by_binary op (job_of job.now).values }
 {
@@ -65,7 +65,7 @@ pub(crate) fn applies_binary<'j>(job: &Job, op: Op) -> State<'j>
     }
 }
 
-/// What a job does at `$SELECT`, where these conditions are left.
+/// The state of a job at `$SELECT`, where `branches` are left.
 pub(crate) fn selects<'j>(branches: &[(Expr, Expr)]) -> State<'j>
     ensures { state_of result ≡ if_enabled (has_choices (choices_from (choices branches.now))) }
 {
@@ -75,7 +75,7 @@ pub(crate) fn selects<'j>(branches: &[(Expr, Expr)]) -> State<'j>
     }
 }
 
-/// What a job does by the truth of its last value.
+/// The state of a job that depends on the truth value of its last value.
 pub(crate) fn uses_truth<'j>(job: &Job, if_true: State<'j>, if_false: State<'j>) -> State<'j>
     ensures { state_of result ≡ by_last_truth (job_of job.now).values (state_of if_true.entry) (state_of if_false.entry) }
 {
@@ -89,7 +89,7 @@ pub(crate) fn uses_truth<'j>(job: &Job, if_true: State<'j>, if_false: State<'j>)
     }
 }
 
-/// What a job does at the end of a frame.
+/// The state of a job at the end of a frame.
 pub(crate) fn ends_frame<'j>(frame: Frame) -> State<'j>
     ensures { state_of result ≡ by_frame (frame_of frame) }
 {

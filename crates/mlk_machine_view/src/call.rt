@@ -1,4 +1,4 @@
-// What a job does at a call, and at lines.
+// The state of a job at a call, and at lines.
 
 ghost use Rattle.std.specs.Prelude.{◌≡◌, map};
 ghost use Rattle.mlk_machine_locks.specs.Lists.{is_some_there};
@@ -15,7 +15,7 @@ use mlk_machine_tasks::has_formals;
 use mlk_program::{EntryId, Program};
 use mlk_syntax::{Callee, Line};
 
-// Whether an entry has a line.
+// Whether `entry` has a line.
 #[tactic(auto, using(crate::proofs::CallLemmas::no_routine, crate::proofs::CallLemmas::some_line))]
 fn has_line(program: &Program, entry: EntryId) -> bool
     ensures { result ≡ is_some_there (lines_after (map routine_of program.now) entry) }
@@ -26,7 +26,7 @@ fn has_line(program: &Program, entry: EntryId) -> bool
     }
 }
 
-/// What a job does at a call.
+/// The state of a job at a call.
 pub(crate) fn calls<'j>(program: &Program, job: &Job, callee: &Callee) -> State<'j>
     ensures { state_of result ≡ by_target (map routine_of program.now)
         (target_of (map routine_of program.now) (job_of job.now).routine callee.now) }
@@ -43,7 +43,7 @@ pub(crate) fn calls<'j>(program: &Program, job: &Job, callee: &Callee) -> State<
     }
 }
 
-/// What a job does at lines: it does not run on into one with a formal list.
+/// The state of a job at lines: it does not continue into one with a formal list.
 pub(crate) fn goes_on<'j>(lines: &[Line]) -> State<'j>
     ensures { state_of result ≡ by_lines (map line_of lines.now) }
 {

@@ -11,7 +11,7 @@ use mlk_machine_jobs::{Job, Touch};
 use mlk_names::Access;
 use std::alloc::{AllocError, Global};
 
-// Whether it writes.
+// Whether `touch` is a write.
 fn writes(touch: &Touch) -> bool
     ensures { result ≡ tests.writes (touch_of touch.now) }
 {
@@ -33,7 +33,7 @@ fn tested(job: &Job, other: &Job) -> bool
     }
 }
 
-/// Whether two jobs clash: both are ready to touch references that overlap, one of which writes. It takes no memory.
+/// Whether two jobs clash: both are ready to touch references that overlap, one of which is a write. Allocates nothing.
 pub fn clash(job: &Job, other: &Job) -> bool
     ensures test { result ≡ tests.clash (job_of job.now) (job_of other.now) }
     ensures exact { IsTrue result ↔ Clash (job_of job.now) (job_of other.now) }
@@ -41,7 +41,7 @@ pub fn clash(job: &Job, other: &Job) -> bool
     tested(job, other)
 }
 
-// The numbers of two jobs are added, if they clash.
+// Adds the numbers of two jobs if they clash.
 fn add_clash(pairs: &mut Vec<(u32, u32)>, job: &Job, other: &Job) -> Result<(), AllocError>
     ensures { OnOk result (pairs.new.items ≡ pairs.old.items ++ tests.clashes_with (job_of job.now) (job_of other.now ∷ [])) }
 {
@@ -51,7 +51,7 @@ fn add_clash(pairs: &mut Vec<(u32, u32)>, job: &Job, other: &Job) -> Result<(), 
     Ok(())
 }
 
-// The numbers of a job and of those that it clashes with are added.
+// Adds the numbers of a job and of each job in `others` with which it clashes.
 fn add_clashes<'a>(
     pairs: &mut Vec<(u32, u32)>,
     job: &Job<'a>,
@@ -65,7 +65,7 @@ fn add_clashes<'a>(
     Ok(())
 }
 
-/// The numbers of jobs that clash, each two once, in the order of the jobs.
+/// The numbers of the jobs that clash, each pair once, in the order of the jobs.
 pub fn clashes<'a>(alloc: Global, jobs: &[Job<'a>]) -> Result<Vec<(u32, u32)>, AllocError>
     ensures { IfOk result (λ pairs. pairs.items ≡ tests.clashes (map job_of jobs.now)) }
 {

@@ -1,4 +1,4 @@
-// What each kind of task shows of a job.
+// The state of a job for each kind of task.
 
 ghost use Rattle.std.specs.Prelude.{◌≡◌, ◌∷◌, List, map};
 ghost use Rattle.mlk_syntax.specs.Views.{routine_of};
@@ -19,7 +19,7 @@ use mlk_machine_jobs::{
 };
 use mlk_program::Program;
 
-// What expressions are made of.
+// The state at a task of an expression.
 #[tactic(auto, using(crate::proofs::AskedLemmas::fetch_shows, crate::proofs::AskedLemmas::unary_shows, crate::proofs::AskedLemmas::binary_shows, crate::proofs::AskedLemmas::select_shows, crate::proofs::AskedLemmas::selected_shows))]
 fn value_state<'j>(program: &Program, job: &Job, task: &'j ValueTask) -> State<'j>
     ensures { (ts : List TaskOf) → state_of result
@@ -42,7 +42,7 @@ fn value_state<'j>(program: &Program, job: &Job, task: &'j ValueTask) -> State<'
     }
 }
 
-// What is done to locals.
+// The state at a task on locals.
 #[tactic(auto, using(crate::proofs::AskedLemmas::store_last_shows, crate::proofs::AskedLemmas::assign_shows))]
 fn local_state<'j>(program: &Program, job: &Job, task: &'j LocalTask) -> State<'j>
     ensures { (ts : List TaskOf) → state_of result
@@ -58,7 +58,7 @@ fn local_state<'j>(program: &Program, job: &Job, task: &'j LocalTask) -> State<'
     }
 }
 
-// What is done by a truth.
+// The state at a task that depends on a truth value.
 #[tactic(auto, using(crate::proofs::AskedLemmas::set_test_shows, crate::proofs::AskedLemmas::conditionally_shows))]
 fn test_state<'j>(program: &Program, job: &Job, task: &'j TestTask) -> State<'j>
     ensures { (ts : List TaskOf) → state_of result
@@ -73,7 +73,7 @@ fn test_state<'j>(program: &Program, job: &Job, task: &'j TestTask) -> State<'j>
     }
 }
 
-// What is done to locks.
+// The state at a task on locks.
 fn lock_state<'j>(program: &Program, job: &Job, task: &'j LockTask) -> State<'j>
     ensures { (ts : List TaskOf) → state_of result
         ≡ state_in (map routine_of program.now) (job_of job.now) (lock_task task.now ∷ ts) }
@@ -85,7 +85,7 @@ fn lock_state<'j>(program: &Program, job: &Job, task: &'j LockTask) -> State<'j>
     }
 }
 
-// What begins a frame, a block or another job.
+// The state at the begin of a frame, of a block or of another job.
 #[tactic(auto, using(crate::proofs::AskedLemmas::call_shows, crate::proofs::AskedLemmas::call_if_shows))]
 fn scope_state<'j>(program: &Program, job: &Job, task: &'j ScopeTask) -> State<'j>
     ensures { (ts : List TaskOf) → state_of result
@@ -100,7 +100,7 @@ fn scope_state<'j>(program: &Program, job: &Job, task: &'j ScopeTask) -> State<'
     }
 }
 
-// What is done of lines.
+// The state at a task on lines.
 #[tactic(auto, using(crate::proofs::AskedLemmas::lines_show))]
 fn line_state<'j>(program: &Program, job: &Job, task: &'j LineTask) -> State<'j>
     ensures { (ts : List TaskOf) → state_of result
@@ -120,7 +120,7 @@ fn line_state<'j>(program: &Program, job: &Job, task: &'j LineTask) -> State<'j>
     }
 }
 
-// What a task shows.
+// The state at a task.
 fn task_state<'j>(program: &Program, job: &Job, task: &'j Task) -> State<'j>
     ensures { (ts : List TaskOf) → state_of result
         ≡ state_in (map routine_of program.now) (job_of job.now) (task_of task.now ∷ ts) }
@@ -135,7 +135,7 @@ fn task_state<'j>(program: &Program, job: &Job, task: &'j Task) -> State<'j>
     }
 }
 
-/// What a job does next. It takes no memory.
+/// What a job does next. Allocates nothing.
 #[tactic(auto, using(crate::proofs::AskedLemmas::frame_shows))]
 pub fn state<'j>(program: &Program, job: &'j Job) -> State<'j>
     ensures { state_of result ≡ seen.state (map routine_of program.now) (job_of job.now) }

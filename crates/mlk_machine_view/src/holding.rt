@@ -1,4 +1,4 @@
-// What a job holds, written.
+// The locks of a job as text.
 
 ghost use Rattle.std.specs.Prelude.{◌≡◌, ◌++◌, IfOk, OnOk, map};
 ghost use Rattle.mlk_machine_view.specs.StateTexts.{ascending, holds_text};
@@ -10,7 +10,7 @@ use mlk_machine_locks::Held;
 use mlk_names::LockName;
 use std::alloc::{AllocError, Global};
 
-// A name that is held, as text, and how often.
+// A held name as text, and its count.
 #[derive(Drop)]
 struct Holding {
     name: WrittenText,
@@ -30,7 +30,7 @@ impl Written for Holding {
     }
 }
 
-// A name that is held, as text.
+// The entry `entry` as text.
 fn holding_from(alloc: Global, entry: &(LockName, u32)) -> Result<Holding, AllocError>
     ensures { IfOk result (λ h. h ≡ holding_of entry.now) }
 {
@@ -40,7 +40,7 @@ fn holding_from(alloc: Global, entry: &(LockName, u32)) -> Result<Holding, Alloc
     })
 }
 
-// Names that are held, as texts, in the order in which they were first claimed.
+// Held names as texts, in the order in which they were first claimed.
 fn holdings(alloc: Global, entries: &[(LockName, u32)]) -> Result<Vec<Holding>, AllocError>
     ensures { IfOk result (λ found. found.items ≡ map holding_of entries.now) }
 {
@@ -51,7 +51,7 @@ fn holdings(alloc: Global, entries: &[(LockName, u32)]) -> Result<Vec<Holding>, 
     Ok(found)
 }
 
-// They are put in the order of their texts.
+// Sorts `holdings` by their texts.
 fn sort(holdings: &mut Vec<Holding>) -> Result<(), AllocError>
     ensures { OnOk result (holdings.new.items ≡ ascending (λ h. h.name) holdings.old.items) }
 {
@@ -59,7 +59,7 @@ fn sort(holdings: &mut Vec<Holding>) -> Result<(), AllocError>
     Ok(())
 }
 
-/// What a job holds: names in the order of their texts, each with its count.
+/// Appends the names that a job holds, in the order of their texts, each with its count.
 #[tactic(auto, using(crate::proofs::HeldLemmas::held_as_texts))]
 pub(crate) fn push_held(
     alloc: Global,

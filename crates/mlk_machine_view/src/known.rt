@@ -1,4 +1,4 @@
-// Which operators have a known result.
+// Operators whose result is known.
 
 ghost use Rattle.std.specs.Prelude.{◌≡◌, ℤ, Some, is_some};
 ghost use Rattle.mlk_numbers.specs.Folding.{IsWhole, folded};
@@ -10,10 +10,10 @@ ghost use Rattle.mlk_text.specs.declared.operator.UnaryOp.TheVariants.{Plus, Min
 use mlk_numbers::{fold_number, known_truth, whole};
 use mlk_text::{Op, UnaryOp, Value};
 
-// The longest text that is known of two that are joined.
+// The maximum length of two joined texts whose result is known.
 const LONGEST_JOIN: usize = 255;
 
-// Whether a text is that of a whole number of at most 15 digits.
+// Whether `text` is that of a whole number of at most 15 digits.
 fn is_number(text: &Value) -> bool
     ensures plus { result ≡ is_some (fold_before Plus text.now) }
     ensures minus { result ≡ is_some (fold_before Minus text.now) }
@@ -21,7 +21,7 @@ fn is_number(text: &Value) -> bool
     whole(text.as_bytes()).is_some()
 }
 
-/// Whether it is known what an operator gives of a value. It takes no memory.
+/// Whether the result of a unary operator is known. Allocates nothing.
 #[tactic(auto, using(crate::proofs::KnownLemmas::truth_known))]
 pub(crate) fn is_known_before(op: UnaryOp, operand: &Value) -> bool
     ensures { result ≡ is_some (fold_before op operand.now) }
@@ -33,7 +33,7 @@ pub(crate) fn is_known_before(op: UnaryOp, operand: &Value) -> bool
     }
 }
 
-// Whether two texts make one that is known.
+// Whether the join of two texts is known.
 fn is_joined(first: &Value, second: &Value) -> bool
     ensures { result ≡ is_some (fold_between operator.Concatenate first.now second.now) }
 {
@@ -41,7 +41,7 @@ fn is_joined(first: &Value, second: &Value) -> bool
     first.len() <= LONGEST_JOIN && first.len() + second.len() <= LONGEST_JOIN
 }
 
-// The number that an operator gives of two texts of whole numbers.
+// The result of `op` on the texts of two whole numbers, or `None`.
 fn number_between(op: Op, first: &Value, second: &Value) -> Option<i64>
     ensures { Finds (λ z. (x y : ℤ) × IsWhole x first.now × IsWhole y second.now × (folded op x y ≡ Some z)) result }
 {
@@ -50,7 +50,7 @@ fn number_between(op: Op, first: &Value, second: &Value) -> Option<i64>
     fold_number(op, x, y)
 }
 
-/// Whether it is known what an operator gives of two values. It takes no memory.
+/// Whether the result of a binary operator is known. Allocates nothing.
 pub(crate) fn is_known_between(op: Op, first: &Value, second: &Value) -> bool
     ensures { result ≡ is_some (fold_between op first.now second.now) }
 {

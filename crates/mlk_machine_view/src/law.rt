@@ -1,8 +1,8 @@
-// What the printed text keeps to.
+// Laws of the printed text.
 
 ghost use Rattle.mlk_machine_view.specs.Laws.{HeldIsSorted};
 
-/// What a job holds is printed in the order of the names' texts, and all of it is printed.
+/// The locks of a job are printed in the order of the names' texts, and all of them are printed.
 pub fn held_is_sorted()
     ensures { HeldIsSorted }
 {}

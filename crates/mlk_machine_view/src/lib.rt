@@ -1,4 +1,4 @@
-//! What is seen of jobs: which two clash, which waits for which, what each does next, and a whole system as text.
+//! Views of jobs: which two clash, which waits for which, what each does next, and a whole system as text.
 #![tactic(auto)]
 
 mod asking;

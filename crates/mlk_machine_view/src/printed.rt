@@ -1,4 +1,4 @@
-// The lines that are printed of a system.
+// The printed lines of a system.
 
 ghost use Rattle.std.specs.Prelude.{◌≡◌, ◌++◌, OnOk, codes, map};
 ghost use Rattle.mlk_cert_lexemes.specs.Lists.{flat};
@@ -24,7 +24,7 @@ use mlk_names::LockName;
 use mlk_program::Program;
 use std::alloc::{AllocError, Global};
 
-// The names of a claim, and whether there is a timeout.
+// Appends the names of a claim, and whether there is a timeout.
 fn push_claim(text: &mut WrittenText, names: &[LockName], timed: bool) -> Result<(), AllocError>
     ensures { OnOk result (text.new ≡ text.old ++ claim_text names.now timed) }
 {
@@ -35,7 +35,7 @@ fn push_claim(text: &mut WrittenText, names: &[LockName], timed: bool) -> Result
     Ok(())
 }
 
-// What a job does next.
+// Appends what a job does next.
 fn push_state(text: &mut WrittenText, state: State) -> Result<(), AllocError>
     ensures { OnOk result (text.new ≡ text.old ++ state_text (state_of state.entry)) }
 {
@@ -57,7 +57,7 @@ fn push_state(text: &mut WrittenText, state: State) -> Result<(), AllocError>
     }
 }
 
-// The line of a job.
+// Appends the line of a job.
 fn push_job(
     alloc: Global,
     text: &mut WrittenText,
@@ -76,7 +76,7 @@ fn push_job(
     Ok(())
 }
 
-/// The lines of jobs.
+/// Appends the lines of jobs.
 pub(crate) fn push_jobs<'a>(
     alloc: Global,
     text: &mut WrittenText,
@@ -91,7 +91,7 @@ pub(crate) fn push_jobs<'a>(
     Ok(())
 }
 
-// The line of two jobs.
+// Appends the line of a pair of jobs.
 fn push_pair(text: &mut WrittenText, word: &[u8], pair: &(u32, u32)) -> Result<(), AllocError>
     ensures { OnOk result (text.new ≡ text.old ++ pair_line word.now pair.now) }
 {
@@ -103,7 +103,7 @@ fn push_pair(text: &mut WrittenText, word: &[u8], pair: &(u32, u32)) -> Result<(
     Ok(())
 }
 
-// The lines of two jobs each.
+// Appends the lines of pairs of jobs.
 fn push_pairs(text: &mut WrittenText, word: &[u8], pairs: &[(u32, u32)]) -> Result<(), AllocError>
     ensures { OnOk result (text.new ≡ text.old ++ flat (pair_line word.now) pairs.now) }
 {
@@ -113,7 +113,7 @@ fn push_pairs(text: &mut WrittenText, word: &[u8], pairs: &[(u32, u32)]) -> Resu
     Ok(())
 }
 
-/// The lines of jobs that clash.
+/// Appends the lines of the jobs that clash.
 pub(crate) fn push_clashes<'a>(
     alloc: Global,
     text: &mut WrittenText,
@@ -126,7 +126,7 @@ pub(crate) fn push_clashes<'a>(
     Ok(())
 }
 
-/// The lines of jobs that wait.
+/// Appends the lines of the jobs that wait.
 pub(crate) fn push_waits<'a>(
     alloc: Global,
     text: &mut WrittenText,
@@ -139,7 +139,7 @@ pub(crate) fn push_waits<'a>(
     Ok(())
 }
 
-/// The line that says whether some of the jobs wait in a ring.
+/// Appends the line that says whether some of the jobs wait in a ring.
 pub(crate) fn push_ring(text: &mut WrittenText, has_ring: bool) -> Result<(), AllocError>
     ensures { OnOk result (text.new ≡ text.old ++ line (codes "ring ") (ring_text has_ring)) }
 {

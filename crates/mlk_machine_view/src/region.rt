@@ -1,4 +1,4 @@
-// Which jobs touch one node.
+// Touches of a common node.
 
 ghost use Rattle.std.specs.Prelude.{◌≡◌, ◌⊎◌, length};
 ghost use Rattle.mlk_machine_jobs.specs.TaskViews.{touch_of};
@@ -8,21 +8,21 @@ use mlk_machine_jobs::Touch;
 use mlk_names::Extent;
 use mlk_text::Value;
 
-// Whether two subscripts are one value.
+// Whether two subscripts have the same value.
 fn same_value(first: &Value, second: &Value) -> bool
     ensures { result ≡ regions.same_value first.now second.now }
 {
     first.as_bytes() == second.as_bytes()
 }
 
-// Whether a reference reaches all below its node.
+// Whether a reference reaches everything below its node.
 fn is_tree(extent: Extent) -> bool
     ensures { result ≡ regions.is_tree extent }
 {
     matches!(extent, Extent::Tree)
 }
 
-// Whether two lists of subscripts meet, one of which is empty.
+// Whether two lists of subscripts, one of which is empty, reach a common node.
 fn ends_meet(first: &[Value], far: Extent, second: &[Value], wide: Extent) -> bool
     requires { (length first.now ≡ 0) ⊎ (length second.now ≡ 0) }
     ensures { result ≡ regions.subs_meet first.now far second.now wide }
@@ -34,7 +34,7 @@ fn ends_meet(first: &[Value], far: Extent, second: &[Value], wide: Extent) -> bo
     }
 }
 
-// Whether some subscripts are reached from both.
+// Whether two lists of subscripts reach a common node.
 fn subs_meet(first: &[Value], far: Extent, second: &[Value], wide: Extent) -> bool
     ensures { result ≡ regions.subs_meet first.now far second.now wide }
 {
@@ -49,7 +49,7 @@ fn subs_meet(first: &[Value], far: Extent, second: &[Value], wide: Extent) -> bo
     ends_meet(firsts, far, seconds, wide)
 }
 
-/// Whether there is a node that both touch. It takes no memory.
+/// Whether both touch a common node. Allocates nothing.
 pub(crate) fn overlap(first: &Touch, second: &Touch) -> bool
     ensures { result ≡ regions.overlap (touch_of first.now).region (touch_of second.now).region }
 {

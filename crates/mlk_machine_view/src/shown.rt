@@ -1,4 +1,4 @@
-// What a job does next, in one word.
+// What a job does next, as a short description.
 
 use mlk_machine_jobs::Touch;
 use mlk_names::LockName;
@@ -8,13 +8,13 @@ use mlk_names::LockName;
 pub enum State<'j> {
     /// It touches a reference.
     Ready(&'j Touch),
-    /// It claims these names; whether there is a timeout.
+    /// It claims these names; whether with a timeout.
     Claims(&'j [LockName], bool),
     /// It releases locks.
     Releases,
-    /// A value or a truth has to be chosen.
+    /// A value or a truth value has to be chosen.
     AsksChoice,
-    /// Nothing but an abort is left.
+    /// It can only be aborted.
     Stuck,
     /// It makes a step by itself.
     Silent,

@@ -11,7 +11,7 @@ use mlk_names::LockName;
 use mlk_text::Value;
 use std::alloc::{AllocError, Global};
 
-/// Values: none, or in parentheses with commas between them.
+/// Appends values in parentheses, separated by commas; nothing if there are none.
 pub(crate) fn push_values(text: &mut WrittenText, values: &[Value]) -> Result<(), AllocError>
     ensures { OnOk result (text.new ≡ text.old ++ constants_in constant_text values.now) }
 {
@@ -25,7 +25,7 @@ pub(crate) fn push_values(text: &mut WrittenText, values: &[Value]) -> Result<()
     Ok(())
 }
 
-// A lock name.
+// Appends a lock name.
 fn push_name(text: &mut WrittenText, name: &LockName) -> Result<(), AllocError>
     ensures { OnOk result (text.new ≡ text.old ++ name_text name.now) }
 {
@@ -34,7 +34,7 @@ fn push_name(text: &mut WrittenText, name: &LockName) -> Result<(), AllocError>
     Ok(())
 }
 
-/// A lock name's text.
+/// The text of a lock name.
 pub(crate) fn text_of(alloc: Global, name: &LockName) -> Result<WrittenText, AllocError>
     ensures { IfOk result (λ text. text ≡ name_text name.now) }
 {
@@ -43,7 +43,7 @@ pub(crate) fn text_of(alloc: Global, name: &LockName) -> Result<WrittenText, All
     Ok(text)
 }
 
-// Lock names, each after a semicolon.
+// Appends lock names, each after a semicolon.
 fn push_more_names(text: &mut WrittenText, names: &[LockName]) -> Result<(), AllocError>
     ensures { OnOk result (text.new ≡ text.old ++ more 59 name_text names.now) }
 {
@@ -54,7 +54,7 @@ fn push_more_names(text: &mut WrittenText, names: &[LockName]) -> Result<(), All
     Ok(())
 }
 
-/// Lock names with semicolons between them, or `-` where there are none.
+/// Appends lock names separated by semicolons, or `-` if there are none.
 pub(crate) fn push_names(text: &mut WrittenText, names: &[LockName]) -> Result<(), AllocError>
     ensures { OnOk result (text.new ≡ text.old ++ listed name_text names.now) }
 {

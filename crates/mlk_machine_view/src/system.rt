@@ -9,8 +9,8 @@ use mlk_cert_lexemes::WrittenText;
 use mlk_machine::System;
 use std::alloc::{AllocError, Global};
 
-/// What is shown of a system: a line for each job, in the order in which they began, with what it does next and what it
-/// holds; a line for each two that clash, and for each that waits for another; and whether some wait in a ring.
+/// The text of a system: a line for each job, in the order in which they began, with what it does next and the locks that it
+/// holds; a line for each pair that clashes, and for each job that waits for another; and whether some wait in a ring.
 #[tactic(auto, using(crate::proofs::PrintedLemmas::system_written))]
 pub fn system_text(alloc: Global, system: &System) -> Result<WrittenText, AllocError>
     ensures { IfOk result (λ text. text ≡ system_text (routines_in system.now) (jobs_in system.now)) }

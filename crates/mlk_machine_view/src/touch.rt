@@ -1,4 +1,4 @@
-// What a job is ready to touch, written.
+// The text of a reference that a job is ready to touch.
 
 ghost use Rattle.std.specs.Prelude.{◌≡◌, ◌++◌, OnOk};
 ghost use Rattle.mlk_text.specs.declared.root.Root.TheVariants.{Global};
@@ -13,7 +13,7 @@ use mlk_names::{Access, Extent};
 use mlk_text::Name;
 use std::alloc::AllocError;
 
-// A global.
+// Appends the name of a global.
 fn push_global(text: &mut WrittenText, name: &Name) -> Result<(), AllocError>
     ensures { OnOk result (text.new ≡ text.old ++ root_text (Global name.now)) }
 {
@@ -22,7 +22,7 @@ fn push_global(text: &mut WrittenText, name: &Name) -> Result<(), AllocError>
     Ok(())
 }
 
-// A node of a global.
+// Appends a node of a global.
 fn push_node(text: &mut WrittenText, touch: &Touch) -> Result<(), AllocError>
     ensures { OnOk result (text.new ≡ text.old ++ node_text (touch_of touch.now).region.node) }
 {
@@ -31,7 +31,7 @@ fn push_node(text: &mut WrittenText, touch: &Touch) -> Result<(), AllocError>
     Ok(())
 }
 
-// Whether all below a node is reached.
+// Appends the extent: the node, or everything below it too.
 fn push_extent(text: &mut WrittenText, extent: Extent) -> Result<(), AllocError>
     ensures { OnOk result (text.new ≡ text.old ++ extent_text extent) }
 {
@@ -41,7 +41,7 @@ fn push_extent(text: &mut WrittenText, extent: Extent) -> Result<(), AllocError>
     }
 }
 
-// Whether a node is read or written.
+// Appends the access: a read or a write.
 fn push_access(text: &mut WrittenText, access: Access) -> Result<(), AllocError>
     ensures { OnOk result (text.new ≡ text.old ++ access_text access) }
 {
@@ -51,7 +51,7 @@ fn push_access(text: &mut WrittenText, access: Access) -> Result<(), AllocError>
     }
 }
 
-/// What a job is ready to touch.
+/// Appends the reference that a job is ready to touch.
 pub(crate) fn push_touch(text: &mut WrittenText, touch: &Touch) -> Result<(), AllocError>
     ensures { OnOk result (text.new ≡ text.old ++ touch_text (touch_of touch.now)) }
 {

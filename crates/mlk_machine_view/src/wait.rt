@@ -8,7 +8,7 @@ use mlk_machine_jobs::Job;
 use mlk_machine_locks::waits_for;
 use std::alloc::{AllocError, Global};
 
-// The numbers of a job and of those that it waits for are added.
+// Adds the numbers of a job and of each job in `others` for which it waits.
 fn add_waits<'a>(
     pairs: &mut Vec<(u32, u32)>,
     job: &Job<'a>,
@@ -24,7 +24,7 @@ fn add_waits<'a>(
     Ok(())
 }
 
-/// The numbers of jobs and of those that they wait for, in the order of the jobs.
+/// The numbers of jobs and of those for which they wait, in the order of the jobs.
 pub fn waits<'a>(alloc: Global, jobs: &[Job<'a>]) -> Result<Vec<(u32, u32)>, AllocError>
     ensures { IfOk result (λ pairs. pairs.items ≡ tests.waits_among (map job_of jobs.now)) }
 {

@@ -1,4 +1,4 @@
-// The block of an entry, of what is known of it.
+// The block of an entry, from everything that is known of it.
 
 use crate::draft::{Draft, round_number};
 use crate::lists::{At, Lists};
@@ -24,7 +24,7 @@ fn points(alloc: Global, lists: Lists) -> Result<List<Point>, AllocError> {
     Ok(all)
 }
 
-// The case at an entry's end, of which an exit says all.
+// The case at an entry's end that says no more than `exit`.
 fn case_of(alloc: Global, exit: ExitCase) -> Result<Case, AllocError> {
     Ok(Case {
         test: exit.test,
@@ -35,7 +35,7 @@ fn case_of(alloc: Global, exit: ExitCase) -> Result<Case, AllocError> {
     })
 }
 
-// Exits have the order of cases that say nothing but what they say.
+// Exits are ordered like the cases that say no more than they do.
 fn exits(alloc: Global, given: List<ExitCase>) -> Result<List<ExitCase>, AllocError> {
     let mut cases = Vec::new(alloc);
     for exit in given.into_vec() {
@@ -53,7 +53,7 @@ fn exits(alloc: Global, given: List<ExitCase>) -> Result<List<ExitCase>, AllocEr
 }
 
 impl Draft {
-    /// The block of the entry, of all that is known of it.
+    /// The block of the entry, from everything that is known of it.
     pub fn into_block(self, alloc: Global) -> Result<EntryCert, AllocError> {
         let Draft { block, lists, .. } = self;
         let Summary {

@@ -1,11 +1,11 @@
-// Copies of what blocks hold.
+// Copies of the parts of blocks.
 
 use mlk_calls::copy_case;
 use mlk_cert_parts::{Case, EntryCert, ExitCase, Summary};
 use mlk_text::List;
 use std::alloc::{AllocError, Global};
 
-/// Copies of cases, which share their lists.
+/// Copies cases; the copies share their lists.
 pub fn copy_cases(alloc: Global, cases: &[Case]) -> Result<List<Case>, AllocError> {
     let mut copies = List::new(alloc);
     for case in cases {
@@ -14,7 +14,7 @@ pub fn copy_cases(alloc: Global, cases: &[Case]) -> Result<List<Case>, AllocErro
     Ok(copies)
 }
 
-/// A copy of an exit, which shares its lists.
+/// Copies an exit; the copy shares its lists.
 pub(crate) fn copy_exit(exit: &ExitCase) -> Result<ExitCase, AllocError> {
     Ok(ExitCase {
         test: exit.test,
@@ -31,7 +31,7 @@ fn copy_exits(alloc: Global, exits: &[ExitCase]) -> Result<List<ExitCase>, Alloc
     Ok(copies)
 }
 
-/// A copy of a summary.
+/// Copies a summary.
 pub(crate) fn copy_summary(alloc: Global, summary: &Summary) -> Result<Summary, AllocError> {
     Ok(Summary {
         need: List::of(Vec::from_clones(alloc, summary.need.as_slice())?),
@@ -42,7 +42,7 @@ pub(crate) fn copy_summary(alloc: Global, summary: &Summary) -> Result<Summary, 
     })
 }
 
-/// A copy of a block without its points.
+/// Copies a block without its points.
 pub fn copy_summed(alloc: Global, block: &EntryCert) -> Result<EntryCert, AllocError> {
     Ok(EntryCert {
         entry: block.entry.copy()?,

@@ -1,4 +1,4 @@
-// What is known so far of an entry.
+// What is known of an entry so far.
 
 use crate::hand::rounds_in;
 use crate::lists::{At, Listing, Lists};
@@ -12,27 +12,27 @@ use std::alloc::{AllocError, Global};
 use std::collections::BTreeSet;
 use std::mem;
 
-/// What is known so far of an entry.
+/// What is known of an entry so far.
 #[derive(Drop)]
 pub struct Draft {
     pub entry: EntryId,
     /// whether the rules declare it
     pub declared: bool,
-    /// its text, its summary, and while a line is walked the points that are in hand: those of the line, and of the begin
-    /// of its block
+    /// its text, its summary, and while a line is walked the points that are loaded: those of the line, and that of the begin of
+    /// its block
     pub block: EntryCert,
-    /// its points but those in hand
+    /// its points, except those that are loaded
     pub lists: Lists,
-    /// whose summaries were asked
+    /// the entries whose summaries were used
     pub callees: BTreeSet<EntryId>,
-    /// how many changes there were when its summary changed last
+    /// the number of changes when its summary changed last
     pub changed: usize,
-    /// how many there were when it was walked last; none before
+    /// the number of changes when it was walked last; `None` before
     pub walked: Option<usize>,
 }
 
 impl Draft {
-    /// Nothing is known of an entry with this text, whose line has this number, after so many changes.
+    /// An empty draft of the entry with the text `text`, whose line has the number `line`, created after `changed` changes.
     pub fn new(
         alloc: Global,
         entry: EntryId,
@@ -56,18 +56,18 @@ impl Draft {
         }
     }
 
-    /// The points and the exits start anew.
+    /// Removes the points and the exits.
     pub fn clear(&mut self, alloc: Global) {
         self.lists.clear();
         self.block.summary.exits = List::new(alloc);
     }
 
-    /// More locks are needed.
+    /// Adds needed locks.
     pub fn need(&mut self, alloc: Global, terms: Vec<LockTerm>) -> Result<Listing, AllocError> {
         add_needs(alloc, &mut self.block.summary, terms)
     }
 
-    // Takes the cases of a point in hand, where it has some.
+    // Loads the cases of a point, if it has some.
     fn take_point(
         &mut self,
         alloc: Global,
@@ -84,7 +84,7 @@ impl Draft {
         })
     }
 
-    /// Takes the points of a line and of its block's begin in hand.
+    /// Loads the points of a line and that of its block's begin.
     pub fn take(&mut self, alloc: Global, line: &Line) -> Result<(), AllocError> {
         self.lists.walk(line.number);
         let mut points = List::new(alloc);
@@ -106,7 +106,7 @@ impl Draft {
         Ok(())
     }
 
-    /// Puts the points in hand back.
+    /// Stores the loaded points.
     pub fn put_back(&mut self, alloc: Global) {
         let points = mem::replace(&mut self.block.points, List::new(alloc));
         for point in points.into_vec() {
@@ -119,7 +119,7 @@ impl Draft {
     }
 }
 
-/// The number of a FOR, as a certificate has it.
+/// The number of a FOR, as a certificate has it. The error is that of memory if it is too large.
 pub fn round_number(round: usize) -> Result<u32, AllocError> {
     match u32::try_from(round) {
         Ok(number) => Ok(number),

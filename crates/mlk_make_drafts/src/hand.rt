@@ -2,7 +2,7 @@
 
 use mlk_syntax::{Commands, For};
 
-/// How many FORs a line has.
+/// The number of FORs of a line.
 pub fn rounds_in(commands: &Commands) -> usize {
     match &commands.last {
         None => 0,
@@ -10,7 +10,7 @@ pub fn rounds_in(commands: &Commands) -> usize {
     }
 }
 
-/// The FOR of a line that is this one, counted from 1.
+/// FOR number `round` of a line, counted from 1, or `None`.
 pub fn round_at(commands: &Commands, round: usize) -> Option<&For> {
     let last = commands.last.as_ref()?;
     if last.index == round {

@@ -1,4 +1,4 @@
-//! What the maker of certificates knows so far of an entry: its summary, and the cases at its points. Nothing rests on it.
+//! What the maker of certificates knows of an entry so far: its summary, and the cases at its points. No proof depends on it.
 #![tactic(auto)]
 
 mod block;

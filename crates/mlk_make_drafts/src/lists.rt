@@ -9,14 +9,14 @@ use mlk_text::{LineNumber, List};
 use std::alloc::{AllocError, Global};
 use std::mem;
 
-/// A point: a line, and 0 or which FOR of it.
+/// A point: a line, and 0 or the number of a FOR on it.
 #[derive(Clone, Copy, Debug, Drop, PartialEq, Eq)]
 pub struct At {
     pub line: LineNumber,
     pub round: usize,
 }
 
-/// What becomes of what is to be listed.
+/// The result of listing something.
 #[derive(Clone, Copy, Debug, Drop, PartialEq, Eq)]
 pub enum Listing {
     /// it is there already
@@ -26,8 +26,8 @@ pub enum Listing {
     Full,
 }
 
-// What is known of a line: the cases at its begin, and how many of them were walked, those at each of its FORs, and those
-// in which it ends its block.
+// What is known of a line: the cases at its begin, and the number of those that were walked; the cases at each of its FORs; and
+// those in which it ends its block.
 #[derive(Drop)]
 struct LineLists {
     begin: List<Case>,
@@ -46,7 +46,7 @@ impl LineLists {
         }
     }
 
-    // The cases at the begin, or at a FOR.
+    // The cases at the begin, or at a FOR, or `None`.
     fn point(&self, round: usize) -> Option<&List<Case>> {
         match round.checked_sub(1) {
             None => Some(&self.begin),
@@ -61,7 +61,7 @@ impl LineLists {
         }
     }
 
-    // There are so many FORs from now on.
+    // Makes room for `rounds` FORs.
     fn open(&mut self, alloc: Global, rounds: usize) -> Result<(), AllocError> {
         if rounds > self.rounds.len() {
             self.rounds.resize_with(rounds, || List::new(alloc))?;
@@ -70,7 +70,7 @@ impl LineLists {
     }
 }
 
-/// The points of an entry, and the cases in which the lines of its blocks end them: by the lines, from the entry's own on.
+/// The points of an entry, and the cases in which the lines of its blocks end them, by lines, from the entry's own on.
 #[derive(Drop)]
 pub struct Lists {
     first: LineNumber,
@@ -83,7 +83,7 @@ fn is_small(case: &Case) -> bool {
         && case.kept.as_slice().len() <= MOST_KEPT
 }
 
-// Lists a case, where none of these says no more than it.
+// Lists a case, unless one of `cases` says no more than it.
 fn list_among(cases: &mut List<Case>, case: Case) -> Result<Listing, AllocError> {
     if is_listed(cases.as_slice(), &case) {
         return Ok(Listing::Known);
@@ -96,7 +96,7 @@ fn list_among(cases: &mut List<Case>, case: Case) -> Result<Listing, AllocError>
 }
 
 impl Lists {
-    /// No points, for an entry whose line has this number.
+    /// No points, for an entry whose line has the number `first`.
     pub(crate) fn new(alloc: Global, first: LineNumber) -> Lists {
         Lists {
             first,
@@ -104,12 +104,12 @@ impl Lists {
         }
     }
 
-    /// The points start anew.
+    /// Removes all points.
     pub(crate) fn clear(&mut self) {
         self.lines.clear();
     }
 
-    // The place of a line, unless it stands before the entry.
+    // The index of a line, or `None` if it is before the entry.
     fn place_of(&self, line: LineNumber) -> Option<usize> {
         let place = line.number().checked_sub(self.first.number())?;
         Some(place as usize)
@@ -124,7 +124,7 @@ impl Lists {
         self.lines.get_mut(place)
     }
 
-    // The line is there from now on, unless it stands before the entry.
+    // Makes room for a line, unless it is before the entry.
     fn open(&mut self, alloc: Global, line: LineNumber) -> Result<(), AllocError> {
         let Some(place) = self.place_of(line) else {
             return Ok(());
@@ -161,14 +161,14 @@ impl Lists {
         }
     }
 
-    /// The cases of a line are walked.
+    /// Marks the cases of a line as walked.
     pub(crate) fn walk(&mut self, line: LineNumber) {
         if let Some(lists) = self.line_mut(line) {
             lists.walked = lists.begin.as_slice().len();
         }
     }
 
-    /// Takes the cases of a point away, where it has some.
+    /// Removes and returns the cases of a point, or `None` if it has none.
     pub(crate) fn take(&mut self, alloc: Global, at: At) -> Option<List<Case>> {
         let cases = self.line_mut(at.line)?.point_mut(at.round)?;
         if cases.as_slice().is_empty() {
@@ -177,7 +177,7 @@ impl Lists {
         Some(mem::replace(cases, List::new(alloc)))
     }
 
-    /// Puts the cases of a point back.
+    /// Stores the cases of a point.
     pub(crate) fn put(&mut self, at: At, cases: List<Case>) {
         if let Some(lists) = self.line_mut(at.line)
             && let Some(place) = lists.point_mut(at.round)
@@ -186,7 +186,7 @@ impl Lists {
         }
     }
 
-    /// Lists a case at a point, where none of its cases says no more than this one.
+    /// Lists a case at a point, unless one of its cases says no more than `case`.
     pub fn list(&mut self, alloc: Global, at: At, case: Case) -> Result<Listing, AllocError> {
         self.open(alloc, at.line)?;
         let Some(lists) = self.line_mut(at.line) else {
@@ -199,7 +199,7 @@ impl Lists {
         }
     }
 
-    /// The cases in which a line ends its block; whether they are others than before.
+    /// Sets the cases in which a line ends its block, and returns whether they differ from those before.
     pub fn end(
         &mut self,
         alloc: Global,
@@ -218,7 +218,7 @@ impl Lists {
         Ok(true)
     }
 
-    /// The cases in which these lines of a block end it.
+    /// The cases in which `lines`, those of a block, end it.
     pub fn ends_of(&self, alloc: Global, lines: &[Line]) -> Result<List<Case>, AllocError> {
         let mut all = Vec::new(alloc);
         for line in lines {
@@ -246,7 +246,7 @@ impl Lists {
     }
 }
 
-// Adds a point, where it has a case.
+// Adds a point if it has a case.
 fn add_point(
     found: &mut Vec<(At, List<Case>)>,
     at: At,

@@ -1,4 +1,4 @@
-// The orders in which a certificate has names and cases.
+// The orders of names and cases in a certificate.
 
 ghost use Rattle.std.specs.Prelude.{◌≤◌, IfOk, length};
 
@@ -20,7 +20,7 @@ fn text_of(alloc: Global, names: &[Name]) -> Result<Vec<u8>, AllocError> {
     Ok(text)
 }
 
-// Whether the first stands before the second.
+// Whether the first set is before the second.
 fn is_before(alloc: Global, first: &NameSet, second: &NameSet) -> Result<bool, AllocError> {
     match (first, second) {
         (NameSet::Only(name), NameSet::Only(other)) => Ok(name.as_bytes() < other.as_bytes()),
@@ -32,7 +32,7 @@ fn is_before(alloc: Global, first: &NameSet, second: &NameSet) -> Result<bool, A
     }
 }
 
-/// The place of a set of names among others that stand in order: how many of them stand before it.
+/// The index at which a set of names belongs among `sets`, which are in order: the number of those before it.
 pub(crate) fn place_of_set(
     alloc: Global,
     sets: &[NameSet],
@@ -56,7 +56,7 @@ pub(crate) fn set_in_order(alloc: Global, set: NameSet) -> Result<NameSet, Alloc
     }
 }
 
-// The places of what a case says of `$TEST` in the order of the signs.
+// The rank of `$TEST` in the order of its signs.
 fn place_of_test(case: &Case) -> u8 {
     match case.test {
         Test::Any => 0,
@@ -69,14 +69,14 @@ fn how_many(cases: &[Case], test: Test) -> usize {
     cases.iter().filter(|case| case.test == test).count()
 }
 
-// Whether no two of the cases say the same of `$TEST`.
+// Whether no two of the cases have the same `$TEST`.
 fn are_told_apart(cases: &[Case]) -> bool {
     how_many(cases, Test::Any) < 2
         && how_many(cases, Test::Zero) < 2
         && how_many(cases, Test::One) < 2
 }
 
-// Cases, each after its text.
+// Cases, each with its text.
 fn with_texts(alloc: Global, cases: Vec<Case>) -> Result<Vec<(WrittenText, Case)>, AllocError> {
     let mut all = Vec::new(alloc);
     for case in cases {
@@ -98,8 +98,7 @@ fn by_texts(alloc: Global, cases: Vec<Case>) -> Result<List<Case>, AllocError> {
     Ok(ordered)
 }
 
-/// Cases in the order of their texts, in which `$TEST` comes first. A text is written only where that does not tell two
-/// cases apart.
+/// Cases in the order of their texts, in which `$TEST` is first. The texts are written only if two cases have the same `$TEST`.
 pub(crate) fn cases_in_order(
     alloc: Global,
     mut cases: Vec<Case>,

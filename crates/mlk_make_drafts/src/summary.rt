@@ -21,7 +21,7 @@ pub(crate) fn empty_summary(alloc: Global) -> Summary {
     }
 }
 
-/// Lists an exit that the walk found missing.
+/// Lists an exit that the walk found to be missing.
 pub fn add_exit(
     alloc: Global,
     summary: &mut Summary,
@@ -78,7 +78,7 @@ pub fn add_mods(
     Ok(all)
 }
 
-/// A call may claim what has this rank.
+/// Lowers the least rank to `rank`, unless it is lower already.
 pub fn lower(summary: &mut Summary, rank: u32) -> Listing {
     let is_low = match summary.low {
         Some(low) => low <= rank,
@@ -91,7 +91,7 @@ pub fn lower(summary: &mut Summary, rank: u32) -> Listing {
     Listing::Added
 }
 
-/// A call may release all locks.
+/// Lists that a call may release all locks.
 pub fn drop_all(summary: &mut Summary) -> Listing {
     if summary.drops {
         return Listing::Known;
@@ -100,7 +100,7 @@ pub fn drop_all(summary: &mut Summary) -> Listing {
     Listing::Added
 }
 
-/// What a callee claims and releases; what it claims comes first.
+/// Lists the claims and the release of all locks of a callee; the claims come first.
 pub fn widen(summary: &mut Summary, low: Option<u32>, drops: bool) -> Listing {
     if let Some(rank) = low
         && lower(summary, rank) == Listing::Added
@@ -113,7 +113,7 @@ pub fn widen(summary: &mut Summary, low: Option<u32>, drops: bool) -> Listing {
     Listing::Known
 }
 
-/// Locks that a caller must hold.
+/// Lists locks that a caller must hold.
 pub(crate) fn add_needs(
     alloc: Global,
     summary: &mut Summary,

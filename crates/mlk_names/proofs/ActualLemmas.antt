@@ -1,4 +1,4 @@
--- The callee's terms and the caller's stand for the same names.
+-- The callee's terms and the caller's denote the same names.
 use Rattle.std.proofs.Common.{◌≡◌, ◌↔◌, ℕ, List, Option, sym, ◌∙◌}
 use Rattle.std.specs.Prelude.{Contains, map}
 use Rattle.mlk_names.specs.declared.symbol.Sym.{Sym}
@@ -15,7 +15,7 @@ module _ (formals : List (List ℕ)) (actuals : List (Option Sym)) (t : LockTerm
   stands_alike (Local name) u v c e = let l = call.locals name c u e v in (l.1, l.0)
   stands_alike Job u v c e = rw (← e) (λ h. h ∙ sym call.job, λ h. h ∙ call.job)
 
--- terms of which one is the other with the actuals put in
+-- terms one of which is the other with the actuals substituted
 pub names_alike : (formals : List (List ℕ)) (actuals : List (Option Sym)) (t u : LockTerm) → u.root ≡ t.root → map sym_of u.subs ≡ map (put_in formals actuals) t.subs → NamesAlike formals actuals t u
 names_alike formals actuals t u e f caller callee n call =
     let alike = stands_alike formals actuals t caller callee call in

@@ -22,7 +22,7 @@ acct subs = record { root = Global (codes "ACCT"); subs = subs }
 pub account_above : IsAbove (acct (codes "A" ∷ [])) (acct (codes "A" ∷ codes "bal" ∷ []))
 account_above = record { root = refl; subs = record { tail = codes "bal" ∷ []; is = refl } }
 
--- in the job with number 7 where `ID` is `A`, the symbols stand for these
+-- in the job with number 7, with `ID` equal to `A`, the values of symbols
 abbrev here : Assignment
 here = record { locals = λ name. Some (codes "A"); job = codes "7" }
 
@@ -32,7 +32,7 @@ job_number = refl
 pub local_value : StandsFor here (Local (codes "ID")) (codes "A")
 local_value = refl
 
--- `^A(X)` alone and the tree below `^A("1")`: they may overlap, at `^A("1")`
+-- `^A(X)` by itself and the tree below `^A("1")`: they may overlap, at `^A("1")`
 pub local_and_constant : MayOverlap (record { root = codes "A"; subs = Local (codes "X") ∷ []; extent = Node; access = Writes }) (record { root = codes "A"; subs = Const (codes "1") ∷ []; extent = Tree; access = Writes })
 local_and_constant =
     let node : GlobalNode = record { root = codes "A"; subs = codes "1" ∷ [] } in (
@@ -43,7 +43,7 @@ local_and_constant =
       (node, record { root = refl; subs = refl }, record { root = refl; subs = record { tail = []; is = refl } }),
     )
 
--- `^A` alone and the tree below `^A("1")` do not
+-- `^A` by itself and the tree below `^A("1")` do not
 pub whole_and_below : MayOverlap (record { root = codes "A"; subs = []; extent = Node; access = Writes }) (record { root = codes "A"; subs = Const (codes "1") ∷ []; extent = Tree; access = Writes }) → ⊥
 whole_and_below h =
     let r : Reference = record { root = codes "A"; subs = []; extent = Node; access = Writes } in

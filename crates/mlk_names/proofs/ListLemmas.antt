@@ -1,4 +1,4 @@
--- Lists that begin other lists, and what holds place by place.
+-- Lists that begin other lists, and what holds element by element.
 use Rattle.std.proofs.Common.{◌≡◌, ◌⊎◌, inl, inr, List, [], ◌∷◌, ◌++◌, length, arith, refl, sym, ◌∙◌, subst}
 use Rattle.std.specs.Prelude.{Contains, map}
 use Rattle.std.specs.List.{AllZip}
@@ -37,7 +37,7 @@ begins_on (x ∷ xs) (y ∷ ys) [] h k = absurd (begins_past y ys k)
 begins_on (x ∷ xs) (y ∷ ys) (z ∷ zs) h k =
     begins_cons x z xs zs (begins_head x y xs ys h ∙ begins_head y z ys zs k) (begins_on xs ys zs (begins_tail x y xs ys h) (begins_tail y z ys zs k))
 
--- two beginnings of one list begin one another
+-- of two beginnings of one list, one begins the other
 pub begins_two : {X : Type 0} (xs ys zs : List X) → Begins xs zs → Begins ys zs → Begins xs ys ⊎ Begins ys xs
 begins_two [] ys zs h k = inl (begins_none ys)
 begins_two (x ∷ xs) [] zs h k = inr (begins_none (x ∷ xs))
@@ -49,7 +49,7 @@ begins_two (x ∷ xs) (y ∷ ys) (z ∷ zs) h k =
       | inr b ↦ inr (begins_cons y x ys xs (sym e) b)
     ]
 
--- what holds place by place of a beginning's whole holds of the beginning
+-- what holds element by element of a whole list holds of its beginning
 pub begins_zip : {X Y : Type 0} (R : X → Y → Type 0) → ((x : X) (v w : Y) → R x v → R x w → v ≡ w) → (xs ys : List X) (vs ws : List Y) → Begins xs ys → AllZip R xs vs → AllZip R ys ws → Begins vs ws
 begins_zip R one [] ys [] ws b h k = begins_none ws
 begins_zip R one [] ys (v ∷ vs) ws b h k = absurd h
@@ -61,7 +61,7 @@ begins_zip {X} {Y} R one (x ∷ xs) (y ∷ ys) (v ∷ vs) (w ∷ ws) b h k =
     let P : X → Type 0 = λ z. R z w in
     begins_cons v w vs ws (one x v w h.0 (subst P e k.0)) (begins_zip R one xs ys vs ws (begins_tail x y xs ys b) h.1 k.1)
 
--- a relation that follows at each element of a list follows place by place
+-- a relation that follows at each element of a list follows element by element
 pub all_zip_at : {X Y : Type 0} (R S : X → Y → Type 0) (xs : List X) (ys : List Y) → ((x : X) (y : Y) → Contains xs x → R x y → S x y) → AllZip R xs ys → AllZip S xs ys
 all_zip_at R S [] [] f h = tt
 all_zip_at R S [] (y ∷ ys) f h = absurd h
@@ -85,7 +85,7 @@ contains_cases y xs x c =
       | inr h ↦ inr h
     ]
 
--- what stands in the first list has something at its place
+-- each element of the first list is related to one at its index
 pub zip_has : {X Y : Type 0} (R : X → Y → Type 0) (xs : List X) (ys : List Y) (x : X) → AllZip R xs ys → Contains xs x → (y : Y) × R x y
 zip_has R [] ys x h c = absurd (omega (arith, c.1))
 zip_has R (z ∷ xs) [] x h c = absurd h
@@ -95,7 +95,7 @@ zip_has {X} {Y} R (z ∷ xs) (y ∷ ys) x h c =
       | inr d ↦ zip_has R xs ys x h.1 d
     ]
 
--- where each has something, so have all together
+-- if each element is related to something, so are all together
 pub zip_of_each : {X Y : Type 0} (R : X → Y → Type 0) (xs : List X) → ((x : X) → Contains xs x → (y : Y) × R x y) → (ys : List Y) × AllZip R xs ys
 zip_of_each R [] f = ([], tt)
 zip_of_each {X} {Y} R (x ∷ xs) f =
@@ -103,7 +103,7 @@ zip_of_each {X} {Y} R (x ∷ xs) f =
     let rest : (ys : List Y) × AllZip R xs ys = zip_of_each R xs (λ z c. f z (contains_later x xs z c)) in
     (here.0 ∷ rest.0, (here.1, rest.1))
 
--- where a relation gives one value, so it does place by place
+-- if a relation determines one value, it does so element by element
 pub zip_one : {X Y : Type 0} (R : X → Y → Type 0) → ((x : X) (v w : Y) → R x v → R x w → v ≡ w) → (xs : List X) (vs ws : List Y) → AllZip R xs vs → AllZip R xs ws → vs ≡ ws
 zip_one R one [] [] [] h k = refl
 zip_one R one [] [] (w ∷ ws) h k = absurd k
@@ -114,7 +114,7 @@ zip_one R one (x ∷ xs) (v ∷ vs) (w ∷ ws) h k =
     let e = one x v w h.0 k.0 in
     let f = zip_one R one xs vs ws h.1 k.1 in cc
 
--- two lists that one image ties, and relations that follow of what has one image, follow place by place
+-- if two lists have one image, and a relation follows for elements of one image, it follows element by element
 pub zip_along : {X Y Z V : Type 0} (f : X → Z) (g : Y → Z) (R : X → V → Type 0) (S : Y → V → Type 0) (xs : List X) (ys : List Y) (vs : List V)
     → ((x : X) (y : Y) (v : V) → Contains xs x → Contains ys y → f x ≡ g y → R x v → S y v) → map f xs ≡ map g ys → AllZip R xs vs → AllZip S ys vs
 zip_along f g R S [] [] [] one e h = tt

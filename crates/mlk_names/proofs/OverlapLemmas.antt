@@ -1,4 +1,4 @@
--- When references may overlap, from the front of their subscripts on.
+-- When references may overlap, from their first subscripts on.
 use Rattle.std.proofs.Common.{◌≡◌, ◌≢◌, ◌↔◌, ℕ, List, [], ◌∷◌, length, refl, sym, ◌∙◌, subst, arith}
 use Rattle.std.specs.List.{AllZip}
 use Rattle.std.proofs.lemmas.List.{append-nil}
@@ -60,7 +60,7 @@ subs_meet_none far wide [] [] h k = ([], [], [], tt, tt, reaches_itself far [], 
 subs_meet_none far wide [] (t ∷ ts) h k = absurd (omega arith)
 subs_meet_none far wide (s ∷ ss) ts h k = absurd (omega arith)
 
--- a tree reaches all that lies below
+-- a tree reaches all that is below
 pub subs_meet_below : (far wide : Extent) (ss ts : List Sym) → length ss ≡ 0 → far ≡ Tree → SubsMayMeet ss far ts wide
 subs_meet_below far wide [] ts h is =
     let vs = some_values ts in
@@ -77,7 +77,7 @@ subs_meet_not_below wide t ts ((v ∷ us), vs, ws, f, s, u, x) = absurd f
 pub subs_meet_turned : (far wide : Extent) (ss ts : List Sym) → SubsMayMeet ss far ts wide → SubsMayMeet ts wide ss far
 subs_meet_turned far wide ss ts (us, vs, ws, f, s, u, v) = (vs, us, ws, s, f, v, u)
 
--- from the front on: the first symbols meet, and what is after them
+-- from the front on: the first symbols may meet, and so may the rest
 pub subs_meet_cons : (far wide : Extent) (s t : Sym) (ss ts : List Sym) → SymsMayMeet s t → SubsMayMeet ss far ts wide → SubsMayMeet (s ∷ ss) far (t ∷ ts) wide
 subs_meet_cons far wide s t ss ts (v, m, n) (us, vs, ws, f, g, u, w) =
     (v ∷ us, v ∷ vs, v ∷ ws, (m, f), (n, g), reaches_cons far v us ws u, reaches_cons wide v vs ws w)
@@ -97,7 +97,7 @@ subs_meet_after far wide s t ss ts ((x ∷ us), (y ∷ vs), [], f, g, u, w) = ab
 subs_meet_after far wide s t ss ts ((x ∷ us), (y ∷ vs), (z ∷ ws), f, g, u, w) =
     (us, vs, ws, f.1, g.1, reaches_after far x z us ws u, reaches_after wide y z vs ws w)
 
--- the same of lists that are known by their fronts
+-- the same of lists that are given by their fronts
 pub subs_meet_parts : (far wide : Extent) (s t : Sym) (xs ys ss ts : List Sym) → xs ≡ s ∷ ss → ys ≡ t ∷ ts → SymsMayMeet s t → SubsMayMeet ss far ts wide ↔ SubsMayMeet xs far ys wide
 subs_meet_parts far wide s t xs ys ss ts d e m =
     rw (d, e) (subs_meet_cons far wide s t ss ts m, subs_meet_after far wide s t ss ts)
@@ -123,7 +123,7 @@ overlap_subs r s (t, u, h, k, (n, i, j)) =
     let Q : Extent → Type 0 = λ e. Reaches e u.node.subs n.subs in
     (t.node.subs, u.node.subs, n.subs, h.subs, k.subs, subst P h.extent i.subs, subst Q k.extent j.subs)
 
--- what a symbol stands for, it may be
+-- a symbol may be the value that it denotes
 may_be : (a : Assignment) (s : Sym) (v : List ℕ) → StandsFor a s v → MayBe s v
 may_be a (Const value) v h = h
 may_be a (Local name) v h = tt

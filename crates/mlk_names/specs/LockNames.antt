@@ -1,5 +1,5 @@
--- Lock names, and which of them conflict. Restates ISO/IEC 11756, LOCK: a lock name stands for itself, what is above
--- it and what is below it, whether a global or a local name begins it.
+-- Lock names, and which of them conflict. Restates ISO/IEC 11756, LOCK: a lock name covers itself, the names above it and the
+-- names below it, whether it begins with a global or a local name.
 use Rattle.std.specs.Prelude.{◌≡◌, ◌⊎◌}
 use Rattle.mlk_names.specs.declared.lock_name.LockName.{LockName}
 use Rattle.mlk_names.specs.Lists.{Begins}

@@ -1,5 +1,5 @@
--- What references reach, and which of them may overlap. A reference to a node reaches that node; KILL, MERGE and the
--- like reach its descendants too (ISO/IEC 11756, global variables: descendants).
+-- What references reach, and which of them may overlap. A reference to a node reaches that node; KILL, MERGE and others reach its
+-- descendants too (ISO/IEC 11756, global variables: descendants).
 use Rattle.std.specs.Prelude.{◌≡◌, ℕ, List}
 use Rattle.std.specs.List.{AllZip}
 use Rattle.mlk_names.specs.declared.symbol.Sym.{Sym}
@@ -16,7 +16,7 @@ pub record GlobalNode : Type 0 where
   pub root : List ℕ
   pub subs : List (List ℕ)
 
--- a region of nodes: one node, or a node and all below it
+-- a region of nodes: one node, or a node and everything below it
 pub record Region : Type 0 where
   pub node : GlobalNode
   pub extent : Extent
@@ -26,7 +26,7 @@ pub record Touch : Type 0 where
   pub region : Region
   pub access : Access
 
--- the subscripts that one goes to from these: none but these, or these with any tail
+-- the subscripts that are reached from given ones: only these, or these followed by any tail
 abbrev pub Reaches : Extent → List (List ℕ) → List (List ℕ) → Type 0
 Reaches Node subs xs = xs ≡ subs
 Reaches Tree subs xs = Begins subs xs
@@ -40,35 +40,35 @@ pub record InRegion (g : Region) (n : GlobalNode) : Type 0 where
 abbrev pub Overlap : Region → Region → Type 0
 Overlap g h = (n : GlobalNode) × InRegion g n × InRegion h n
 
--- the reference touches this, each subscript being what its symbol stands for
+-- the reference touches the region, each subscript having a value that its symbol denotes
 pub record Touches (a : Assignment) (r : Reference) (t : Touch) : Type 0 where
   pub root : t.region.node.root ≡ r.root
   pub extent : t.region.extent ≡ r.extent
   pub subs : AllZip (StandsFor a) r.subs t.region.node.subs
   pub access : t.access ≡ r.access
 
--- a constant may be its own value alone, and all else any value
+-- a constant may have only its own value, any other symbol any value
 abbrev pub MayBe : Sym → List ℕ → Type 0
 MayBe (Const value) v = v ≡ value
 MayBe (Local name) v = Unit {0}
 MayBe Job v = Unit {0}
 MayBe Unknown v = Unit {0}
 
--- the reference may reach this region, each place by itself
+-- the reference may reach the region, each subscript considered separately
 pub record MayReach (r : Reference) (g : Region) : Type 0 where
   pub root : g.node.root ≡ r.root
   pub extent : g.extent ≡ r.extent
   pub subs : AllZip MayBe r.subs g.node.subs
 
--- what the two may reach overlaps
+-- regions that the two may reach overlap
 abbrev pub MayOverlap : Reference → Reference → Type 0
 MayOverlap r s = (g h : Region) × MayReach r g × MayReach s h × Overlap g h
 
--- some value may be that of both
+-- both may have the same value
 abbrev pub SymsMayMeet : Sym → Sym → Type 0
 SymsMayMeet s t = (v : List ℕ) × MayBe s v × MayBe t v
 
--- some subscripts may be reached from both
+-- the same subscripts may be reached from both
 abbrev pub SubsMayMeet : List Sym → Extent → List Sym → Extent → Type 0
 SubsMayMeet xs far ys wide =
     (us vs ws : List (List ℕ)) × AllZip MayBe xs us × AllZip MayBe ys vs × Reaches far us ws × Reaches wide vs ws

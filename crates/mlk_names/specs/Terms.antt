@@ -1,4 +1,4 @@
--- What lock terms stand for, and what they have in common. This project's own choice.
+-- What lock terms denote, and what they have in common. This project's own choice.
 use Rattle.std.specs.Prelude.{◌≡◌, ◌≢◌, ◌↔◌, ℕ, List, Some, Contains}
 use Rattle.std.specs.List.{AllZip}
 use Rattle.mlk_names.specs.declared.lock_name.LockName.{LockName}
@@ -8,17 +8,17 @@ use Rattle.mlk_names.specs.Lists.{Begins}
 use Rattle.mlk_names.specs.LockNames.{IsAbove}
 use Rattle.mlk_names.specs.Symbols.{Assignment, StandsFor, sym_of}
 
--- the term stands for the name: the roots are one, and each subscript stands for that at its place
+-- the term denotes the name: the roots are equal, and each symbol denotes the subscript at its place
 pub record Names (a : Assignment) (t : LockTerm) (n : LockName) : Type 0 where
   pub root : n.root ≡ t.root
   pub subs : AllZip (λ s v. StandsFor a (sym_of s) v) t.subs n.subs
 
--- the second term is the first with some subscripts after it
+-- the second term is the first followed by some subscripts
 pub record IsPrefix (s t : LockTerm) : Type 0 where
   pub root : s.root ≡ t.root
   pub subs : Begins s.subs t.subs
 
--- the local stands among the term's subscripts
+-- the local is among the term's subscripts
 abbrev pub Mentions : LockTerm → List ℕ → Type 0
 Mentions t name = Contains t.subs (Local name)
 
@@ -35,11 +35,11 @@ pub record SameWhereMentioned (t : LockTerm) (a b : Assignment) : Type 0 where
   pub locals : (name : List ℕ) → Mentions t name → a.locals name ≡ b.locals name
   pub job : a.job ≡ b.job
 
--- both assignments agree but for this local
+-- both assignments agree except on this local
 pub record SameBut (name : List ℕ) (a b : Assignment) : Type 0 where
   pub locals : (other : List ℕ) → other ≢ name → a.locals other ≡ b.locals other
   pub job : a.job ≡ b.job
 
--- the term stands for one name, whatever this local has
+-- the term denotes the same name whatever value this local has
 abbrev pub NamesWithout : LockTerm → List ℕ → Type 0
 NamesWithout t name = (a b : Assignment) (n : LockName) → SameBut name a b → Names a t n ↔ Names b t n

@@ -1,4 +1,4 @@
-// Terms of a callee, as its caller has them.
+// Terms of a callee, translated for its caller.
 
 ghost use Rattle.std.specs.Prelude.{◌≡◌, IfOk, IfSome, position, slice_get, bytes_eq};
 ghost use Rattle.mlk_names.specs.Symbols.{known_of};
@@ -10,7 +10,7 @@ use crate::term::{LockTerm, TermSubs};
 use mlk_text::{Name, Subscripts, copy_of};
 use std::alloc::{AllocError, Global};
 
-// What was passed at a place, where it is known.
+// The symbol that was passed at `place`, or `None` if it is not known.
 fn known_at(actuals: &[Option<Sym>], place: usize) -> Result<Option<KnownSym>, AllocError>
     ensures { IfOk result (λ found. found ≡ known_of (passed (slice_get actuals.now place))) }
 {
@@ -20,14 +20,14 @@ fn known_at(actuals: &[Option<Sym>], place: usize) -> Result<Option<KnownSym>, A
     }
 }
 
-// The place of the formal with this name.
+// The index of the formal `name`, or `None` if there is none.
 fn place_of(name: &Name, formals: &[Name]) -> Option<usize>
     ensures { result ≡ position (λ formal. bytes_eq formal name.now) formals.now }
 {
     formals.iter().position(|formal| *formal == *name)
 }
 
-// What stands for the symbol at the caller, where it is known.
+// The caller's symbol for `symbol`, or `None` if it is not known.
 fn put_in_one(
     symbol: &KnownSym,
     formals: &[Name],
@@ -61,11 +61,11 @@ fn put_in_all(
     Ok(Some(found))
 }
 
-/// The callee's term as its caller has it: each formal is replaced by what was passed at its place, and an actual
-/// that is missing, or past the end of the list, is unknown. There is none where an unknown would enter.
+/// Translates the callee's `term` for its caller: each formal is replaced by the actual at its place. An actual that is
+/// missing or past the end of the list is unknown. `None` if a subscript would become unknown.
 ///
-/// At the begin of the call, and at its end, both terms stand for one name, where the locals that the callee's term
-/// mentions have there what was passed for them.
+/// When the call begins and when it ends, both terms denote the same name, provided that the locals which the callee's term
+/// mentions then have the values that were passed for them.
 pub fn substitute(
     alloc: Global,
     term: &LockTerm,

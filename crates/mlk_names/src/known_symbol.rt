@@ -1,13 +1,13 @@
-// Symbols that stand for one value.
+// Symbols that denote one value.
 
 use mlk_text::{Name, Value};
 use std::alloc::Global;
 use std::default::MadeWith;
 
-/// A symbol that stands for one value in a job at a moment.
+/// A symbol that denotes one value in a job at a moment.
 ///
-/// It is a type of its own, so that a lock term has no subscript that stands for any value: what a term stands
-/// for is then one name, and no function on terms has a case that cannot come.
+/// It is a type of its own, so that a lock term can't have an unknown subscript: a term then denotes one name, and no
+/// function on terms has an impossible case.
 #[derive(Clone, Drop, Debug, PartialEq, Eq)]
 pub enum KnownSym {
     /// this value
@@ -18,7 +18,7 @@ pub enum KnownSym {
     Job,
 }
 
-// What stands where a list has no subscript yet.
+// The filler of inline slots that hold no subscript yet.
 impl MadeWith<Global> for KnownSym {
     fn made_with(_alloc: Global) -> KnownSym {
         KnownSym::Job

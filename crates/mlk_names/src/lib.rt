@@ -1,4 +1,4 @@
-//! Symbols, lock terms and references: what names stand for in a job, and which of them meet.
+//! Symbols, lock terms and references: what they denote in a job, and which of them meet.
 #![tactic(auto)]
 
 mod actual;

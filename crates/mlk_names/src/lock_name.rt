@@ -14,7 +14,7 @@ pub struct LockName {
 }
 
 impl LockName {
-    /// Whether the name is the other one, or above it. It takes no memory.
+    /// Whether `self` is `other` or above it. Allocates nothing.
     pub fn is_above(&self, other: &LockName) -> bool
         ensures { IsTrue result ↔ IsAbove self.now other.now }
     {
@@ -22,7 +22,7 @@ impl LockName {
     }
 }
 
-/// Whether one of two names is the other, or above it: then two jobs never hold both. It takes no memory.
+/// Whether one of the two names is the other or above it: two jobs never hold both. Allocates nothing.
 pub fn conflict(first: &LockName, second: &LockName) -> bool
     ensures { IsTrue result ↔ Conflict first.now second.now }
 {

@@ -6,7 +6,7 @@ ghost use Rattle.mlk_names.specs.References.{SymsMayMeet, SubsMayMeet, MayOverla
 use crate::reference::{Extent, Reference};
 use crate::symbol::Sym;
 
-// Whether some value may be that of both.
+// Whether both symbols may have the same value.
 fn syms_may_meet(first: &Sym, second: &Sym) -> bool
     ensures { IsTrue result ↔ SymsMayMeet first.now second.now }
 {
@@ -19,7 +19,8 @@ fn syms_may_meet(first: &Sym, second: &Sym) -> bool
     a == b
 }
 
-// Whether subscripts of which one list is empty may reach some that are the same: below a tree alone.
+// Whether two subscript lists, one of which is empty, may reach a common node: if both are empty, or if the reference with
+// the empty one is a tree.
 fn ends_may_meet(first: &[Sym], far: Extent, second: &[Sym], wide: Extent) -> bool
     requires { (length first.now ≡ 0) ⊎ (length second.now ≡ 0) }
     ensures { IsTrue result ↔ SubsMayMeet first.now far second.now wide }
@@ -31,7 +32,7 @@ fn ends_may_meet(first: &[Sym], far: Extent, second: &[Sym], wide: Extent) -> bo
     }
 }
 
-// Whether subscripts that may be the first's reach subscripts that the second's may reach too.
+// Whether the subscripts of both references may reach a common node.
 fn subs_may_meet(first: &[Sym], far: Extent, second: &[Sym], wide: Extent) -> bool
     ensures { IsTrue result ↔ SubsMayMeet first.now far second.now wide }
 {
@@ -46,8 +47,8 @@ fn subs_may_meet(first: &[Sym], far: Extent, second: &[Sym], wide: Extent) -> bo
     ends_may_meet(firsts, far, seconds, wide)
 }
 
-/// Whether the references may reach one node, each subscript that is no constant being any value. It takes no
-/// memory.
+/// Whether both references may reach a common node, if each subscript that is not a constant may have any value. Allocates
+/// nothing.
 pub fn may_overlap(first: &Reference, second: &Reference) -> bool
     ensures { IsTrue result ↔ MayOverlap first.now second.now }
 {

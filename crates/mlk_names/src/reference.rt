@@ -3,12 +3,12 @@
 use crate::symbol::Sym;
 use mlk_text::{Name, Subscripts};
 
-/// How far a reference goes.
+/// How far a reference reaches.
 #[derive(Clone, Copy, Debug, PartialEq, Eq)]
 pub enum Extent {
-    /// the one node
+    /// one node
     Node,
-    /// the node and all below it
+    /// a node and everything below it
     Tree,
 }
 
@@ -19,7 +19,7 @@ pub enum Access {
     Writes,
 }
 
-/// The subscripts of a reference, most of which have up to four.
+/// The subscripts of a reference, usually up to four.
 pub type ReferenceSubs = Subscripts<Sym, 4>;
 
 /// A reference to a global, whose subscripts are symbols.

@@ -1,4 +1,4 @@
-// Symbols: what is known of a subscript without running anything.
+// Symbols: what is known of a subscript without running the code.
 
 ghost use Rattle.std.specs.Prelude.{◌≡◌, IfOk};
 ghost use Rattle.mlk_names.specs.Symbols.{known_of};
@@ -8,10 +8,10 @@ use mlk_text::{Name, Value};
 use std::alloc::{AllocError, Global};
 use std::default::MadeWith;
 
-/// A symbol of a subscript, or of what is passed to an entry.
+/// The symbol of a subscript or of an actual.
 #[derive(Clone, Drop, Debug, PartialEq, Eq)]
 pub enum Sym {
-    /// this value
+    /// a constant
     Const(Value),
     /// the value of a local
     Local(Name),
@@ -22,7 +22,7 @@ pub enum Sym {
 }
 
 impl Sym {
-    /// The same symbol as a known one; none where it stands for any value.
+    /// The same symbol as a `KnownSym`, or `None` if it may have any value.
     pub fn to_known(&self) -> Result<Option<KnownSym>, AllocError>
         ensures { IfOk result (λ found. found ≡ known_of self.now) }
     {
@@ -35,7 +35,7 @@ impl Sym {
     }
 }
 
-// What stands where a list has no subscript yet.
+// The filler of inline slots that hold no subscript yet.
 impl MadeWith<Global> for Sym {
     fn made_with(_alloc: Global) -> Sym {
         Sym::Unknown

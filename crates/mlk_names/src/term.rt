@@ -1,4 +1,4 @@
-// Lock terms: lock names as a routine's text gives them.
+// Lock terms: lock names as the text of a routine spells them.
 
 ghost use Rattle.std.specs.Prelude.{◌↔◌, IsTrue, IsFalse, Contains};
 ghost use Rattle.mlk_names.specs.declared.known_symbol.KnownSym.TheVariants.{Local};
@@ -8,19 +8,19 @@ use crate::known_symbol::KnownSym;
 use crate::list::begins;
 use mlk_text::{Name, Root, Subscripts};
 
-/// The subscripts of a lock term, most of which have one or two.
+/// The subscripts of a lock term, usually one or two.
 pub type TermSubs = Subscripts<KnownSym, 2>;
 
-/// A lock name whose subscripts are symbols, each of which stands for one value.
+/// A lock name whose subscripts are symbols, each of which denotes one value.
 #[derive(Clone, Drop, Debug, PartialEq, Eq)]
 pub struct LockTerm {
     pub root: Root,
     pub subs: TermSubs,
 }
 
-/// Whether the second term is the first with any subscripts after it. It takes no memory.
+/// Whether `second` is `first` followed by any subscripts. Allocates nothing.
 ///
-/// Where it is, the first stands for a name at or above the second's, in each job at each moment.
+/// If so, `first` denotes a name at or above that of `second`, in each job at each moment.
 pub fn prefix(first: &LockTerm, second: &LockTerm) -> bool
     ensures exact { IsTrue result ↔ IsPrefix first.now second.now }
     ensures above { IsTrue result → NamesAbove first.now second.now }
@@ -28,16 +28,16 @@ pub fn prefix(first: &LockTerm, second: &LockTerm) -> bool
     first.root == second.root && begins(first.subs.as_slice(), second.subs.as_slice())
 }
 
-// Whether one of the symbols is this local.
+// Whether one of `symbols` is the local `name`.
 fn has_local(symbols: &[KnownSym], name: &Name) -> bool
     ensures { IsTrue result ↔ Contains symbols.now (Local name.now) }
 {
     symbols.iter().any(|symbol| matches!(symbol, KnownSym::Local(local) if *local == *name))
 }
 
-/// Whether a subscript of the term is this local; the term's own root is no mention. It takes no memory.
+/// Whether a subscript of `term` is the local `name`; the root of `term` does not count. Allocates nothing.
 ///
-/// Where none is, the term stands for the same name whatever value the local has.
+/// If none is, `term` denotes the same name whatever value the local has.
 pub fn mentions(term: &LockTerm, name: &Name) -> bool
     ensures exact { IsTrue result ↔ Mentions term.now name.now }
     ensures without { IsFalse result → NamesWithout term.now name.now }

@@ -56,7 +56,7 @@ canonical-complete text value h =
     let some : nat_lt 0 (length h.before + length h.after) ≡ true = lt-ltb 0 (length h.before + length h.after) h.numeral.some_digit in
     rw (r.0, r.1) (rw (h.numeral.fraction, some, exact-to h.before h.after h.exact) (ap Some (sym same)))
 
--- what finds the canonical text gives this function's
+-- what finds the canonical text agrees with this function
 pub canonical-finds : (text : List ℕ) (o : Option (List ℕ)) → Finds (IsCanonical text) o → canonical_text text ≡ o
 canonical-finds text (Some value) h = canonical-complete text value h
 canonical-finds text None h = go (canonical_text text) refl
@@ -65,7 +65,7 @@ canonical-finds text None h = go (canonical_text text) refl
     go None is = refl
     go (Some value) is = absurd (h value (canonical-sound text value is))
 
--- where there is no canonical text, none is given
+-- if there is no canonical text, the function returns `None`
 pub canonical-none : (text : List ℕ) → ((value : List ℕ) → IsCanonical text value → ⊥) → canonical_text text ≡ None
 canonical-none text h = canonical-finds text None h
 

@@ -1,4 +1,4 @@
--- Each exact literal has a canonical text, and no other.
+-- Each exact literal has exactly one canonical text.
 use Rattle.std.proofs.Common.{◌≡◌, ◌+◌, ◌*◌, ◌%◌, ◌^◌, ℕ, ◌++◌, List, length, take, drop, replicate, true, refl, sym, ap, ◌∙◌, arith, subst, inl, inr, length-append, length-take-le, pow-add}
 use Rattle.std.specs.Prelude.{◌⊎◌}
 use Rattle.std.proofs.lemmas.Bool.{cases_eq}
@@ -28,14 +28,14 @@ fraction-stripped ds =
       ap number_of_digits s.1 ∙ number-append kept (replicate s.0 48) ∙ rw (size, number-zeros s.0) (omega arith),
     )
 
--- what is kept of the digits are digits
+-- the kept digits are digits
 pub kept-whole : (before : List ℕ) → are_digits before ≡ true → are_digits (drop (zeros before) before) ≡ true
 kept-whole before h = (digits-split (replicate (zeros before) 48) (drop (zeros before) before) (subst (λ l. are_digits l ≡ true) (zeros-split before) h)).1
 
 pub kept-fraction : (after : List ℕ) → are_digits after ≡ true → are_digits (take (to_last after) after) ≡ true
 kept-fraction after h = let s = last-split after in (digits-split (take (to_last after) after) (replicate s.0 48) (subst (λ l. are_digits l ≡ true) s.1 h)).0
 
--- and make a fraction in lowest form
+-- and form a fraction in lowest terms
 pub kept-lowest : (before after : List ℕ) → are_digits after ≡ true
     → IsLowest (number_of_digits (drop (zeros before) before ++ take (to_last after) after)) (length (take (to_last after) after))
 kept-lowest before after h = lowest (cases_eq (to_last after) 0)

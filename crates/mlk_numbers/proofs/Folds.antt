@@ -1,4 +1,4 @@
--- What the exact results of operators rest on.
+-- Laws on which the exact results of operators depend.
 use Rattle.std.proofs.Common.{◌≡◌, ◌<◌, ◌^◌, ℕ, ℤ, pos, negsuc, List, Some, None, Option, sym, ap, ◌∙◌, arith, subst, inl, inr, unsigned_abs, ltb-true, to_z, of_z, to_z-of_z, w64}
 use Rattle.std.specs.Prelude.{◌&&◌, option_and_then}
 use Rattle.std.proofs.lemmas.Bool.{cases_Bool}
@@ -13,7 +13,7 @@ pub mag-small : (z : ℤ) → unsigned_abs z < 10 ^ 15 → mag z < 2 ^ 63
 mag-small (pos n) h = omega arith
 mag-small (negsuc n) h = omega arith
 
--- a text is that of one whole number
+-- a text belongs to one whole number
 pub one_whole : (x z : ℤ) (text : List ℕ) → IsWhole x text → IsWhole z text → x ≡ z
 one_whole x z text f g = signed_decimal_injective x z (mag-small x f.0) (mag-small z g.0) (sym f.1 ∙ g.1)
 
@@ -27,14 +27,14 @@ and_then-short : (o : Option ℤ) (z : ℤ) → option_and_then if_short o ≡ S
 and_then-short None z h = cc h
 and_then-short (Some y) z h = short-some y z h
 
--- a result that is given has at most 15 digits
+-- a result has at most 15 digits
 pub folded-short : (op : Op) (x y z : ℤ) → folded op x y ≡ Some z → unsigned_abs z < 10 ^ 15
 folded-short op x y z h = elim (cases_Bool (is_short x && is_short y)) [
   | inl e ↦ and_then-short (exact_result op x y) z (rw e at h)
   | inr e ↦ cc (rw e at h)
 ]
 
--- joining is no arithmetic
+-- joining is not arithmetic
 pub no_number : (x y z : ℤ) → folded Concatenate x y ≡ Some z → ⊥
 no_number x y z h = elim (cases_Bool (is_short x && is_short y)) [
   | inl e ↦ cc (rw e at h)

@@ -13,7 +13,7 @@ use Rattle.mlk_numbers.proofs.Zeros.{zeros-split, zeros-after, zeros-some, last_
 use Rattle.mlk_numbers.proofs.CanonicalTexts.{canonical-made, kept-whole, kept-fraction, kept-lowest}
 use Rattle.mlk_numbers.proofs.Folds as folds
 
--- one factor more on both sides
+-- one more factor on both sides
 cancelled : (a b k : ℕ) → a * 10 ^ k ≡ b * 10 ^ k → a ≡ b
 cancelled a b k h =
     let some : 0 < 10 ^ k = one-le-pow k 10 (omega arith) in
@@ -23,7 +23,7 @@ cancelled a b k h =
     let q : b ≤ a = le_of_mul-le-mul_right right some in
     omega arith
 
--- a pair in lowest form has no more places than an equal one
+-- a pair in lowest terms has no more places than an equal one
 no_more : (m k n j : ℕ) → IsLowest n j → IsEqual m k n j → k < j → ⊥
 no_more m k n j low h less =
     let d : ℕ = j - k in
@@ -48,7 +48,7 @@ pairs-one m k n j f g h = elim (cases_order k j) [
   ]
 ]
 
--- digits of one length and one number are the same
+-- digits of one length that denote one number are the same
 digits-one : (xs ys : List ℕ) → length xs ≡ length ys → are_digits xs ≡ true → are_digits ys ≡ true → number_of_digits xs ≡ number_of_digits ys → xs ≡ ys
 digits-one [] [] size f g h = refl
 digits-one [] (y ∷ ys) size f g h = absurd (omega arith)
@@ -81,7 +81,7 @@ shorter-less xs (y ∷ ys) f g first less =
     let large = first-large y ys g first in
     omega arith
 
--- digits without a leading zero are those of their number alone
+-- digits without a leading zero are determined by their number
 leading-one : (xs ys : List ℕ) → are_digits xs ≡ true → are_digits ys ≡ true → get_or xs 0 0 ≢ 48 → get_or ys 0 0 ≢ 48 → number_of_digits xs ≡ number_of_digits ys → xs ≡ ys
 leading-one xs ys f g first second h = elim (cases_order (length xs) (length ys)) [
   | inl e ↦ digits-one xs ys e f g h
@@ -125,7 +125,7 @@ canonical-one literal text other f g =
     subst (λ n. IsTextOf n f.places other) (sym pair.0) (subst (λ n. IsTextOf g.numerator n other) (sym pair.1) g.spelled) in
     texts-one f.numerator f.places text other f.spelled other-text
 
--- what is left of exact digits without the zeros round them is exact
+-- if the zeros around exact digits are removed, the rest is exact
 significant-inner : (a n : ℕ) (ds : List ℕ) → HasSignificant 15 (replicate a 48 ++ (ds ++ replicate n 48)) → HasSignificant 15 ds
 significant-inner a n ds h =
     let all : List ℕ = ds ++ replicate n 48 in
@@ -143,7 +143,7 @@ significant-inner a n ds h =
           ]
     ])
 
--- digits that are put together as they are make a canonical text
+-- digits that are joined unchanged form a canonical text
 itself : (whole fraction : List ℕ) → are_digits whole ≡ true → are_digits fraction ≡ true → get_or whole 0 0 ≢ 48 → IsExact whole fraction
     → IsLowest (number_of_digits (whole ++ fraction)) (length fraction) → IsCanonical (pointed whole fraction) (pointed whole fraction)
 itself [] [] w f first exact low = record {

@@ -30,7 +30,7 @@ digits-split (d ∷ xs) ys h =
     let r = digits-split xs ys p.1 in
     (digits-more d xs p.0 r.0, r.1)
 
--- the std words for digits and their value
+-- std's functions for digits and their value
 pub own : IsNumeralModel (λ ds. are_digits ds ≡ true) number_of_digits
 own = numerals_by_weight (λ ds. are_digits ds ≡ true) test number_of_digits (search rules)
   where
@@ -65,7 +65,7 @@ digits-take (d ∷ xs) = elim (cases_Bool (is_digit d)) [
   | inr e ↦ rw e refl
 ]
 
--- digits that end at a byte that is none, or at the end
+-- digits that end before another byte, or at the end
 pub digits-front : (ds ys : List ℕ) → are_digits ds ≡ true → digits ys ≡ 0 → (take (digits (ds ++ ys)) (ds ++ ys) ≡ ds) × (drop (digits (ds ++ ys)) (ds ++ ys) ≡ ys)
 digits-front [] ys h none = rw none (refl, refl)
 digits-front (d ∷ ds) ys h none =
@@ -73,7 +73,7 @@ digits-front (d ∷ ds) ys h none =
     let r = digits-front ds ys p.1 none in
     rw (p.0, one-add) (ap (λ l. d ∷ l) r.0, r.1)
 
--- the parts of a literal are found at its point
+-- the parts of a literal are found by its point
 pub numeral-to : (before after text : List ℕ) → IsNumeral before after text → (take (digits text) text ≡ before) × (after_point (drop (digits text) text) ≡ Some after)
 numeral-to before after text h = elim h.spelled [
   | inl e ↦
@@ -102,7 +102,7 @@ numeral-from after text is digits-after some = record {
       | inr e ↦ cc (rw e at point)
     ]
 
--- where no point stands after the digits, no fraction after the point, or no digit at all, there is no literal
+-- without a point after the digits, a fraction after the point, or any digit, there is no literal
 pub no_point : (before after text : List ℕ) → after_point (drop (digits text) text) ≡ None → IsNumeral before after text → ⊥
 no_point before after text none h = none-some after (sym none ∙ (numeral-to before after text h).1)
 
@@ -121,7 +121,7 @@ no_digit found before after text is none h =
     let some = h.some_digit in
     absurd (omega arith)
 
--- the parts of a literal are one pair
+-- a literal has one pair of parts
 pub one_numeral : (before after front back text : List ℕ) → IsNumeral before after text → IsNumeral front back text → (before ≡ front) × (after ≡ back)
 one_numeral before after front back text f g =
     let p = numeral-to before after text f in

@@ -1,4 +1,4 @@
--- What operators make of known texts is what the relations of numbers say.
+-- The results of operators on known texts are those of the relations of numbers.
 use Rattle.std.proofs.Common.{◌≡◌, ◌<◌, ◌≤◌, ◌^◌, ℕ, zero, suc, ℤ, pos, negsuc, true, false, List, [], ◌∷◌, ◌++◌, length, Option, Some, None, refl, sym, ap, ◌∙◌, arith, inl, inr, ⊎_elim, unsigned_abs, ltb-true, decimal}
 use Rattle.std.specs.Prelude.{◌==◌, nat_lt, nat_le, neg_ℤ, option_map, option_and_then, bytes_eq, codes}
 use Rattle.std.specs.Fmt.{signed_decimal}
@@ -46,7 +46,7 @@ number_back : (z : ℤ) → unsigned_abs z < 10 ^ 15 → number_in (signed_decim
 number_back (pos n) h = unsigned_in (decimal n) (decimal-plain n h).shape ∙ ap pos (digits_back n h)
 number_back (negsuc n) h = ap (λ m. neg_ℤ (pos m)) (digits_back (suc n) h)
 
--- a text has the number whose one text it is
+-- a text has the number whose only text it is
 whole_some : (z : ℤ) (text : List ℕ) → IsWhole z text → whole text ≡ Some z
 unfolding whole
 whole_some z text h =
@@ -99,7 +99,7 @@ joined_is a b (Some t) (inl (e, is, few)) =
     rw fits (ap Some is)
 joined_is a b (Some t) (inr (x, y, z, f, g, k, w)) = absurd (no_number x y z k)
 
--- the fold of two texts is the one that the relation gives
+-- the fold of two texts is the one of the relation
 pub between_is : (op : Op) (a b : List ℕ) (found : Option (List ℕ)) → Finds (IsFold op a b) found → found ≡ fold_between op a b
 unfolding fold_between
 between_is Concatenate a b found h = joined_is a b found h

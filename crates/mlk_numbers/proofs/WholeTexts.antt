@@ -11,7 +11,7 @@ use Rattle.mlk_numbers.specs.Folding.{IsPlain, IsWhole}
 use Rattle.mlk_text.proofs.Lexemes.{byte-is}
 use Rattle.mlk_numbers.proofs.Numerals.{own, digits-split, number-append, number-below}
 
--- the number of some more digits
+-- the number of one more digit
 pub number_more : (ds : List ℕ) (i : ℕ) → i < length ds → number_of_digits (take (i + 1) ds) ≡ 10 * number_of_digits (take i ds) + (get_or ds i 0 - 48)
 number_more ds i h =
     let last : List ℕ = get_or ds i 0 ∷ [] in
@@ -48,7 +48,7 @@ decimal-plain n h = record {
 pub digit_within : (ds : List ℕ) (i : ℕ) → are_digits ds ≡ true → i < length ds → (48 ≤ get_or ds i 0) × (get_or ds i 0 ≤ 57)
 digit_within ds i h l = digit_at ds i (own.to ds h) l
 
--- where no digits of a number stand after a sign, but those of 0, there is no text of a whole number
+-- if a sign is followed only by the digits of 0, or by none of a number, the text is not that of a whole number
 pub not_negative : (text digits : List ℕ) → ((n : ℕ) → n < 10 ^ 15 → digits ≡ decimal n → 0 < n → ⊥) → (byte_at 45 text ≡ Some (45, digits)) → (z : ℤ) → IsWhole z text → ⊥
 not_negative text digits none signed (negsuc n) h =
     let same = same_Some (45, digits) (45, decimal (suc n)) (sym signed ∙ ap (byte_at 45) h.1) in

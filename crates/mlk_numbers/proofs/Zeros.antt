@@ -33,7 +33,7 @@ pub zeros-after : (n : ℕ) (ds : List ℕ) → zeros (replicate n 48 ++ ds) ≡
 zeros-after zero ds = omega arith
 zeros-after (suc n) ds = rw (zeros-after n ds) (omega arith)
 
--- of two lists together: where the first are zeros alone, and where they are not
+-- two lists together: if the first consists of zeros, and if it does not
 pub zeros-all : (xs ys : List ℕ) → zeros xs ≡ length xs → zeros (xs ++ ys) ≡ zeros xs + zeros ys
 zeros-all [] ys h = omega arith
 zeros-all (d ∷ xs) ys h = elim (cases_Bool (d == 48)) [
@@ -54,7 +54,7 @@ zeros-some (d ∷ xs) ys h = elim (cases_Bool (d == 48)) [
   | inr e ↦ rw e refl
 ]
 
--- digits are what stands up to the last that is no zero, and zeros
+-- digits are the part up to the last that is no zero, and zeros
 pub last_within : (ds : List ℕ) → to_last ds ≤ length ds
 last_within [] = omega arith
 last_within (d ∷ ds) = elim (cases_Bool ((d == 48) && (to_last ds == 0))) [
@@ -96,7 +96,7 @@ last-zeros (suc n) = rw (last-zeros n) refl
 pub last-after : (xs : List ℕ) (n : ℕ) → to_last (xs ++ replicate n 48) ≡ to_last xs
 last-after xs n = last_append xs (replicate n 48) ∙ rw (last-zeros n) refl
 
--- what stands before more digits is a multiple of ten
+-- a number that is followed by more digits contributes a multiple of ten
 pub tens : (a v k : ℕ) → 0 < k → (a * 10 ^ k + v) % 10 ≡ v % 10
 tens a v zero h = absurd (omega arith)
 tens a v (suc k) h = rw (pow-suc 10 k) (omega arith)
@@ -122,7 +122,7 @@ last-digit (d ∷ ds) h some = elim (cases_Bool (to_last ds == 0)) [
       subst (λ n. number_of_digits (take n (d ∷ ds)) % 10 ≢ 0) (sym (last-more d ds (eqb-false (to_last ds) 0 e))) (λ bad. more (sym same ∙ bad))
 ]
 
--- At most so many significant digits: as the code counts them.
+-- At most `most` significant digits, as the code counts them.
 pub significant-from : (most : ℕ) (ds : List ℕ) → to_last ds ≤ zeros ds + most → HasSignificant most ds
 significant-from most ds h =
     let rest = drop (zeros ds) ds in

@@ -1,5 +1,5 @@
--- The canonical text of a literal as a function of the literal, for definitions that read texts. That it is the one of
--- `IsCanonical` is a law (`GivesCanonical`).
+-- The canonical text of a literal as a function of the literal, for definitions that read texts. A law (`GivesCanonical`)
+-- says that it is that of `IsCanonical`.
 use Rattle.std.specs.Prelude.{ℕ, ◌+◌, ◌&&◌, nat_le, nat_lt, if◌then◌else◌, Bool, List, ◌++◌, length, Option, Some, None, take, drop}
 use Rattle.mlk_text.specs.Lexemes.{digits, zeros, to_last, are_digits}
 use Rattle.mlk_numbers.specs.Numbers.{pointed, after_point}
@@ -14,6 +14,6 @@ canonical_by before (Some after) =
     if are_digits after && nat_lt 0 (length before + length after) && are_exact before after
     then Some (pointed (drop (zeros before) before) (take (to_last after) after)) else None
 
--- none where the text is no exact literal
+-- none if the text is not an exact literal
 unfoldable pub canonical_text : List ℕ → Option (List ℕ)
 canonical_text literal = canonical_by (take (digits literal) literal) (after_point (drop (digits literal) literal))

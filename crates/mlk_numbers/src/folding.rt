@@ -1,4 +1,4 @@
-// What operators give where the result is exact.
+// Exact results of operators.
 
 ghost use Rattle.std.specs.Prelude.{◌≡◌, ◌<◌, ◌≤◌, ◌^◌, ℕ, true, length, ℤ, List, pos, neg_ℤ, unsigned_abs, decimal, Decides, IfOk, MatchOption};
 ghost use Rattle.std.specs.Fmt.{signed_decimal};
@@ -16,7 +16,7 @@ use std::alloc::{AllocError, Global};
 
 const LIMIT: i64 = 1_000_000_000_000_000;
 
-// The number that digits denote.
+// The number that `digits` denote.
 fn number_of(digits: &[u8]) -> u64
     requires shape { are_digits digits.now ≡ true }
     requires short { length digits.now ≤ 15 }
@@ -29,7 +29,7 @@ fn number_of(digits: &[u8]) -> u64
     number
 }
 
-// Whether these are at most 15 digits without a leading zero.
+// Whether `digits` are 1 to 15 digits without a leading zero.
 fn is_plain(digits: &[u8]) -> bool
     ensures { Decides result (IsPlain digits.now) }
 {
@@ -39,7 +39,7 @@ fn is_plain(digits: &[u8]) -> bool
     digits[0] != b'0' || digits.len() == 1
 }
 
-// The number of digits without a leading zero.
+// The number that `digits` denote, or `None` unless they are 1 to 15 digits without a leading zero.
 fn magnitude(digits: &[u8]) -> Option<u64>
     ensures { Finds (λ n. (n < 10 ^ 15) × (digits.now ≡ decimal n)) result }
 {
@@ -50,7 +50,7 @@ fn magnitude(digits: &[u8]) -> Option<u64>
     }
 }
 
-/// The number of a canonical whole-number text of at most 15 digits.
+/// The number whose canonical text is `text`, or `None` if `text` is not a whole number of at most 15 digits.
 pub fn whole(text: &[u8]) -> Option<i64>
     ensures { Finds (λ z. IsWhole z text.now) result }
 {
@@ -71,7 +71,7 @@ fn is_short(number: i64) -> bool
     -LIMIT < number && number < LIMIT
 }
 
-/// The exact sum, difference or product, where operands and result have at most 15 digits.
+/// The exact sum, difference or product, or `None` if an operand or the result has more than 15 digits.
 pub fn fold_number(op: Op, a: i64, b: i64) -> Option<i64>
     ensures { result ≡ folded op a b }
 {
@@ -87,7 +87,7 @@ pub fn fold_number(op: Op, a: i64, b: i64) -> Option<i64>
     if is_short(answer) { Some(answer) } else { None }
 }
 
-// The text of a whole number.
+// The text of the whole number `number`.
 fn text_of(alloc: Global, number: i64) -> Result<Value, AllocError>
     ensures { IfOk result (λ v. v ≡ signed_decimal number) }
 {
@@ -107,7 +107,7 @@ fn joined(alloc: Global, a: &Value, b: &Value) -> Result<Option<Value>, AllocErr
     Ok(Some(Value::new(text)))
 }
 
-// The exact result of an operator between two texts of whole numbers.
+// The exact result of `op` on the texts of two whole numbers, or `None` if there is none.
 fn fold_texts(op: Op, a: &Value, b: &Value) -> Option<i64>
     ensures { Finds (λ z. (x y : ℤ) × IsWhole x a.now × IsWhole y b.now × (folded op x y ≡ Some z)) result }
 {
@@ -116,7 +116,7 @@ fn fold_texts(op: Op, a: &Value, b: &Value) -> Option<i64>
     fold_number(op, x, y)
 }
 
-// The exact result of an operator between two texts.
+// The exact result of `op` on two texts, or `None` if there is none.
 fn exact(alloc: Global, op: Op, a: &Value, b: &Value) -> Result<Option<Value>, AllocError>
     ensures { IfOk result (Finds (IsFold op a.now b.now)) }
 {
@@ -129,8 +129,8 @@ fn exact(alloc: Global, op: Op, a: &Value, b: &Value) -> Result<Option<Value>, A
     Ok(Some(text_of(alloc, answer)?))
 }
 
-/// What an operator gives of two values, where that is exact: sums, differences and products of whole numbers of at
-/// most 15 digits, and joined texts of at most 255 bytes.
+/// The result of `op` on two values, or `None` if it is not exact. Exact are sums, differences and products of whole numbers
+/// of at most 15 digits, and joined texts of at most 255 bytes.
 pub fn fold(alloc: Global, op: Op, a: &Value, b: &Value) -> Result<Option<Value>, AllocError>
     ensures { IfOk result (λ v. v ≡ fold_between op a.now b.now) }
 {
@@ -147,7 +147,7 @@ fn negated(alloc: Global, a: &Value) -> Result<Option<Value>, AllocError>
     Ok(Some(text_of(alloc, -number)?))
 }
 
-// `0` becomes `1`, and `1` becomes `0`.
+// Turns `0` into `1` and `1` into `0`; `None` for any other text.
 fn opposite(alloc: Global, a: &Value) -> Result<Option<Value>, AllocError>
     ensures { IfOk result (Finds (IsUnaryFold UnaryOp.Not a.now)) }
 {
@@ -159,7 +159,7 @@ fn opposite(alloc: Global, a: &Value) -> Result<Option<Value>, AllocError>
     Ok(Some(Value::of(alloc, opposite)?))
 }
 
-// The exact result of an operator before a text.
+// The exact result of the unary operator `op` on a text, or `None` if there is none.
 fn exact_unary(alloc: Global, op: UnaryOp, a: &Value) -> Result<Option<Value>, AllocError>
     ensures { IfOk result (Finds (IsUnaryFold op a.now)) }
 {
@@ -173,8 +173,8 @@ fn exact_unary(alloc: Global, op: UnaryOp, a: &Value) -> Result<Option<Value>, A
     }
 }
 
-/// What an operator gives of one value, where that is exact: `+` and `-` of a whole number of at most 15 digits, `'` of
-/// `0` and `1`.
+/// The result of the unary operator `op` on a value, or `None` if it is not exact. Exact are `+` and `-` of a whole number of
+/// at most 15 digits, and `'` of `0` and `1`.
 pub fn fold_unary(alloc: Global, op: UnaryOp, a: &Value) -> Result<Option<Value>, AllocError>
     ensures { IfOk result (λ v. v ≡ fold_before op a.now) }
 {

@@ -1,4 +1,4 @@
-//! Numbers as values: the canonical text of a literal, and what operators give where that is exact.
+//! Numbers as values: canonical texts of literals, and exact results of operators.
 #![tactic(auto)]
 
 mod folding;

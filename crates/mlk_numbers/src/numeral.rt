@@ -12,7 +12,7 @@ use mlk_text::limit::{MOST_DIGITS, MOST_SIGNIFICANT};
 use mlk_text::literal::{to_last, zeros};
 use std::alloc::{AllocError, Global};
 
-/// Whether these are digits and nothing else.
+/// Whether `bytes` are digits only.
 pub(crate) fn are_digits(bytes: &[u8]) -> bool
     ensures { result ≡ are_digits bytes.now }
 {
@@ -25,7 +25,7 @@ fn has_digit(before: &[u8], after: &[u8]) -> bool
     !before.is_empty() || !after.is_empty()
 }
 
-// The digits after a point, or none where nothing stands there.
+// The digits after the point, none if `bytes` are empty; `None` if something else than a point follows.
 fn after_point(bytes: &[u8]) -> Option<&[u8]>
     ensures { option_map (λ x. x.now) result ≡ after_point bytes.now }
 {
@@ -35,7 +35,7 @@ fn after_point(bytes: &[u8]) -> Option<&[u8]>
     byte_of(b'.', bytes)
 }
 
-// The digits before and after the point.
+// The digits before and after the point, or `None` if `literal` is not a numeral.
 fn parts(literal: &[u8]) -> Option<(&[u8], &[u8])>
     ensures { MatchOption result ((before after : List ℕ) → IsNumeral before after literal.now → ⊥)
         (λ p. IsNumeral p.0.now p.1.now literal.now) }
@@ -48,7 +48,7 @@ fn parts(literal: &[u8]) -> Option<(&[u8], &[u8])>
     Some((before, after))
 }
 
-// How many zeros stand at the front of both together.
+// The number of zeros at the front of `before` and `after` joined.
 fn leading_zeros(before: &[u8], after: &[u8]) -> usize
     requires { length before.now + length after.now ≤ 50 }
     ensures { result ≡ zeros (before.now ++ after.now) }
@@ -61,7 +61,7 @@ fn leading_zeros(before: &[u8], after: &[u8]) -> usize
     }
 }
 
-// How many digits of both together stand up to the last that is no zero.
+// The number of digits of `before` and `after` joined, up to the last nonzero digit.
 #[tactic(auto, using(crate::proofs::Zeros::last_append, crate::proofs::Zeros::last_within))]
 fn up_to_last(before: &[u8], after: &[u8]) -> usize
     requires { length before.now + length after.now ≤ 50 }
@@ -87,7 +87,7 @@ fn is_exact(before: &[u8], after: &[u8]) -> bool
     up_to_last(before, after) <= leading_zeros(before, after) + MOST_SIGNIFICANT
 }
 
-// The digits with a point between them, where there is a fraction.
+// Joins the digits with a point, or returns `before` alone if there is no fraction.
 fn pointed(alloc: Global, before: &[u8], after: &[u8]) -> Result<Value, AllocError>
     ensures { IfOk result (λ v. v ≡ pointed before.now after.now) }
 {
@@ -103,7 +103,7 @@ fn pointed(alloc: Global, before: &[u8], after: &[u8]) -> Result<Value, AllocErr
     Value::of(alloc, before)
 }
 
-/// The canonical text of a numeric literal.
+/// The canonical text of the numeric literal `literal`, or `None` if it has none.
 #[tactic(auto, using(crate::proofs::Zeros::last_within))]
 pub fn canonical(alloc: Global, literal: &[u8]) -> Result<Option<Value>, AllocError>
     ensures found { IfOk result (Finds (IsCanonical literal.now)) }

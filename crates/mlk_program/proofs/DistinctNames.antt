@@ -1,4 +1,4 @@
--- Routines whose names differ.
+-- Routines with different names.
 use Rattle.std.proofs.Common.{◌≡◌, ◌≢◌, ◌<◌, ◌+◌, ◌⊎◌, inl, inr, refl, sym, ap, subst, ◌∙◌, ℕ, zero, suc, List, [], ◌∷◌, ◌++◌, map, ⊎_elim, arith, take, drop, length, get_or, Option, Some, None, Bool, true, false, add-one, take-append-drop, length-take-le, le_of_lt}
 use Rattle.std.specs.Prelude.{Contains, position, option_map, bytes_eq, not, nat_eq}
 use Rattle.std.specs.Option.{option_eq}
@@ -24,7 +24,7 @@ use Rattle.mlk_program.specs.Tables.{trees}
 use Rattle.mlk_program.proofs.NameTables.{position-cons, drop_at}
 use Rattle.mlk_program.proofs.Directories.{position-map}
 
--- the place of what passes a test, after others
+-- the index of the first element that passes a test, after others
 module _ {A : Type 0} (p : A → Bool) (x : A) (after : List A) (passes : p x ≡ true) where
   abbrev Split : List A → Type 0
   Split before = ((list_any p before ≡ true) × (position p (before ++ x ∷ after) ≢ Some (length before)))
@@ -52,7 +52,7 @@ module _ {A : Type 0} (p : A → Bool) (x : A) (after : List A) (passes : p x �
           (λ h. inr (rw e h.0, one ∙ ap (option_map suc) h.1))
           more
 
--- whether a place was found
+-- whether an index was found
 pub is_place : (o : Option ℕ) (i : ℕ) → false ≡ not (option_eq nat_eq o (Some i)) → o ≡ Some i
 is_place None i h = cc h
 is_place (Some j) i h = ap Some (grind (arith, nat_tests, h))
@@ -67,7 +67,7 @@ no_place (Some j) i h k = go (come j i k) h
     go : j ≡ i → true ≡ not (nat_eq j i) → ⊥
     go same t = grind (arith, nat_tests, same, t)
 
--- what is said of a fault, where there is one
+-- from one property of a fault to another
 pub refused_map : (e : Failure Fault) (P Q : Fault → Type 0) → ((f : Fault) → P f → Q f) → IfRefused e P → IfRefused e Q
 refused_map OutOfMemory P Q turn h = tt
 refused_map (Refused f) P Q turn h = turn f h
@@ -94,7 +94,7 @@ distinct_more (m ∷ ns) n d new =
     go (inl c) = d.0 c
     go (inr one) = new (subst (Contains (m ∷ ns)) (sym (in_one n m one)) (here m ns))
 
--- routines before, one of them, and those after
+-- the routines before one, that one, and those after
 module _ (routines : List Routine) (i : ℕ) (x : Routine) (low : i < length routines) (is : x ≡ get_or routines i x) where
   pub cut : routines ≡ take i routines ++ x ∷ drop (i + 1) routines
   cut = sym (take-append-drop i routines) ∙ ap (λ more. take i routines ++ more) (drop_at routines i x low is)

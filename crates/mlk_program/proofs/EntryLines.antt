@@ -26,7 +26,7 @@ drop-map zero lines = refl
 drop-map (suc n) [] = refl
 drop-map (suc n) (l ∷ lines) = drop-map n lines
 
--- so many lines after the first
+-- the first line and `n` more
 pub take_within : (l : Line) (later lines : List Line) (n : ℕ) → lines ≡ l ∷ later
     → take (1 + min n (length later)) lines ≡ take (suc n) lines
 take_within l later lines n is = rw is (one_more l later (min n (length later)) ∙ ap (λ m. l ∷ m) (least later n))

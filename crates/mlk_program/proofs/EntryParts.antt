@@ -32,7 +32,7 @@ later_here (x ∷ xs) (suc n) l others h = later_here xs n l others h
 same_some : {A : Type 0} {x y : A} → Some x ≡ Some y → x ≡ y
 same_some q = cc q
 
--- the part of a line that is there
+-- the part of a line that exists
 pub part_some : (routines : List Routine) (e : EntryId) (r : Routine) (l : Line) (others : List Line) (later : ℕ)
     → slice_get routines e.routine ≡ Some r → drop e.line r.lines.items ≡ l ∷ others → Some later ≡ later_of routines e
     → record { routine = e.routine; past = length (drop later others); left = length (drop e.line r.lines.items) } ≡ part_of routines e
@@ -43,7 +43,7 @@ part_some routines e r l others later is here count =
     let past : length (drop later others) ≡ past_of others = ap (λ n. length (drop n others)) (sym same) ∙ past_is others in
     rw (is, here) (ap (λ p. record { routine = e.routine; past = p; left = suc (length others) }) past)
 
--- that of none
+-- the part if there is no routine
 pub part_none : (routines : List Routine) (e : EntryId) → slice_get routines e.routine ≡ None
     → record { routine = e.routine; past = 0; left = 0 } ≡ part_of routines e
 part_none routines e is = rw is refl
@@ -52,7 +52,7 @@ pub part_past : (routines : List Routine) (e : EntryId) (r : Routine) → slice_
     → drop e.line r.lines.items ≡ [] → record { routine = e.routine; past = 0; left = 0 } ≡ part_of routines e
 part_past routines e r is past = rw (is, past) refl
 
--- a line that is there has a count
+-- a line that exists has a count
 pub part_counted : (routines : List Routine) (e : EntryId) (r : Routine) (l : Line) (others : List Line)
     → slice_get routines e.routine ≡ Some r → drop e.line r.lines.items ≡ l ∷ others → None ≡ later_of routines e
     → record { routine = e.routine; past = 0; left = 0 } ≡ part_of routines e

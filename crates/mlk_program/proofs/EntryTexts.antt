@@ -18,7 +18,7 @@ use Rattle.mlk_program.proofs.NameTables.{position-cons}
 one_place : (m n : ℕ) → Some m ≡ Some n → m ≡ n
 one_place m n h = cc h
 
--- what stands at the place of the first that passes a test
+-- the element at the index of the first that passes a test
 module _ {A : Type 0} (p : A → Bool) where
   abbrev Passes : List A → ℕ → Type 0
   Passes xs n = (x : A) × (slice_get xs n ≡ Some x) × (p x ≡ true)
@@ -80,7 +80,7 @@ module _ (routines : List RoutineTree) (r : ℕ) (label : Option (List ℕ)) (e 
       routine None is k = cc k
       routine (Some tree) is k = line tree (line_named label (lines_in tree)) is refl k
 
--- a line that a label names is there
+-- a line that a label names exists
 named_line : (label : Option (List ℕ)) (lines : List (HeadTree × LineTrees)) (n : ℕ) → line_named label lines ≡ Some n
     → (l : HeadTree × LineTrees) × (slice_get lines n ≡ Some l)
 named_line None lines n h = let found = first_passes (λ l. true) lines n h in (found.0, found.1)
@@ -127,7 +127,7 @@ among tree (q ∷ ts) (suc k, low, is) =
     let less = more.1 in
     (suc more.0, omega (arith, less), more.2)
 
--- a routine's name names it, where no two have one name
+-- a routine's name names it, if no two routines have the same name
 first_named : (routines : List RoutineTree) (r : ℕ) (tree : RoutineTree) → AreDistinct (map name_of routines)
     → slice_get routines r ≡ Some tree → routine_named routines (name_of tree) ≡ Some r
 first_named [] r tree d h = cc h
@@ -153,13 +153,13 @@ distinct_names : (routines : List RoutineTree) → IsProgram routines → AreDis
 unfolding IsProgram
 distinct_names routines h = h.0
 
--- a label that is written as such is asked for
+-- a label that is spelled as one is looked up
 label_asked : (label : List ℕ) → IsLabel label → asked label ≡ Some label
 label_asked [] (inl name) = cc name
 label_asked [] (inr digits) = let low = digits.1 in absurd (omega (arith, low))
 label_asked (b ∷ label) h = refl
 
--- the text that a line's label and a routine's name make
+-- the text of a line's label and a routine's name
 abbrev pub label_text : Option (List ℕ) → List ℕ
 label_text None = []
 label_text (Some label) = label
@@ -172,7 +172,7 @@ text_read (Some label) name named spelled = (
   label_asked label (spelled label refl),
 )
 
--- a line is named by its own label, or without one where it has none
+-- a line is named by its own label, or without one if it has none
 own_label : (label : Option (List ℕ)) (lines : List (HeadTree × LineTrees)) (n : ℕ) (l : HeadTree × LineTrees)
     → line_named label lines ≡ Some n → slice_get lines n ≡ Some l → line_named (label_of l.0) lines ≡ Some n
 own_label label lines n l h is = go label (label_of l.0) refl h

@@ -45,7 +45,7 @@ pub as_list_same : (given : List ActualTree) → as_list (actuals_from given) �
 as_list_same [] = refl
 as_list_same (a ∷ given) = ap (λ more. a ∷ more) (as_list_same given)
 
--- The calls in what an expression of the code is made of.
+-- The calls in the parts of an expression of the code.
 pub of_func : (f : Function) (v : Vec Expr Global) → of_expr (rust.Func f v) ≡ flat_map of_expr v.items
 of_func f v = ap in_tree (tree_func f v) ∙ trees_flat v.items
 
@@ -79,7 +79,7 @@ of_list column callee v = ap in_tree (tree_call column callee v)
     (as_list_same (actual_trees v.items))
     ∙ ap (λ more. Called column callee.value (Some (actual_trees v.items)) ∷ more) (actuals_flat v.items)
 
--- first these are added, then those
+-- first the ones are added, then the others
 pub finds_both : (a b : List CallTree) (old mid new : List CallSite) → Finds a old mid → Finds b mid new
     → Finds (a ++ b) old new
 finds_both a b old mid new h k = k ∙ ap (λ s. s ++ b) h ∙ append_assoc (map site_of old) a b
@@ -94,7 +94,7 @@ finds_call e column callee o v old mid new is some h k =
     (finds_both (Called column callee.value (Some (actual_trees v.items)) ∷ []) (flat_map of_actual v.items) old mid new
     (subst (λ p. Finds (Called column callee.value (given_of p) ∷ []) old mid) some h) k)
 
--- the calls of what lists are made of
+-- the calls of the elements of lists
 pub calls_of_map : {A B : Type 0} (calls : B → List CallTree) (view : A → B) (xs : List A)
     → flat_map calls (map view xs) ≡ flat_map (λ x. calls (view x)) xs
 calls_of_map calls view [] = refl
@@ -104,7 +104,7 @@ pub finds_all : {A B : Type 0} (calls : B → List CallTree) (view : A → B) (x
     → Finds (flat_map (λ x. calls (view x)) xs) old new → Finds (flat_map calls (map view xs)) old new
 finds_all calls view xs old new h = h ∙ ap (λ c. map site_of old ++ c) (sym (calls_of_map calls view xs))
 
--- those of a list, and then others; others, and then those of a list
+-- those of a list, then others; others, then those of a list
 pub finds_all_then : {A B : Type 0} (calls : B → List CallTree) (view : A → B) (xs : List A) (b : List CallTree)
     (old mid new : List CallSite) → Finds (flat_map (λ x. calls (view x)) xs) old mid → Finds b mid new
     → Finds (flat_map calls (map view xs) ++ b) old new

@@ -30,7 +30,7 @@ kept_formals e name (f ∷ fs) =
     ap (λ b. b || is_kept (map entry_name fs) (entry_name (e, name))) (and_moved (e.routine == f.0.routine) (e.line == f.0.line) (bytes_eq name f.1))
     ∙ ap (λ b. is_formal e name f || b) (kept_formals e name fs)
 
--- the names that a line passes, of which all answer, or none
+-- the names that a line passes, all of which answer, or none
 same_number : (n : ℕ) → (n == n) ≡ true
 same_number n = grind (arith, nat_tests)
 
@@ -76,7 +76,7 @@ is_less a b h = grind (arith, nat_tests)
 earlier_line : (q : NameAt) (left : ℕ) (n : List ℕ) (part : RoutinePart) → left < part.left → answers q left (part_name part n) ≡ false
 earlier_line q left n part h = rw (is_less left part.left h) (and_false (same_name q (part_name part n).0))
 
--- what other routines pass answers for none of one
+-- what other routines pass does not answer for this one
 differ : (a b : ℕ) → a < b → (a == b) ≡ false
 differ a b h = grind (arith, nat_tests)
 
@@ -157,7 +157,7 @@ itself n = omega (arith)
 one_more : (n : ℕ) → 1 + n ≡ suc n
 one_more n = omega (arith)
 
--- what comes first of a list, with one more before
+-- the first elements of a list that pass a test, with one more before them
 while_more : {A : Type 0} (test : A → Bool) (x : A) (xs : List A) → test x ≡ true → take_while test (x ∷ xs) ≡ x ∷ take_while test xs
 while_more test x xs h = rw h (ap (λ n. take n (x ∷ xs)) (one_more (prefix_len test xs)))
 
@@ -273,7 +273,7 @@ part_routine : (r : ℕ) (lines : List Line) → (part_with r lines).routine ≡
 part_routine r [] = refl
 part_routine r (l ∷ later) = refl
 
--- what is kept of a program answers what is shared in an entry
+-- what is kept of a program answers whether an entry shares a name
 pub shared_in : (routines : List Routine) (frames : Kept) (e : EntryId) (name : List ℕ)
     → Learns (fillings (trees routines) (calls_of (trees routines))) (passed_from 0 routines) ([], []) frames
     → (is_kept frames.0 (e.routine, e.line, name)

@@ -1,4 +1,4 @@
--- Tables of names at places.
+-- Tables of names at indexes.
 use Rattle.std.proofs.Common.{◌≡◌, ◌≤◌, ◌<◌, ℕ, Bool, true, false, List, [], ◌∷◌, ◌++◌, Option, Some, None, refl, sym, ap, ◌∙◌, ⊎_elim, arith, true≢false}
 use Rattle.std.specs.Prelude.{◌||◌, ◌&&◌, ◌==◌, nat_le, bytes_eq, if◌then◌else◌}
 use Rattle.std.specs.List.{list_any}
@@ -41,14 +41,14 @@ keys_snoc : (keys : List Key) (k : Key) → keys_of (keys ++ k ∷ []) ≡ keys_
 keys_snoc [] k = refl
 keys_snoc (x ∷ keys) k = ap (λ more. key_of x ∷ more) (keys_snoc keys k)
 
--- of two tests that are one, the second is asked in vain
+-- if two tests are equal, the second adds nothing
 first_kept : (a b : Bool) (v w l : Option ℕ) → a ≡ b → (if b then v else l) ≡ (if a then v else (if b then w else l))
 first_kept true true v w l h = refl
 first_kept true false v w l h = absurd (true≢false h)
 first_kept false true v w l h = absurd (true≢false (sym h))
 first_kept false false v w l h = refl
 
--- where keys are compared as the names at places that they are
+-- if keys are compared as the names that they are
 module _ (eq : Key → Key → Bool) (is : (a b : Key) → eq a b ≡ same_name (key_of a) (key_of b)) where
   pub any_keys : (q : Key) (keys : List Key) → list_any (eq q) keys ≡ is_kept (keys_of keys) (key_of q)
   any_keys q [] = refl
@@ -96,7 +96,7 @@ module _ (eq : Key → Key → Bool) (is : (a b : Key) → eq a b ≡ same_name 
           (λ s. s)
           (cases_Bool (same_name r (key_of a)))
 
--- a name that is passed in a line, where it is in that or a later one of its part
+-- a name that is passed in a line, if it is in that or a later one of its part
 not_below : (a b : ℕ) → nat_le b a ≡ true → b ≤ a
 not_below a b h = grind (arith, nat_tests)
 
@@ -146,7 +146,7 @@ passed_now pairs new key left h is q more = ⊎_elim
 pub same_keys : (a b : Key) → key_eq.eq-value.it a b ≡ same_name (key_of a) (key_of b)
 same_keys a b = refl
 
--- one formal is added, and one name that is passed
+-- one formal is added, and one passed name
 module _ (eq : Key → Key → Bool) (is : (a b : Key) → eq a b ≡ same_name (key_of a) (key_of b)) where
   pub learns_filled : (keys new : List Key) (entries : List (Key × ℕ)) (k : Key) → new ≡ insert_key eq keys k
       → Learns (key_of k ∷ []) [] (keys_of keys, pairs_of entries) (keys_of new, pairs_of entries)

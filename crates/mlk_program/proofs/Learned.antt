@@ -40,7 +40,7 @@ or_turned false false false = refl
 pub learns_none : (kept : Kept) → Learns [] [] kept kept
 learns_none kept = ((λ q. or_none (is_kept kept.0 q)), (λ q left. or_none (is_passed kept.1 q left)))
 
--- first these, then those
+-- first the ones, then the others
 pub learns_both : (f g : List NameAt) (p r : List (NameAt × ℕ)) (old mid new : Kept) → Learns f p old mid → Learns g r mid new
     → Learns (f ++ g) (p ++ r) old new
 learns_both f g p r old mid new h k = (
@@ -51,7 +51,7 @@ learns_both f g p r old mid new h k = (
       ∙ ap (λ b. is_passed old.1 q left || b) (sym (list_any-append (answers q left) p r))),
 )
 
--- those that stand before are found after
+-- what is learned in one order is learned in the other
 pub learns_before : (f g : List NameAt) (p r : List (NameAt × ℕ)) (old mid new : Kept) → Learns f p old mid → Learns g r mid new
     → Learns (g ++ f) (r ++ p) old new
 learns_before f g p r old mid new h k = (
@@ -79,7 +79,7 @@ pub learns_calls : (rs : List RoutineTree) (part : RoutinePart) (a b : List Plac
 learns_calls rs part a b old mid new h k = rw (fillings_both rs a b, passings_both part a b)
     (learns_both (fillings rs a) (fillings rs b) (passings part a) (passings part b) old mid new h k)
 
--- the calls of one item more
+-- the calls of one more item
 module _ {A : Type 0} (calls : A → List PlacedCall) (rs : List RoutineTree) (part : RoutinePart) (items : List A) (i : ℕ) (x : A)
     (low : i < length items) (is : x ≡ get_or items i x) where
   pub learns_next : (old mid new : Kept) → LearnsCalls rs part (flat_map calls (take i items)) old mid
@@ -92,7 +92,7 @@ module _ {A : Type 0} (calls : A → List PlacedCall) (rs : List RoutineTree) (p
       ∙ ap (λ more. flat_map calls (take i items) ++ more) (append-nil (calls x)) in
       subst (λ c. LearnsCalls rs part c old new) (sym parts) (learns_calls rs part _ (calls x) old mid new h k)
 
--- calls put before others
+-- calls before others
 pub learns_routine : (rs : List RoutineTree) (a rest : List PlacedCall) (r p : List (NameAt × ℕ))
     (old mid new : Kept) → Learns (fillings rs rest) p old mid → Learns (fillings rs a) r mid new
     → Learns (fillings rs (a ++ rest)) (r ++ p) old new
@@ -114,7 +114,7 @@ none_received (f ∷ formals) (Given t ∷ given) h = none_received formals give
 none_received (f ∷ formals) (Missing ∷ given) h = none_received formals given h
 none_received (f ∷ formals) (ByRef column name ∷ given) h = cc h
 
--- one actual more
+-- one more actual
 pub passed_next : (part : RoutinePart) (given : List Actual) (i : ℕ) (a : Actual) (old mid new : Kept) → i < length given
     → a ≡ get_or given i a → Learns [] (passed_by_list part (actual_trees (take i given))) old mid
     → Learns [] (passed_at part (actual_of a)) mid new → Learns [] (passed_by_list part (actual_trees (take (i + 1) given))) old new
@@ -151,7 +151,7 @@ pub filled_first : (e : EntryId) (formals : List (List ℕ)) (kept : Kept) → L
 filled_first e formals kept = subst (λ pairs. Learns (map (formal_name e) (flat_map received_by pairs)) [] kept kept)
     (sym (zip_none formals)) (learns_none kept)
 
--- what a call fills where it names an entry, or none
+-- what a call fills if it names an entry, and if it names none
 pub filled_unknown : (routines : List RoutineTree) (own : ℕ) (callee : Callee) (given : List ActualTree) (kept : Kept)
     → target_of routines own callee ≡ None → Learns (filled_in routines own callee given) [] kept kept
 filled_unknown routines own callee given kept is =
@@ -235,7 +235,7 @@ module _ (rs : List RoutineTree) (part : RoutinePart) (line : ℕ) (site : CallS
       let none : list_any is_by_reference (actual_trees given) ≡ false = any_actual given ∙ h in
       nothing_learned (Some (actual_trees given)) kept is (received_values called (actual_trees given) none) (none_lent (actual_trees given) none)
 
--- one routine put before others
+-- one routine before others
 pub routine_step : (rs : List RoutineTree) (k : ℕ) (routine : Routine) (done : List Routine) (old mid new : Kept)
     → Learns (fillings rs (calls_from (suc k) (trees done))) (passed_from (suc k) done) old mid
     → Learns (fillings rs (flat_map (placed_in k) routine.lines.items)) (passed_in_lines k routine.lines.items) mid new
@@ -254,7 +254,7 @@ no_length : {A : Type 0} (xs : List A) → length xs ≡ 0 → xs ≡ []
 no_length [] h = refl
 no_length (x ∷ xs) h = absurd (omega (arith, h))
 
--- what comes after the last is all
+-- after the last, all are learned
 pub routines_all : (rs : List RoutineTree) (routines left done : List Routine) (old new : Kept) → routines ≡ left ++ done → length left ≡ 0
     → Learns (fillings rs (calls_from (length left) (trees done))) (passed_from (length left) done) old new
     → Learns (fillings rs (calls_from 0 (trees routines))) (passed_from 0 routines) old new

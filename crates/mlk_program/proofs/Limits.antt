@@ -31,7 +31,7 @@ module _ (routines : List Routine) (i : ℕ) (x : Routine) (low : i < length rou
   size = ap length (next_trees routines i x low is) ∙ length-append (trees (take i routines)) (routine_of x ∷ [])
       ∙ ap (λ n. n + 1) (length-map (take i routines) routine_of ∙ length-take-le i routines (le_of_lt low)) ∙ omega (arith)
 
-  -- what is known of the routines so far
+  -- what holds of the routines so far
   abbrev pub Within : ℕ → ℕ → Type 0
   Within n entries = (AreTooMany (trees (take n routines)) → ⊥) × (entries ≡ entry_count (trees (take n routines)))
 

@@ -40,7 +40,7 @@ pub first_after : (rs : List RoutineTree) (a b : List PlacedCall) (f : Fault) �
 first_after rs a b f good (before, after, p, is, fine, wrong) =
     (a ++ before, after, p, ap (λ x. a ++ x) is ∙ sym (append_assoc a before (p ∷ after)), resolved_both rs a before good fine, wrong)
 
--- a call alone
+-- a single call
 pub first_alone : (rs : List RoutineTree) (p : PlacedCall) (f : Fault) → IsCallFault rs p f → IsFirstFault rs (p ∷ []) f
 first_alone rs p f wrong = ([], [], p, refl, (λ q c. absurd (not_in_none q c)), wrong)
 
@@ -55,7 +55,7 @@ links_alone rs p old new fine h = (
   subst (λ names. Gains names old new) (sym (append-nil (shared_by rs p))) h,
 )
 
--- the calls of a list's items, one more of which was linked, or refused
+-- the calls of a list's items, after one more was linked or refused
 module _ {A : Type 0} (calls : A → List PlacedCall) (rs : List RoutineTree) (items : List A) (i : ℕ) (x : A)
     (low : i < length items) (is : x ≡ get_or items i x) where
   pub links_next : (old mid new : List (List ℕ)) → Links rs (flat_map calls (take i items)) old mid
@@ -77,7 +77,7 @@ module _ {A : Type 0} (calls : A → List PlacedCall) (rs : List RoutineTree) (i
       subst (λ c. IsFirstFault rs c f) (sym parts)
       (first_after rs _ _ f h.0 (first_of_more rs (calls x) _ f wrong))
 
--- a call that has a line that takes its actuals
+-- a call whose line accepts its actuals
 pub call_linked : (rs : List RoutineTree) (r n : ℕ) (site : CallSite) (formals : Option (List (List ℕ)))
     (old new : List (List ℕ)) → called_formals rs r site.callee.now ≡ Some formals
     → takes formals (given_of site.actuals.now) ≡ true

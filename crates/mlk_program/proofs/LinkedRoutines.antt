@@ -72,7 +72,7 @@ pub all_linked : (rs : List RoutineTree) (routines : List Routine) (i : ℕ) →
     → Links rs (calls_of (trees (take i routines))) old new → Links rs (calls_of (trees routines)) old new
 all_linked rs routines i past old new h = subst (λ xs. Links rs (calls_of (trees xs)) old new) (take_all i routines past) h
 
--- what linked routines are, and what they share
+-- properties of linked routines, and what they share
 pub is_program : (rs : List RoutineTree) (old new : List (List ℕ)) → AreDistinct (map name_of rs) → (AreTooMany rs → ⊥)
     → Links rs (calls_of rs) old new → IsProgram rs
 unfolding IsProgram

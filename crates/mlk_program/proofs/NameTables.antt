@@ -29,7 +29,7 @@ first_with-other t u e (p ∷ ps) h =
     (λ i. rw i (first_with-other t u e ps h))
     (cases_Bool (bytes_eq t p.0))
 
--- a name that stands there need not be put there again
+-- a name that is in a table need not be added again
 pub same-present : (u : List ℕ) (e : ℕ) (ps : Pairs) → is_some (first_with u ps) ≡ true → SameFirst ps (ps ++ (u, e) ∷ [])
 same-present u e ps h t =
     ⊎_elim
@@ -74,7 +74,7 @@ first_with-both t (p ∷ ps) ys =
 same-after : (xs ys zs : Pairs) → SameFirst xs ys → SameFirst (xs ++ zs) (ys ++ zs)
 same-after xs ys zs h t = first_with-both t xs zs ∙ ap (λ o. or_first o (first_with t zs)) (h t) ∙ sym (first_with-both t ys zs)
 
--- the place of the first of some items
+-- the index of the first of some items
 zero_lt : (n : ℕ) → nat_lt 0 (suc n) ≡ true
 zero_lt n = grind (arith, nat_tests)
 
@@ -93,7 +93,7 @@ position-cons p x xs = ⊎_elim (λ e. rw e (ap (λ b. cond b (Some 0) None) (ze
     go a n = ap (λ b. cond b (Some (1 + a)) None) (lt_suc a n)
         ∙ ⊎_elim (λ e. rw e (ap Some (one_more a))) (λ e. rw e refl) (cases_Bool (nat_lt a n))
 
--- names with their places
+-- names with their indexes
 module _ {A : Type 0} (label : A → Option (List ℕ)) where
   abbrev pub listed : ℕ → List A → Pairs
   listed i [] = []

@@ -1,4 +1,4 @@
--- What the commands of a line make new.
+-- What the commands of a line create.
 use Rattle.std.proofs.Common.{◌≡◌, refl, sym, ap, subst, ◌∙◌, List, [], ◌∷◌, ◌++◌, Some, None, Box, Global, map, append_assoc, append-nil}
 use Rattle.std.specs.Prelude.{flat_map}
 use Rattle.mlk_syntax.specs.declared.command.Command.{Command}

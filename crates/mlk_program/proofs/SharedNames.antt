@@ -59,13 +59,13 @@ gains_inserted old new k is q = ap (λ keys. list_any (bytes_eq q) (map now_of k
 pub gains_none : (old : List (List ℕ)) → Gains [] old old
 gains_none old q = or_none (list_any (bytes_eq q) old)
 
--- first these, then those
+-- first the ones, then the others
 pub gains_both : (a b old mid new : List (List ℕ)) → Gains a old mid → Gains b mid new → Gains (a ++ b) old new
 gains_both a b old mid new h k q = k q ∙ ap (λ c. c || list_any (bytes_eq q) b) (h q)
     ∙ sym (or_moved (list_any (bytes_eq q) old) (list_any (bytes_eq q) a) (list_any (bytes_eq q) b))
     ∙ ap (λ c. list_any (bytes_eq q) old || c) (sym (list_any-append (bytes_eq q) a b))
 
--- what formals receive from one actual more
+-- what formals receive from one more actual
 pub zip_none : (formals : List (List ℕ)) → zip {X = ActualTree} formals [] ≡ []
 zip_none [] = refl
 zip_none (f ∷ formals) = refl

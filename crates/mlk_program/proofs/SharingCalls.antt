@@ -33,7 +33,7 @@ any_flat test f (y ∷ xs) x (zero, less, is) h = list_any-append test (f y) (fl
 any_flat test f (y ∷ xs) x (suc k, less, is) h = list_any-append test (f y) (flat_map f xs)
     ∙ or_right (list_any test (f y)) (list_any test (flat_map f xs)) (any_flat test f xs x (k, omega (arith, less), is) h)
 
--- where each that has some of the one has some of the other
+-- if each element with some of the first has some of the second, so has the list
 any_too : {A B C : Type 0} (test : B → Bool) (other : C → Bool) (f : A → List B) (g : A → List C)
     → ((x : A) → list_any test (f x) ≡ true → list_any other (g x) ≡ true) → (xs : List A)
     → list_any test (flat_map f xs) ≡ true → list_any other (flat_map g xs) ≡ true

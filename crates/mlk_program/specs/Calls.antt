@@ -1,6 +1,5 @@
--- The calls of a line, in the order in which they are written: `$$` in expressions, the arguments of DO and of JOB. A
--- call stands before those of its actuals. Standard: extrinsic function,
--- extrinsic special variable (`$$` without a list), DO, JOB.
+-- The calls of a line, in source order: `$$` in expressions, the arguments of DO and of JOB. A call comes before those in its
+-- actuals. Standard: extrinsic function, extrinsic special variable (`$$` without a list), DO, JOB.
 use Rattle.std.specs.Prelude.{List, [], ◌∷◌, ◌++◌, flat_map, Option, Some, None}
 use Rattle.mlk_syntax.specs.ExprTrees.{Tree, Lit, Free, LocalName, GlobalName, SpecialName, Prefixed, Chain, PatternText}
 use Rattle.mlk_syntax.specs.ExprTrees.{Func, Selected, BareCall, CallOf, Trees, no_trees, tree, Subs, no_subs, sub, Links}
@@ -54,7 +53,7 @@ abbrev mutual
   in_actuals no_actuals = []
   in_actuals (actual a rest) = in_actual a ++ in_actuals rest
 
--- those of a part that may be missing
+-- the calls of an optional part
 abbrev pub in_option : Option Tree → List CallTree
 in_option None = []
 in_option (Some t) = in_tree t
@@ -62,7 +61,7 @@ in_option (Some t) = in_tree t
 abbrev pub in_variable : VariableTree → List CallTree
 in_variable (Named column name) = in_tree name
 
--- what DO and JOB call, and the calls of its actuals
+-- an argument of DO and JOB, and the calls in its actuals
 abbrev pub in_given : Option (List ActualTree) → List CallTree
 in_given None = []
 in_given (Some given) = flat_map in_actual given

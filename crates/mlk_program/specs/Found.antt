@@ -34,7 +34,7 @@ of_choice c = of_expr c.0 ++ of_expr c.1
 abbrev pub of_actual : Actual → List CallTree
 of_actual a = in_actual (actual_of a)
 
--- an actual list that may be missing, and a call with it
+-- an optional actual list, and a call with it
 abbrev pub of_given : Option (Vec Actual Global) → List CallTree
 of_given None = []
 of_given (Some v) = flat_map of_actual v.items
@@ -45,7 +45,7 @@ given_of o = option_map (λ v. actual_trees v.items) o
 abbrev pub of_call : ℕ → Callee → Option (Vec Actual Global) → List CallTree
 of_call column callee o = Called column callee (given_of o) ∷ of_given o
 
--- those of a part that may be missing
+-- the calls of an optional part
 abbrev pub of_option : {A : Type 0} → (A → List CallTree) → Option A → List CallTree
 of_option calls None = []
 of_option calls (Some a) = calls a

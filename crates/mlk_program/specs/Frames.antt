@@ -1,7 +1,7 @@
--- What calls pass by reference, as it is kept: formals that are filled, each with its entry, and names that are passed in
--- the lines of entries. The lines of a routine up to before the next that has a formal list are a part: it is told by how
--- many lines come after it. Of a name that is passed in a part, the last line of it that passes it is kept, told by how
--- many lines there are from it on. For private clauses alone. This project's own.
+-- What calls pass by reference, as it is stored: formals that receive names, each with its entry, and names that are passed in
+-- the lines of entries. The lines of a routine up to the next that has a formal list are a part, which is identified by the
+-- number of lines after it. For a name that is passed in a part, its last line that passes it is stored, as the number of lines
+-- from it on. For private clauses only. This project's own.
 use Rattle.std.specs.Prelude.{ℕ, suc, ◌≡◌, Bool, false, ◌&&◌, ◌||◌, ◌==◌, nat_le, if◌then◌else◌, List, [], ◌∷◌, ◌++◌, length, drop, map, flat_map, bytes_eq, zip, Option, Some, None, option_map, slice_get}
 use Rattle.std.specs.List.{list_any}
 use Rattle.mlk_syntax.specs.declared.routine.Line.{Line}
@@ -24,7 +24,7 @@ NameAt = ℕ × ℕ × List ℕ
 abbrev pub same_name : NameAt → NameAt → Bool
 same_name a b = (a.0 == b.0) && ((a.1 == b.1) && bytes_eq a.2 b.2)
 
--- the formals that are filled, and the names that are passed, each with how many lines there are from its last on
+-- the formals that receive names, and the names that are passed, each with the number of lines from its last on
 abbrev pub Kept : Type 0
 Kept = List NameAt × List (NameAt × ℕ)
 
@@ -35,7 +35,7 @@ abbrev pub lines_from_last : NameAt → List (NameAt × ℕ) → Option ℕ
 lines_from_last q [] = None
 lines_from_last q (p ∷ pairs) = if same_name q p.0 then Some p.1 else lines_from_last q pairs
 
--- whether a line, told by how many there are from it on, comes no later than the last
+-- whether a line, given by the number of lines from it on, is not after the last
 abbrev pub is_reached : ℕ → Option ℕ → Bool
 is_reached left None = false
 is_reached left (Some last) = nat_le last left
@@ -43,7 +43,7 @@ is_reached left (Some last) = nat_le last left
 abbrev pub is_passed : List (NameAt × ℕ) → NameAt → ℕ → Bool
 is_passed pairs q left = is_reached left (lines_from_last q pairs)
 
--- a name that is passed in a line answers for each line of its part that comes no later
+-- a name that is passed in a line counts for each earlier line of its part and for the line itself
 abbrev pub answers : NameAt → ℕ → NameAt × ℕ → Bool
 answers q left passed = same_name q passed.0 && nat_le passed.1 left
 
@@ -52,7 +52,7 @@ abbrev pub Learns : List NameAt → List (NameAt × ℕ) → Kept → Kept → T
 Learns filled passed old new = ((q : NameAt) → is_kept new.0 q ≡ (is_kept old.0 q || is_kept filled q))
     × ((q : NameAt) (left : ℕ) → is_passed new.1 q left ≡ (is_passed old.1 q left || list_any (answers q left) passed))
 
--- what the code keeps
+-- the representation in the code
 abbrev pub key_of : Key → NameAt
 key_of k = (k.routine, k.place, k.name.now)
 
@@ -62,7 +62,7 @@ keys_of keys = map key_of keys
 abbrev pub pairs_of : List (Key × ℕ) → List (NameAt × ℕ)
 pairs_of entries = map (λ p. (key_of p.0, p.1)) entries
 
--- what a call fills, and what it passes in a line of a part
+-- the formals that receive names from a call, and the names that it passes in a line of a part
 abbrev pub entry_name : EntryId × List ℕ → NameAt
 entry_name p = (p.0.routine, p.0.line, p.1)
 
@@ -75,7 +75,7 @@ filled_at e formal a = map (formal_name e) (received_at formal a)
 abbrev pub filled_by_list : EntryId → List (List ℕ) → List ActualTree → List NameAt
 filled_by_list e formals given = map (formal_name e) (flat_map received_by (zip formals given))
 
--- the formals of an entry's line, where it has a formal list
+-- the formals of an entry's line, if it has a formal list
 abbrev pub formals_of_entry : List RoutineTree → EntryId → Option (Option (List (List ℕ)))
 formals_of_entry routines e = option_map (λ l. formals_of l.0) (line_of_entry routines e)
 
@@ -105,7 +105,7 @@ passings part calls = map (part_name part) (flat_map passed_by calls)
 abbrev pub LearnsCalls : List RoutineTree → RoutinePart → List PlacedCall → Kept → Kept → Type 0
 LearnsCalls routines part calls old new = Learns (fillings routines calls) (passings part calls) old new
 
--- How many lines come after a part, of which these lines are what follows one of it.
+-- The number of lines after a part, given the lines that follow one of its lines.
 abbrev pub past_of : List Line → ℕ
 past_of [] = 0
 past_of (l ∷ later) = if line_lacks l then past_of later else suc (length later)
@@ -113,7 +113,7 @@ past_of (l ∷ later) = if line_lacks l then past_of later else suc (length late
 abbrev pub part_at : ℕ → List Line → RoutinePart
 part_at r later = record { routine = r; past = past_of later; left = suc (length later) }
 
--- what all calls in the lines of a routine fill and pass, and in those of routines, from this one on
+-- the formals and names of all calls in the lines of a routine, and of those in routines, from this one on
 abbrev pub passed_in_lines : ℕ → List Line → List (NameAt × ℕ)
 passed_in_lines r [] = []
 passed_in_lines r (l ∷ later) = passings (part_at r later) (placed_in r l) ++ passed_in_lines r later

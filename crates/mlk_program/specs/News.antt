@@ -1,4 +1,4 @@
--- What NEW makes new. Standard: NEW.
+-- The names that NEW creates. Standard: NEW.
 use Rattle.std.specs.Prelude.{◌≡◌, List, [], ◌∷◌, ◌++◌, map, flat_map}
 use Rattle.mlk_syntax.specs.declared.command.Command.{Command}
 use Rattle.mlk_syntax.specs.Trees.{NewTree, NewOne, NewAllBut, CommandTrees, finished, then_command, then_for}
@@ -8,7 +8,7 @@ use Rattle.mlk_syntax.specs.Views.{action_of}
 use Rattle.mlk_program.specs.declared.news.NewNames.{NewNames}
 use Rattle.mlk_program.specs.declared.news.NewNames.TheVariants as rust
 
--- A name, or all names but those of a list; without arguments all names.
+-- One name, or all names except those of a list; without arguments all names.
 abbrev pub all_without_arguments : List NewTree → List NewTree
 all_without_arguments [] = NewAllBut [] ∷ []
 all_without_arguments (n ∷ news) = n ∷ news
@@ -29,7 +29,7 @@ news_of (Read reads) = []
 news_of (Set sets) = []
 news_of (Write writes) = []
 
--- those of a line's commands, those after FOR too
+-- those of a line's commands, those after a FOR included
 abbrev pub news_in : CommandTrees → List NewTree
 news_in finished = []
 news_in (then_command (Does column condition action) rest) = news_of action ++ news_in rest
@@ -38,11 +38,11 @@ news_in (then_for column index control rest) = news_in rest
 abbrev pub news_at : HeadTree × LineTrees → List NewTree
 news_at (LineHead number level end label formals commands, block) = news_in commands
 
--- what the NEW commands of lines make new, in order; not those of the lines' blocks
+-- the names that the NEW commands of lines create, in order, without those of the lines' blocks
 abbrev pub news_of_lines : List (HeadTree × LineTrees) → List NewTree
 news_of_lines lines = flat_map news_at lines
 
--- the code's values, and what is added to them; for private clauses alone
+-- the code's values, and what is added to them; for private clauses only
 abbrev pub new_tree : NewNames → NewTree
 new_tree (rust.One column name) = NewOne column name.now
 new_tree (rust.AllBut names) = NewAllBut names.now

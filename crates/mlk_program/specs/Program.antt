@@ -1,4 +1,4 @@
--- Routines that are linked to a program: every call has a line that takes its actuals. Standard: routine, actuallist,
+-- Routines that are linked to a program: every call has a line that accepts its actuals. Standard: routine, actuallist,
 -- formallist; that all routines are known, the limits and the order of refusals are this project's own choice.
 use Rattle.std.specs.Prelude.{ℕ, zero, suc, ◌≡◌, ◌<◌, ◌⊎◌, List, [], ◌∷◌, ◌++◌, length, map, flat_map}
 use Rattle.std.specs.Prelude.{Contains, Bool, true, false, not, ◌&&◌, ◌||◌, nat_lt, zip, bytes_eq, Option, Some, None, option_and_then, option_map}
@@ -15,7 +15,7 @@ use Rattle.mlk_program.specs.Calls.{in_commands}
 use Rattle.mlk_program.specs.Entries.{name_of, formals_of, target_of, line_of_entry, lines_of, entry_count, same_entry}
 use Rattle.mlk_program.specs.declared.entry.EntryId.{EntryId}
 
--- a call, with the routine in which it stands, counted from 0, and its line
+-- a call, with the index of its routine, and its line
 pub record PlacedCall : Type 0 where
   pub routine : ℕ
   pub line : ℕ
@@ -38,7 +38,7 @@ calls_from r (Named_routine name lines ∷ routines) = calls_in r lines ++ calls
 abbrev pub calls_of : List RoutineTree → List PlacedCall
 calls_of = calls_from 0
 
--- Whether a line takes an actual list: there are no more actuals than formals. A line without a formal list takes none,
+-- Whether a line accepts an actual list: there are no more actuals than formals. A line without a formal list accepts none,
 -- and a call without an actual list fits the empty formal list too.
 abbrev pub takes : Option (List (List ℕ)) → Option (List ActualTree) → Bool
 takes None None = true
@@ -47,7 +47,7 @@ takes (Some []) None = true
 takes (Some (f ∷ formals)) None = false
 takes (Some formals) (Some given) = not (nat_lt (length formals) (length given))
 
--- the formals of the line that a call names; nothing where it names none
+-- the formals of the line that a call names; nothing if it names none
 abbrev pub called_formals : List RoutineTree → ℕ → Callee → Option (Option (List (List ℕ)))
 called_formals routines own callee =
     option_map (λ l. formals_of l.0) (option_and_then (line_of_entry routines) (target_of routines own callee))
@@ -74,12 +74,12 @@ AreResolved routines calls = (p : PlacedCall) → Contains calls p → call_faul
 abbrev pub AreTooMany : List RoutineTree → Type 0
 AreTooMany routines = (65535 < length routines) ⊎ (1048575 < entry_count routines)
 
--- Routines that make a program: no two of one name, not too many, and every call can be made.
+-- Routines that are a program: no two with the same name, not too many, and every call can be made.
 unfoldable pub IsProgram : List RoutineTree → Type 0
 IsProgram routines = AreDistinct (map name_of routines) × (AreTooMany routines → ⊥)
     × AreResolved routines (calls_of routines)
 
--- a fault of this code at a place
+-- a fault with the given code at a place
 pub record IsFaultAt (code : Code) (routine : List ℕ) (line column : ℕ) (fault : Fault) : Type 0 where
   pub coded : fault.code ≡ code
   pub worded : fault.left_out ≡ None
@@ -87,7 +87,7 @@ pub record IsFaultAt (code : Code) (routine : List ℕ) (line column : ℕ) (fau
   pub on_line : fault.place.line ≡ line
   pub placed : fault.place.column ≡ column
 
--- a routine is the first whose name stood before
+-- a routine is the first whose name an earlier one has
 abbrev pub IsTwice : List RoutineTree → Fault → Type 0
 IsTwice routines fault = (before after : List RoutineTree) × (tree : RoutineTree)
     × (routines ≡ before ++ tree ∷ after) × AreDistinct (map name_of before)
@@ -99,7 +99,7 @@ IsPastLimit routines fault = (before after : List RoutineTree) × (tree : Routin
     × (routines ≡ before ++ tree ∷ after) × (AreTooMany before → ⊥) × AreTooMany (before ++ tree ∷ [])
     × IsFaultAt TooMany (name_of tree) 1 1 fault
 
--- the fault of a call, where it stands
+-- the fault of a call, at its place
 abbrev pub name_at : List RoutineTree → ℕ → List ℕ
 name_at [] r = []
 name_at (tree ∷ routines) zero = name_of tree
@@ -117,7 +117,7 @@ abbrev pub IsFirstFault : List RoutineTree → List PlacedCall → Fault → Typ
 IsFirstFault routines calls fault = (before after : List PlacedCall) × (p : PlacedCall)
     × (calls ≡ before ++ p ∷ after) × AreResolved routines before × IsCallFault routines p fault
 
--- Why routines make no program: first a name that stands twice, then a limit, then the first call that can't be made.
+-- Why routines are not a program: first a repeated name, then a limit, then the first call that can't be made.
 abbrev pub IsLinkFault : List RoutineTree → Fault → Type 0
 IsLinkFault routines fault = IsTwice routines fault
     ⊎ (AreDistinct (map name_of routines) × IsPastLimit routines fault)
@@ -163,7 +163,7 @@ shared_by routines p = go p.call
 abbrev pub is_shared : List RoutineTree → List ℕ → Bool
 is_shared routines name = list_any (bytes_eq name) (flat_map (shared_by routines) (calls_of routines))
 
--- The formals that a call fills by reference, each with the entry that it is a formal of.
+-- The formals that receive names from a call, each with the entry to which it belongs.
 abbrev pub received_with : Option (Option (List (List ℕ))) → Option (List ActualTree) → List (List ℕ)
 received_with (Some (Some formals)) (Some given) = flat_map received_by (zip formals given)
 received_with (Some (Some formals)) None = []
@@ -181,8 +181,7 @@ filled_by routines p = go p.call
     go (Called column callee given) =
         of_entry (target_of routines p.routine callee) (received_with (called_formals routines p.routine callee) given)
 
--- Whether some call fills this formal of an entry by reference. A formal of the same name of another entry is another
--- matter.
+-- Whether a formal of an entry receives a name from some call. A formal with the same name of another entry is different.
 abbrev pub is_formal : EntryId → List ℕ → EntryId × List ℕ → Bool
 is_formal e name filled = same_entry e filled.0 && bytes_eq name filled.1
 
@@ -204,12 +203,12 @@ passed_by p = go p.call
 abbrev pub calls_at : ℕ → HeadTree × LineTrees → List PlacedCall
 calls_at r l = placed r l.0 ++ calls_in r l.1
 
--- Whether some call in the lines of an entry, those of blocks too, passes a name by reference.
+-- Whether some call in the lines of an entry, those of blocks included, passes a name by reference.
 abbrev pub is_passed_in : List RoutineTree → EntryId → List ℕ → Bool
 is_passed_in routines e name =
     list_any (bytes_eq name) (flat_map passed_by (flat_map (calls_at e.routine) (lines_of routines e)))
 
--- Whether a name is shared by what an entry itself does, or what is done to it: it is a formal of the entry that some call
--- fills by reference, or `.name` stands in the entry's lines. This project's own.
+-- Whether a name is shared because of the entry itself: it is a formal of the entry that receives a name from some call, or
+-- `.name` is in the entry's lines. This project's own.
 abbrev pub is_shared_in : List RoutineTree → EntryId → List ℕ → Bool
 is_shared_in routines e name = is_filled routines e name || is_passed_in routines e name

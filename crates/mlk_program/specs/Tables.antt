@@ -1,5 +1,4 @@
--- Tables of names: each stands for the place of the first item that has it. For private clauses alone. This project's
--- own.
+-- Tables of names: each has the index of the first item with it. For private clauses only. This project's own.
 use Rattle.std.specs.Prelude.{ℕ, ◌≡◌, List, [], ◌∷◌, Option, Some, None, bytes_eq, if◌then◌else◌, map, position, Vec}
 use Rattle.std.specs.Prelude.{Bool, option_and_then, slice_get}
 use Rattle.std.specs.List.{prefix_len}
@@ -11,21 +10,21 @@ use Rattle.mlk_syntax.specs.Views.{line_of, routine_of}
 use Rattle.mlk_program.specs.Entries.{is_label, label_of, lacks_formals}
 use Rattle.mlk_program.specs.declared.entry.EntryId.{EntryId}
 
--- the place that a name stands for
+-- the index of the first item with the name
 abbrev pub first_with : List ℕ → List (List ℕ × ℕ) → Option ℕ
 first_with name [] = None
 first_with name (p ∷ pairs) = if bytes_eq name p.0 then Some p.1 else first_with name pairs
 
--- two tables give each name the same place
+-- two tables have the same index for each name
 abbrev pub SameFirst : List (List ℕ × ℕ) → List (List ℕ × ℕ) → Type 0
 SameFirst xs ys = (name : List ℕ) → first_with name xs ≡ first_with name ys
 
--- names with their places, from this one on
+-- names with their indexes, from i on
 abbrev pub one_at : ℕ → Option (List ℕ) → List (List ℕ × ℕ)
 one_at i None = []
 one_at i (Some name) = (name, i) ∷ []
 
--- Each name stands for the first of the items that has it.
+-- Each name has the index of the first item that has it.
 abbrev pub IsTableOf : {A : Type 0} → (A → Option (List ℕ)) → List A → List (List ℕ × ℕ) → Type 0
 IsTableOf label items table = (name : List ℕ)
     → first_with name table ≡ position (λ a. is_label name (label a)) items
@@ -44,12 +43,12 @@ AreTables (r ∷ routines) (t ∷ tables) = IsTableOf line_label r.lines.items t
 abbrev pub trees : List Routine → List RoutineTree
 trees routines = map routine_of routines
 
--- the first line, from 0, where there is one
+-- the index of the first line, if there is one
 abbrev pub first_of : List Line → Option ℕ
 first_of [] = None
 first_of (l ∷ lines) = Some 0
 
--- Of each line of the code, how many there are after it before the next with a formal list.
+-- For each line of the code, how many lines follow it before the next with a formal list.
 abbrev pub line_lacks : Line → Bool
 line_lacks l = lacks_formals (line_of l)
 
@@ -57,10 +56,10 @@ abbrev pub later_lines : List Line → List ℕ
 later_lines [] = []
 later_lines (l ∷ later) = prefix_len line_lacks later ∷ later_lines later
 
--- the same for each routine
+-- `later_lines` for each routine
 abbrev pub AreLater : List Routine → List (Vec ℕ Global) → Type 0
 AreLater routines counts = map (λ v. v.items) counts ≡ map (λ r. later_lines r.lines.items) routines
 
--- and for an entry, where the routines have it
+-- for an entry, if the routines have it
 abbrev pub later_of : List Routine → EntryId → Option ℕ
 later_of routines e = option_and_then (λ r. slice_get (later_lines r.lines.items) e.line) (slice_get routines e.routine)

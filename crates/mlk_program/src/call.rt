@@ -1,4 +1,4 @@
-// Calls, where they stand in trees.
+// Calls, where they occur in trees.
 
 ghost use Rattle.std.specs.Prelude.{◌≡◌, ◌∷◌, [], OnOk, option_map};
 ghost use Rattle.mlk_syntax.specs.ExprTrees.{actual_trees};
@@ -9,7 +9,7 @@ use mlk_syntax::{Actual, Callee};
 use mlk_text::Column;
 use std::alloc::AllocError;
 
-/// A call in a tree: its column, what it calls, and its actuals.
+/// A call in a tree: its column, its callee, and its actuals.
 #[derive(Clone, Copy, Drop)]
 pub struct CallSite<'a> {
     pub column: Column,
@@ -17,7 +17,7 @@ pub struct CallSite<'a> {
     pub actuals: &'a Option<Vec<Actual>>,
 }
 
-/// Adds a call.
+/// Adds a call to `found`.
 pub(crate) fn add_call<'a>(
     found: &mut Vec<CallSite<'a>>,
     column: Column,

@@ -1,4 +1,4 @@
-// Routines with tables of their names and labels.
+// Routines with indexes of their names and labels.
 
 ghost use Rattle.std.specs.Prelude.{◌≡◌, IfOk, Some, None, option_map, option_and_then, option_copied, slice_get, map, take, drop, suc};
 ghost use Rattle.mlk_syntax.specs.Views.{line_of};
@@ -14,13 +14,13 @@ use mlk_text::{Name, spelling};
 use std::alloc::{AllocError, Global};
 use std::marker::Model;
 
-/// Routines, whose lines are found by name.
+/// Routines whose lines are found by name.
 #[derive(Drop)]
 pub(crate) struct Directory<'a> {
     routines: &'a [Routine],
     names: NamePlaces<'a>,
     labels: Vec<NamePlaces<'a>>,
-    /// of each line of each routine, how many of its entry come after it
+    /// for each line of each routine, how many later lines belong to its entry
     later: Vec<Vec<usize>>,
 }
 
@@ -42,7 +42,7 @@ impl<'a> Model for Directory<'a> {
         × AreLater d.routines.now d.later.items };
 }
 
-// The tables of the routines' labels.
+// The indexes of the routines' labels.
 fn label_tables<'a>(
     alloc: Global,
     routines: &'a [Routine],
@@ -58,21 +58,21 @@ fn label_tables<'a>(
     Ok(tables)
 }
 
-/// The item at a place, where there is one.
+/// The item at `place`, or `None`.
 pub(crate) fn item<T>(items: &[T], place: usize) -> Option<&T>
     ensures { option_copied result ≡ slice_get items.now place }
 {
     items.get(place)
 }
 
-// The first line, where there is one.
+// The index of the first line, or `None`.
 fn first_of(lines: &[Line]) -> Option<usize>
     ensures { result ≡ first_of lines.now }
 {
     if lines.is_empty() { None } else { Some(0) }
 }
 
-// The lines after the first `count` of them.
+// The lines after the first `count`.
 fn lines_after(lines: &[Line], count: usize) -> &[Line]
     ensures { result.now ≡ drop count lines.now }
 {
@@ -83,14 +83,14 @@ fn lines_after(lines: &[Line], count: usize) -> &[Line]
     after
 }
 
-/// Whether a line is without a formal list.
+/// Whether `line` has no formal list.
 pub(crate) fn lacks_formals(line: &Line) -> bool
     ensures { result ≡ lacks_formals (line_of line.now) }
 {
     !line.formals.is_some()
 }
 
-// Of each line, how many there are after it before the next with a formal list.
+// For each line, how many lines follow it before the next one with a formal list.
 fn later_lines(alloc: Global, lines: &[Line]) -> Result<Vec<usize>, AllocError>
     ensures { IfOk result (λ v. v.items ≡ later_lines lines.now) }
 {
@@ -108,7 +108,7 @@ fn later_lines(alloc: Global, lines: &[Line]) -> Result<Vec<usize>, AllocError>
     Ok(counts)
 }
 
-// The same for the lines of each routine.
+// `later_lines` of each routine.
 fn later_in_routines(alloc: Global, routines: &[Routine]) -> Result<Vec<Vec<usize>>, AllocError>
     ensures { IfOk result (λ v. AreLater routines.now v.items) }
 {
@@ -119,7 +119,7 @@ fn later_in_routines(alloc: Global, routines: &[Routine]) -> Result<Vec<Vec<usiz
     Ok(counts)
 }
 
-// The first line, and so many after it.
+// The first line and up to `later` lines after it.
 #[tactic(auto, using(crate::proofs::EntryLines::take_within))]
 fn first_lines(lines: &[Line], later: usize) -> &[Line]
     ensures { result.now ≡ take (suc later) lines.now }
@@ -131,7 +131,7 @@ fn first_lines(lines: &[Line], later: usize) -> &[Line]
     first
 }
 
-// The text of the entry of a line.
+// The text of the entry at `line` of `routine`.
 fn entry_text(alloc: Global, line: &Line, routine: &Name) -> Result<Vec<u8>, AllocError>
     ensures { IfOk result (λ v. v.items ≡ text_with (label_of (line_of line.now).0) routine.now) }
 {
@@ -145,7 +145,7 @@ fn entry_text(alloc: Global, line: &Line, routine: &Name) -> Result<Vec<u8>, All
 }
 
 impl<'a> Directory<'a> {
-    /// The directory of these routines.
+    /// The directory of `routines`.
     pub(crate) fn of(alloc: Global, routines: &'a [Routine]) -> Result<Directory<'a>, AllocError>
         ensures { IfOk result (λ d. d ≡ routines.now) }
     {
@@ -164,7 +164,7 @@ impl<'a> Directory<'a> {
         self.routines
     }
 
-    /// Which of the routines has this name.
+    /// The index of the routine `name`, or `None`.
     #[tactic(auto, using(crate::proofs::Directories::routine_found))]
     pub(crate) fn routine(&self, name: &[u8]) -> Option<usize>
         ensures { result ≡ routine_named (trees self.now) name.now }
@@ -172,7 +172,7 @@ impl<'a> Directory<'a> {
         self.names.place(name)
     }
 
-    // The line of a routine that has this label.
+    // The index of the line with the label `label` in `routine`, or `None`.
     #[tactic(auto, using(crate::proofs::Directories::label_some, crate::proofs::Directories::label_none))]
     fn labelled_line(&self, routine: usize, label: &[u8]) -> Option<usize>
         ensures { result ≡ option_and_then (λ tree. line_named (Some label.now) (lines_in tree))
@@ -184,7 +184,7 @@ impl<'a> Directory<'a> {
         table.place(label)
     }
 
-    // The first line of a routine.
+    // The index of the first line of `routine`, or `None`.
     #[tactic(auto, using(crate::proofs::Directories::first_some, crate::proofs::Directories::first_none))]
     fn first_line(&self, routine: usize) -> Option<usize>
         ensures { result ≡ option_and_then (λ tree. line_named None (lines_in tree))
@@ -196,7 +196,7 @@ impl<'a> Directory<'a> {
         first_of(routine.lines.as_slice())
     }
 
-    // The entry that a label names in this one of the routines.
+    // The entry that `label` names in `routine`, or `None`.
     fn entry_in(&self, routine: usize, label: Option<&[u8]>) -> Option<EntryId>
         ensures { result ≡ entry_in (trees self.now) routine (option_map (λ b. b.now) label.entry) }
     {
@@ -207,7 +207,7 @@ impl<'a> Directory<'a> {
         Some(EntryId { routine, line })
     }
 
-    /// What a callee names in this one of the routines.
+    /// The entry that `callee` names if the call is in the routine `own`, or `None`.
     pub(crate) fn target(&self, own: usize, callee: &Callee) -> Option<EntryId>
         ensures { result ≡ target_of (trees self.now) own callee.now }
     {
@@ -221,7 +221,7 @@ impl<'a> Directory<'a> {
         }
     }
 
-    /// The entry that a text names.
+    /// The entry that `text` names, or `None`.
     pub(crate) fn entry(&self, text: &[u8]) -> Option<EntryId>
         ensures { result ≡ entry_by (trees self.now) text.now }
     {
@@ -234,7 +234,7 @@ impl<'a> Directory<'a> {
         }
     }
 
-    /// The line of an entry.
+    /// The line of `entry`, or `None`.
     #[tactic(auto, using(crate::proofs::Directories::line_some, crate::proofs::Directories::line_none))]
     pub(crate) fn line(&self, entry: EntryId) -> Option<&'a Line>
         ensures { option_map (λ l. line_of l.now) result ≡ line_of_entry (trees self.now) entry }
@@ -245,7 +245,7 @@ impl<'a> Directory<'a> {
         item(routine.lines.as_slice(), entry.line)
     }
 
-    // How many lines of an entry come after its own.
+    // How many lines of `entry` follow its first, or `None`.
     #[tactic(auto, using(crate::proofs::EntryLines::later_some, crate::proofs::EntryLines::later_none))]
     fn later(&self, entry: EntryId) -> Option<usize>
         ensures { result ≡ later_of self.now entry }
@@ -256,7 +256,7 @@ impl<'a> Directory<'a> {
         item(counts.as_slice(), entry.line).copied()
     }
 
-    /// The routine of an entry.
+    /// The routine of `entry`, or `None`.
     pub(crate) fn routine_of(&self, entry: EntryId) -> Option<&'a Routine>
         ensures { option_copied result ≡ slice_get self.now entry.routine }
     {
@@ -277,7 +277,7 @@ impl<'a> Directory<'a> {
         }
     }
 
-    /// The part of an entry's line.
+    /// The part of a routine that begins at the line of `entry`.
     #[tactic(auto, using(crate::proofs::EntryParts::part_some, crate::proofs::EntryParts::part_none, crate::proofs::EntryParts::part_past, crate::proofs::EntryParts::part_counted))]
     pub(crate) fn part_of(&self, entry: EntryId) -> RoutinePart
         ensures { result ≡ part_of self.now entry }
@@ -304,7 +304,7 @@ impl<'a> Directory<'a> {
         }
     }
 
-    /// The text of an entry.
+    /// The text of `entry`, or `None`.
     #[tactic(auto, using(crate::proofs::Directories::text_some, crate::proofs::Directories::text_none, crate::proofs::Directories::text_no_line))]
     pub(crate) fn text_of(
         &self,

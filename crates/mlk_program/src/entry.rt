@@ -6,29 +6,29 @@ ghost use Rattle.std.specs.Prelude.{◌≡◌};
 /// then by their lines.
 #[derive(Clone, Copy, Debug, Drop, PartialEq, Eq, PartialOrd, Ord, Hash)]
 pub struct EntryId {
-    /// which of the routines it is, counted from 0
+    /// the index of the routine, from 0
     pub(crate) routine: usize,
-    /// which of the routine's lines of the first level it is, counted from 0
+    /// the index of the line among the routine's lines of level 1, from 0
     pub(crate) line: usize,
 }
 
 impl EntryId {
-    /// The line of a routine, both counted from 0, the line among those of the first level; whether the program has it,
-    /// and whether it is an entry there, is another matter.
+    /// Line `line` of routine `routine`, both counted from 0, the line among those of level 1. The program may not have it, or
+    /// it may not be an entry there.
     pub fn new(routine: usize, line: usize) -> EntryId
         ensures { result ≡ record { routine = routine; line = line } }
     {
         EntryId { routine, line }
     }
 
-    /// Which of the program's routines it is, counted from 0.
+    /// The index of the routine in the program, from 0.
     pub fn routine(self) -> usize
         ensures { result ≡ self.routine }
     {
         self.routine
     }
 
-    /// Which of the routine's lines of the first level it is, counted from 0.
+    /// The index of the line among the routine's lines of level 1, from 0.
     pub fn line(self) -> usize
         ensures { result ≡ self.line }
     {

@@ -8,7 +8,7 @@ use mlk_syntax::{Actual, Expr, Subscript};
 use mlk_text::Op;
 use std::alloc::AllocError;
 
-/// Adds the calls in an expression. Most have no parts that could hold one.
+/// Adds the calls in `e`. Most expressions have no parts that could contain one.
 #[cycle(finding)]
 #[inline(always)]
 pub(crate) fn in_expr<'a>(found: &mut Vec<CallSite<'a>>, e: &'a Expr) -> Result<(), AllocError>
@@ -21,7 +21,7 @@ pub(crate) fn in_expr<'a>(found: &mut Vec<CallSite<'a>>, e: &'a Expr) -> Result<
     }
 }
 
-// Adds the calls in an expression.
+// Adds the calls in the parts of `e`.
 #[cycle(finding)]
 #[tactic(auto, using(crate::proofs::FoundCalls::of_func, crate::proofs::FoundCalls::of_local, crate::proofs::FoundCalls::of_global, crate::proofs::FoundCalls::of_binary, crate::proofs::FoundCalls::of_select, crate::proofs::FoundCalls::finds_call, crate::proofs::FoundCalls::finds_both))]
 fn in_parts<'a>(found: &mut Vec<CallSite<'a>>, e: &'a Expr) -> Result<(), AllocError>

@@ -1,4 +1,4 @@
-// Why routines make no program.
+// Why routines are not a program.
 
 ghost use Rattle.mlk_text.specs.Failures.{IfRefused};
 ghost use Rattle.mlk_program.specs.Program.{IsFaultAt};
@@ -6,7 +6,7 @@ ghost use Rattle.mlk_program.specs.Program.{IsFaultAt};
 use mlk_text::{Code, Column, Failure, Fault, LineNumber, Name, Place, Value};
 use std::alloc::Global;
 
-/// The refusal of this line of a routine.
+/// The refusal of line `line` of `routine`.
 pub(crate) fn refusal(
     alloc: Global,
     code: Code,

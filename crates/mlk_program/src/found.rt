@@ -13,7 +13,7 @@ use mlk_syntax::{
 };
 use std::alloc::{AllocError, Global};
 
-/// What calls may stand in.
+/// A part of a tree that may contain calls.
 pub(crate) trait HasCalls {
     ghost use Rattle.std.specs.Prelude.{List, OnOk};
     ghost use Rattle.mlk_syntax.specs.Trees.{CallTree};
@@ -27,7 +27,7 @@ pub(crate) trait HasCalls {
         ensures { OnOk result (Finds (calls self.now) found.old.items found.new.items) };
 }
 
-/// Adds the calls in each of these.
+/// Adds the calls in each of `items`.
 pub(crate) fn find_all<'a, T: HasCalls>(
     found: &mut Vec<CallSite<'a>>,
     items: &'a [T],
@@ -280,7 +280,7 @@ impl HasCalls for Control {
     }
 }
 
-/// Adds the calls of a line.
+/// Adds the calls in a line's commands.
 #[tactic(auto, using(crate::proofs::FoundCommands::finds_commands, crate::proofs::FoundCommands::finds_for))]
 pub fn in_commands<'a>(
     found: &mut Vec<CallSite<'a>>,
@@ -296,7 +296,7 @@ pub fn in_commands<'a>(
     Ok(())
 }
 
-/// The calls of a line's commands, in the order in which they are written.
+/// The calls in a line's commands, in source order.
 pub fn calls_of<'a>(alloc: Global, commands: &'a Commands) -> Result<Vec<CallSite<'a>>, AllocError>
     ensures { IfOk result (λ v. map site_of v.items ≡ in_commands (commands_of commands.now)) }
 {

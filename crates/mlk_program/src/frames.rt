@@ -1,4 +1,4 @@
-// What calls pass by reference, entry by entry.
+// Names passed by reference, per entry.
 
 ghost use Rattle.std.specs.Prelude.{◌≡◌, ◌∷◌, [], IfOk, OnOk, flat_map, option_copied, option_map};
 ghost use Rattle.std.specs.List.{list_any};
@@ -29,12 +29,12 @@ struct NameAt<'a> {
     name: &'a [u8],
 }
 
-/// The formals of entries that calls fill by reference, and the names that are passed in the lines of entries.
+/// The formals of entries to which calls pass by reference, and the names that are passed in the lines of entries.
 #[derive(Drop)]
 pub(crate) struct Frames<'a> {
-    // each formal at the line of its entry
+    // each such formal, at the line of its entry
     filled: IndexSet<NameAt<'a>>,
-    // each name at the part in which it is passed, with how many lines there are from the last that passes it on
+    // each name, at the part in which it is passed, with the number of lines from the last that passes it on
     passed: IndexMap<NameAt<'a>, usize>,
 }
 
@@ -62,7 +62,7 @@ fn passes(given: &[Actual]) -> bool
     given.iter().any(|actual| is_by_reference(actual))
 }
 
-// The formals of a line, where it has a formal list.
+// The formals of `line`, or `None` without a formal list.
 fn formals_of(line: &Line) -> Option<&[Name]>
     ensures { option_map (λ f. f.now) result ≡ formals_of (line_of line.now).0 }
 {
@@ -72,7 +72,7 @@ fn formals_of(line: &Line) -> Option<&[Name]>
     }
 }
 
-// The formals of an entry's line, where it has a formal list.
+// The formals of the line of `entry`, or `None` without a formal list.
 fn formals_at<'a>(directory: &Directory<'a>, entry: EntryId) -> Option<&'a [Name]>
     ensures { option_map (λ f. f.now) result ≡ formals_known (formals_of_entry (trees directory.now) entry) }
 {
@@ -98,14 +98,14 @@ impl<'a> Frames<'a> {
         self.filled.contains(key)
     }
 
-    // How many lines there are from the last on that passes a name in a part.
+    // The number of lines from the last that passes a name in a part on, or `None` if none does.
     fn last(&self, key: &NameAt<'_>) -> Option<usize>
         ensures { result ≡ lines_from_last (key_of key.now) self.now.1 }
     {
         self.passed.get(key).copied()
     }
 
-    /// Whether some call fills this formal of an entry. It takes no memory.
+    /// Whether some call passes by reference to the formal `formal` of `entry`. Allocates nothing.
     pub(crate) fn has_filled(&self, entry: EntryId, formal: &[u8]) -> bool
         ensures { result ≡ is_kept self.now.0 (entry.routine, entry.line, formal.now) }
     {
@@ -117,7 +117,7 @@ impl<'a> Frames<'a> {
         self.is_filled(&key)
     }
 
-    /// Whether a name is passed in a line, or a later one of its part. It takes no memory.
+    /// Whether `name` is passed in the line of `part`, or in a later line of its entry. Allocates nothing.
     pub(crate) fn has_passed(&self, part: RoutinePart, name: &[u8]) -> bool
         ensures { result ≡ is_passed self.now.1 (part.routine, part.past, name.now) part.left }
     {
@@ -193,7 +193,7 @@ fn fill_by<'a>(
     }
 }
 
-// Adds the names that an actual list passes in a line of a part.
+// Adds the names that the actual list `given` passes in a line of `part`.
 fn pass_all<'a>(
     frames: &mut Frames<'a>,
     part: RoutinePart,
@@ -207,7 +207,7 @@ fn pass_all<'a>(
     Ok(())
 }
 
-// Adds the formals of an entry that an actual list fills.
+// Adds the formals of `entry` to which the actual list `given` passes by reference.
 fn fill_all<'a>(
     frames: &mut Frames<'a>,
     entry: EntryId,
@@ -223,7 +223,7 @@ fn fill_all<'a>(
     Ok(())
 }
 
-// Adds what a callee's entry receives.
+// Adds the formals to which the call `site` passes by reference.
 #[tactic(auto, using(crate::proofs::Learned::filled_unknown, crate::proofs::Learned::filled_without, crate::proofs::Learned::filled_with))]
 fn fill_called<'a>(
     frames: &mut Frames<'a>,
@@ -246,7 +246,7 @@ fn fill_called<'a>(
     Ok(())
 }
 
-// Adds what a call passes in a line of a part, and what it fills.
+// Adds the names that a call in a line of `part` passes, and the formals that receive them.
 fn add_call<'a>(
     frames: &mut Frames<'a>,
     directory: &Directory<'a>,
@@ -284,7 +284,7 @@ fn add_calls<'a>(
     Ok(())
 }
 
-// Adds what the calls of a line and of its block pass and fill, where the line is one of a part.
+// Adds what the calls of a line of `part` and of its block pass, and the formals that receive it.
 #[cycle(lines)]
 fn add_line<'a>(
     frames: &mut Frames<'a>,
@@ -320,7 +320,7 @@ fn add_block<'a>(
     Ok(())
 }
 
-// Adds what the calls in the lines of a routine pass and fill, from the last line on.
+// Adds what the calls in the lines of `routine` pass, and the formals that receive it, from the last line to the first.
 fn add_lines<'a>(
     frames: &mut Frames<'a>,
     alloc: Global,
@@ -348,7 +348,7 @@ fn add_lines<'a>(
     Ok(())
 }
 
-// Adds what the calls of routines pass and fill.
+// Adds what the calls of `routines` pass, and the formals that receive it.
 fn add_routines<'a>(
     frames: &mut Frames<'a>,
     alloc: Global,
@@ -373,7 +373,7 @@ fn add_routines<'a>(
 }
 
 impl<'a> Frames<'a> {
-    /// What the calls of the routines pass by reference.
+    /// Everything that the calls of the directory's routines pass by reference.
     pub(crate) fn of(alloc: Global, directory: &Directory<'a>) -> Result<Frames<'a>, AllocError>
         ensures { IfOk result (λ f. Learns (fillings (trees directory.now) (calls_of (trees directory.now)))
             (passed_from 0 directory.now) ([], []) f) }

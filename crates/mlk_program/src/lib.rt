@@ -1,4 +1,4 @@
-//! Programs: routines, each of whose calls has a line that takes its actuals; the calls and the names made new that stand in lines.
+//! Programs: routines in which each call has a line that accepts its actuals; the calls in lines, and the names that NEW creates.
 #![tactic(auto)]
 
 mod call;

@@ -1,4 +1,4 @@
-// Linking.
+// Linking routines into a program.
 
 ghost use Rattle.std.specs.Prelude.{◌≡◌, flat_map, IfOk, OnOk, IfErr, Some, None, true, map, not, option_map};
 ghost use Rattle.mlk_text.specs.Failures.{IfRefused};
@@ -22,13 +22,13 @@ use mlk_syntax::{Actual, Callee, Line, Rare, Routine};
 use mlk_text::{Code, Column, Failure, Fault, LineNumber, List, Name};
 use std::alloc::{AllocError, Global};
 
-// How many routines a program may have.
+// The maximum number of routines of a program.
 const MOST_ROUTINES: usize = 65535;
 
-// How many entries a program may have: first lines, and further lines with a label.
+// The maximum number of entries of a program: first lines, and further lines with a label.
 const MOST_ENTRIES: usize = 1048575;
 
-// Each routine is the first of its name.
+// Checks that no two routines have the same name.
 fn check_distinct(alloc: Global, directory: &Directory<'_>) -> Result<(), Failure<Fault>>
     ensures ok { OnOk result (AreDistinct (map name_of (trees directory.now))) }
     ensures refused { IfErr result (λ e. IfRefused e (IsTwice (trees directory.now))) }
@@ -47,7 +47,7 @@ fn check_distinct(alloc: Global, directory: &Directory<'_>) -> Result<(), Failur
     Ok(())
 }
 
-// How many entries the lines of a routine have.
+// The number of entries among `lines`.
 fn entry_count(lines: &[Line]) -> usize
     ensures { result ≡ entries_among (map line_of lines.now) }
 {
@@ -57,7 +57,7 @@ fn entry_count(lines: &[Line]) -> usize
     1 + later.iter().filter(|line| line.label.is_some()).count()
 }
 
-// There are not too many routines, nor entries.
+// Checks the limits on routines and entries.
 fn check_limits(alloc: Global, routines: &[Routine]) -> Result<(), Failure<Fault>>
     ensures ok { OnOk result (AreTooMany (trees routines.now) → ⊥) }
     ensures refused { IfErr result (λ e. IfRefused e (IsPastLimit (trees routines.now))) }
@@ -78,7 +78,7 @@ fn check_limits(alloc: Global, routines: &[Routine]) -> Result<(), Failure<Fault
     Ok(())
 }
 
-// Whether a line with these formals takes an actual list.
+// Whether a line with `formals` accepts `actuals`.
 fn takes(formals: &Rare<List<Name>>, actuals: &Option<Vec<Actual>>) -> bool
     ensures { result ≡ takes formals.now (given_of actuals.now) }
 {
@@ -90,7 +90,7 @@ fn takes(formals: &Rare<List<Name>>, actuals: &Option<Vec<Actual>>) -> bool
     }
 }
 
-// Where calls stand: their routine, from 0, with its name, and their line.
+// Where calls are: the index of their routine, its name, and their line.
 #[derive(Drop)]
 struct At<'a> {
     routine: usize,
@@ -98,7 +98,7 @@ struct At<'a> {
     line: LineNumber,
 }
 
-// The line that a callee names.
+// The line that `callee` names, or `None`.
 fn called<'a>(directory: &Directory<'a>, own: usize, callee: &Callee) -> Option<&'a Line>
     ensures { option_map (λ l. formals_of (line_of l.now).0) result
         ≡ called_formals (trees directory.now) own callee.now }
@@ -109,7 +109,7 @@ fn called<'a>(directory: &Directory<'a>, own: usize, callee: &Callee) -> Option<
     directory.line(entry)
 }
 
-// The formals of the line that a call names, if it takes the call's actuals.
+// The formals of the line that `site` calls, if that line exists and accepts the actuals.
 fn fitting_formals<'a>(
     alloc: Global,
     directory: &Directory<'a>,
@@ -131,7 +131,7 @@ fn fitting_formals<'a>(
     Ok(&line.formals)
 }
 
-// Adds the names that an actual list shares with these formals.
+// Adds the names that the actual list shares with `formals`.
 fn share<'a>(
     shared: &mut SharedNames<'a>,
     formals: &'a Rare<List<Name>>,
@@ -169,7 +169,7 @@ fn link_call<'a>(
     Ok(())
 }
 
-// Links the calls of a line, up to the first that can't be made.
+// Links the calls of a line, up to the first that is refused.
 fn link_calls<'a>(
     alloc: Global,
     directory: &Directory<'a>,
@@ -269,13 +269,13 @@ fn link_routines<'a>(
     Ok(())
 }
 
-/// Links routines, in the order given: finds a line for each call, or tells the first reason why they make no program.
+/// Links `routines`, in the given order: finds a line for each call, or returns the first reason why they are not a program.
 pub fn link<'a>(alloc: Global, routines: &'a [Routine]) -> Result<Program<'a>, Failure<Fault>>
-    // The program is of these routines.
+    // The program consists of `routines`.
     ensures same { IfOk result (λ p. p ≡ routines.now) }
-    // They make one,
+    // They are a program,
     ensures linked { IfOk result (λ p. IsProgram (map routine_of routines.now)) }
-    // or there is this fault.
+    // or they have this fault.
     ensures refused { IfErr result (λ e. IfRefused e (IsLinkFault (map routine_of routines.now))) }
 {
     let directory = Directory::of(alloc, routines)?;

@@ -1,4 +1,4 @@
-// What NEW makes new.
+// The names that NEW creates.
 
 ghost use Rattle.std.specs.Prelude.{◌≡◌, ◌∷◌, [], OnOk, IfOk, map, flat_map};
 ghost use Rattle.mlk_syntax.specs.Views.{line_of, action_of, commands_of, new_of};
@@ -9,16 +9,16 @@ use mlk_syntax::{Action, Command, Commands, Line, NewArgument};
 use mlk_text::{Column, Name};
 use std::alloc::{AllocError, Global};
 
-/// What an argument of NEW makes new.
+/// What an argument of NEW creates.
 #[derive(Clone, Copy, Debug, Drop)]
 pub enum NewNames<'a> {
-    /// this local, whose name stands in this column
+    /// this local, with the column of its name
     One(Column, &'a Name),
-    /// all locals but these
+    /// all locals except these
     AllBut(&'a [Name]),
 }
 
-// Puts one local after the others.
+// Appends one local.
 fn add_one<'a>(
     names: &mut Vec<NewNames<'a>>,
     column: Column,
@@ -32,7 +32,7 @@ fn add_one<'a>(
     Ok(())
 }
 
-// Puts all locals but these after the others.
+// Appends all locals except `kept`.
 fn add_all_but<'a>(names: &mut Vec<NewNames<'a>>, kept: &'a [Name]) -> Result<(), AllocError>
     ensures { OnOk result (Adds (NewAllBut kept.now ∷ []) names.old.items names.new.items) }
 {
@@ -66,7 +66,7 @@ fn add_arguments<'a>(
     Ok(())
 }
 
-// What a command makes new, where it is a NEW. Without arguments it makes all locals new.
+// Appends what `command` creates if it is a NEW. Without arguments NEW creates all locals.
 fn add_command<'a>(names: &mut Vec<NewNames<'a>>, command: &'a Command) -> Result<(), AllocError>
     ensures { OnOk result (Adds (news_of (action_of command.now.action)) names.old.items names.new.items) }
 {
@@ -88,7 +88,7 @@ fn add_before<'a>(names: &mut Vec<NewNames<'a>>, commands: &'a [Command]) -> Res
     Ok(())
 }
 
-// What the commands of a line make new, those after FOR too.
+// Appends what the NEWs of a line create, those after a FOR included.
 #[tactic(auto, using(crate::proofs::NewLists::news_last, crate::proofs::NewLists::news_for))]
 fn add_commands<'a>(names: &mut Vec<NewNames<'a>>, commands: &'a Commands) -> Result<(), AllocError>
     ensures { OnOk result (Adds (news_in (commands_of commands.now)) names.old.items names.new.items) }
@@ -108,8 +108,8 @@ fn add_line<'a>(names: &mut Vec<NewNames<'a>>, line: &'a Line) -> Result<(), All
     Ok(())
 }
 
-/// What the NEW commands of these lines make new, in order, those after FOR too; not those of the lines' blocks. A NEW
-/// without arguments makes all locals new.
+/// What the NEW commands of `lines` create, in order, those after a FOR included, but not those of the lines' blocks. NEW
+/// without arguments creates all locals.
 pub fn new_names<'a>(alloc: Global, lines: &'a [Line]) -> Result<Vec<NewNames<'a>>, AllocError>
     ensures { IfOk result (λ v. map new_tree v.items ≡ news_of_lines (map line_of lines.now)) }
 {

@@ -1,12 +1,12 @@
 // Parts of routines.
 
-/// A line of a routine: how many lines come after the last that an entry there runs, and how many there are from it on.
+/// A part of a routine: the lines that an entry at a given line runs.
 #[derive(Clone, Copy, Drop)]
 pub struct RoutinePart {
-    /// which of the routines it is, counted from 0
+    /// the index of the routine, from 0
     pub routine: usize,
-    /// how many lines come after the last that an entry there runs
+    /// how many lines follow the last that the entry runs
     pub past: usize,
-    /// how many lines there are from it on
+    /// how many lines of the routine there are from the entry's line on
     pub left: usize,
 }

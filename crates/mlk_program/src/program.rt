@@ -14,7 +14,7 @@ use mlk_text::Name;
 use std::alloc::{AllocError, Global};
 use std::marker::Model;
 
-/// Routines, each of whose calls has a line that takes its actuals. They are borrowed.
+/// Routines in which each call has a line that accepts its actuals. They are borrowed.
 #[derive(Drop)]
 pub struct Program<'a> {
     pub(crate) directory: Directory<'a>,
@@ -46,38 +46,39 @@ impl<'a> Model for Program<'a> {
 }
 
 impl<'a> Program<'a> {
-    /// The routines, in the order given.
+    /// The routines, in the given order.
     pub fn routines(&self) -> &'a [Routine]
         ensures { result.now ≡ self.now }
     {
         self.directory.routines()
     }
 
-    /// The entry that a text names: `LABEL^ROUTINE`, or `^ROUTINE` for the routine's first line. It takes no memory.
+    /// The entry that `text` names: `LABEL^ROUTINE`, or `^ROUTINE` for the routine's first line; `None` if the program does not
+    /// have it. Allocates nothing.
     pub fn entry(&self, text: &[u8]) -> Option<EntryId>
         ensures { result ≡ entry_by (map routine_of self.now) text.now }
     {
         self.directory.entry(text)
     }
 
-    /// The entry that a callee names where the call stands in this one of the routines, counted from 0: a label alone is
-    /// one of that routine. It takes no memory.
+    /// The entry that `callee` names if the call is in the routine with the index `routine`: a label alone is one of that
+    /// routine. `None` if the program does not have it. Allocates nothing.
     pub fn target(&self, routine: usize, callee: &Callee) -> Option<EntryId>
         ensures { result ≡ target_of (map routine_of self.now) routine callee.now }
     {
         self.directory.target(routine, callee)
     }
 
-    /// The routine of an entry; none where the program lacks it. It takes no memory.
+    /// The routine of `entry`, or `None` if the program does not have it. Allocates nothing.
     pub fn routine_of(&self, entry: EntryId) -> Option<&'a Routine>
         ensures { option_copied result ≡ slice_get self.now entry.routine }
     {
         self.directory.routine_of(entry)
     }
 
-    /// The text of an entry: `LABEL^ROUTINE`, or `^ROUTINE` for a first line without label; none where the program
-    /// lacks it. Where a label stands on the first line, both `^ROUTINE` and the text with that label name its entry,
-    /// whose own text has the label.
+    /// The text of `entry`: `LABEL^ROUTINE`, or `^ROUTINE` for a first line without a label; `None` if the program does not have
+    /// it. If the first line has a label, both `^ROUTINE` and the text with that label name its entry, whose own text has the
+    /// label.
     pub fn text_of(&self, alloc: Global, entry: EntryId) -> Result<Option<Vec<u8>>, AllocError>
         ensures { IfOk result
             (λ o. option_map (λ v. v.items) o ≡ text_of_entry (map routine_of self.now) entry) }
@@ -85,32 +86,31 @@ impl<'a> Program<'a> {
         self.directory.text_of(alloc, entry)
     }
 
-    /// The line of an entry; none where the program lacks it. It takes no memory.
+    /// The line of `entry`, or `None` if the program does not have it. Allocates nothing.
     pub fn line(&self, entry: EntryId) -> Option<&'a Line>
         ensures { option_map (λ l. line_of l.now) result ≡ line_of_entry (map routine_of self.now) entry }
     {
         self.directory.line(entry)
     }
 
-    /// The lines of an entry, from its own to the routine's end, or to before the first later line that has a formal
-    /// list; none where the program lacks it. It takes no memory.
+    /// The lines of `entry`, from its own to the routine's end, or up to the next line that has a formal list; empty if the
+    /// program does not have it. Allocates nothing.
     pub fn lines_of(&self, entry: EntryId) -> &'a [Line]
         ensures { map line_of result.now ≡ lines_of (map routine_of self.now) entry }
     {
         self.directory.lines_of(entry)
     }
 
-    /// Whether the name is shared: some call of the program passes it by reference (`.X`), or a formal of this name
-    /// receives a name that is passed so, in whatever routine. It takes no memory.
+    /// Whether `name` is shared: some call of the program passes it by reference (`.X`), or a formal of this name receives a name
+    /// passed by reference, in any routine. Allocates nothing.
     pub fn is_shared(&self, name: &Name) -> bool
         ensures { result ≡ is_shared (map routine_of self.now) name.now }
     {
         self.shared.has(name.as_bytes())
     }
 
-    /// Whether a name is shared in an entry's frames by what the entry itself does, or what is done to it: it is a formal
-    /// of the entry that some call of the program fills by reference, or `.X` stands in the entry's lines or their blocks
-    /// for the name X. It takes no memory.
+    /// Whether `name` is shared in the frames of `entry` because of the entry itself: it is a formal of the entry to which some
+    /// call of the program passes by reference, or the entry's lines or their blocks pass it by reference. Allocates nothing.
     pub fn is_shared_in(&self, entry: EntryId, name: &Name) -> bool
         ensures { result ≡ is_shared_in (map routine_of self.now) entry name.now }
     {

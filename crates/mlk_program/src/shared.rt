@@ -1,4 +1,4 @@
-// The names that calls share.
+// Names that calls share.
 
 ghost use Rattle.std.specs.Prelude.{◌≡◌, ◌∷◌, [], OnOk, bytes_eq, flat_map, zip, option_copied};
 ghost use Rattle.std.specs.List.{list_any};
@@ -36,7 +36,7 @@ impl<'a> SharedNames<'a> {
         }
     }
 
-    /// Whether the name is one of them. It takes no memory.
+    /// Whether `name` is one of them. Allocates nothing.
     pub(crate) fn has(&self, name: &[u8]) -> bool
         ensures { result ≡ list_any (bytes_eq name.now) self.now }
     {

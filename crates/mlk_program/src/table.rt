@@ -1,4 +1,4 @@
-// Tables of names.
+// Indexes of names.
 
 ghost use Rattle.std.specs.Prelude.{◌≡◌, ◌∷◌, ◌++◌, [], OnOk, IfOk, option_map};
 ghost use Rattle.mlk_program.specs.Tables.{first_with, SameFirst, one_at, IsTableOf};
@@ -8,7 +8,7 @@ use mlk_syntax::{Line, Routine};
 use std::alloc::{AllocError, Global};
 use std::marker::Model;
 
-/// What may have a name.
+/// An item that may have a name.
 pub(crate) trait Labelled {
     ghost use Rattle.std.specs.Prelude.{◌≡◌, List, ℕ, Option, option_map};
 
@@ -42,7 +42,7 @@ impl Labelled for Line {
     }
 }
 
-/// Names, each with the place of the first item that has it, counted from 0.
+/// Names, each with the index of the first item that has it.
 #[derive(Drop)]
 pub(crate) struct NamePlaces<'a> {
     places: IndexMap<&'a [u8], usize>,
@@ -65,14 +65,14 @@ impl<'a> NamePlaces<'a> {
         }
     }
 
-    /// The place that a name stands for. It takes no memory.
+    /// The index of the first item with `name`, or `None`. Allocates nothing.
     pub(crate) fn place(&self, name: &[u8]) -> Option<usize>
         ensures { result ≡ first_with name.now self.now }
     {
         self.places.get(name).copied()
     }
 
-    // Puts a name after the others, where it does not stand among them.
+    // Appends `name`, unless it is there.
     fn add(&mut self, name: &'a [u8], place: usize) -> Result<(), AllocError>
         ensures { OnOk result (SameFirst self.new (self.old ++ (name.now, place) ∷ [])) }
     {
@@ -85,7 +85,7 @@ impl<'a> NamePlaces<'a> {
         Ok(())
     }
 
-    // Puts the name of an item after the others.
+    // Appends the name of `item`, if it has one.
     fn add_label<T: Labelled>(&mut self, item: &'a T, place: usize) -> Result<(), AllocError>
         ensures { OnOk result (SameFirst self.new (self.old ++ one_at place (T.label item.now))) }
     {
@@ -95,7 +95,7 @@ impl<'a> NamePlaces<'a> {
         }
     }
 
-    /// The table of these items.
+    /// The index of `items`.
     pub(crate) fn of<T: Labelled>(
         alloc: Global,
         items: &'a [T],

@@ -1,19 +1,19 @@
-//! Reads parts of expressions, numbers, routines, programs of one routine, rule files and certificates, one for each line of
-//! standard input, and prints a line for each: what is answered. A line that begins with `# ` says what the next ones show,
-//! and is printed as it is.
+//! Reads parts of expressions, numbers, routines, programs of one routine, rule files and certificates, one per line of
+//! standard input, and prints the reader's answer on a line for each. A line that begins with `# ` describes the next ones,
+//! and is printed unchanged.
 //!
 //! A line has the reader, the byte of the text at which the reader begins, and the text, in which `\` and two hexadecimal
-//! digits are one byte. The answer is `to` and the byte after what was read, or the fault: its code, its column, and the word
-//! of what is left out. The reader is `expr`, `ref` or `actuals`, also with `-no-calls` or `-no-touches` for where these may
-//! not stand, and with `-by-value` where nothing is passed by reference. `tree`, `list` and `list-by-value` are `expr`,
-//! `actuals` and `actuals-by-value`, `callee`, `label` and `name` read what calls and commands name: they print what was read
-//! in front of its end, a tree to the depth of its operands.
+//! digits are one byte. The answer is `to` and the byte after the part that was read, or the fault: its code, its column, and the
+//! word of the part of M that is not read. The reader is `expr`, `ref` or `actuals`, also with `-no-calls` or `-no-touches` if
+//! these are not allowed, and with `-by-value` if nothing is passed by reference. `tree`, `list` and `list-by-value` are `expr`,
+//! `actuals` and `actuals-by-value`, `callee`, `label` and `name` read the names in calls and commands: they print what was read
+//! before its end, a tree to the depth of its operands.
 //!
 //! Or a line has `canonical` or `whole` and a text: the answer is the number, or `none`. Or it has `routine`, `program`,
 //! `rules` or `cert` and a text: then the answer is `read`, or the fault. For a routine, which is named `R`, that is its place,
-//! its code, and the word of what is left out; so for a program of such a routine alone. For rules it is the section, the
-//! index in it, and the code; for a certificate the line and the code. `families` are rules, and prints the rank of each
-//! family and the bytes of its subscripts; `needs` is a certificate, and prints the bytes of the constants in its needs.
+//! its code, and the word of the part of M that is not read; likewise for a program of such a single routine. For rules it is the
+//! section, the index in it, and the code; for a certificate the line and the code. `families` are rules, and prints the rank of
+//! each family and the bytes of its subscripts; `needs` is a certificate, and prints the bytes of the constants in its needs.
 #![tactic(auto)]
 
 mod number;
@@ -45,7 +45,7 @@ fn digit(byte: u8) -> u8
     }
 }
 
-// Adds what comes after a `\`.
+// Adds the text after a `\`.
 fn add_coded(text: &mut Vec<u8>, piece: &[u8]) -> Result<(), AllocError> {
     match piece {
         [high, low, rest @ ..] => {
@@ -56,7 +56,7 @@ fn add_coded(text: &mut Vec<u8>, piece: &[u8]) -> Result<(), AllocError> {
     }
 }
 
-/// The text that is written so.
+/// Decodes the text `written`.
 pub(crate) fn text_of(alloc: Global, written: &[u8]) -> Result<Vec<u8>, AllocError> {
     let mut text = Vec::new(alloc);
     for (place, piece) in written.split_str(b"\\").enumerate() {
@@ -69,7 +69,7 @@ pub(crate) fn text_of(alloc: Global, written: &[u8]) -> Result<Vec<u8>, AllocErr
     Ok(text)
 }
 
-// Ends a line with the word of what is left out, where something is.
+// Ends a line with the word of the part of M that is not read, if the fault has one.
 fn write_left_out(fault: &Fault, out: &mut Vec<u8>) -> io::Result<()> {
     if let Some(left_out) = &fault.left_out {
         out.push(b' ')?;
@@ -118,7 +118,7 @@ fn link_alone(alloc: Global, text: &[u8]) -> Result<(), Failure<Fault>> {
     Ok(())
 }
 
-// Adds what is answered to the text of a routine, or of a program.
+// Adds the answer for the text of a routine, or of a program.
 fn write_read(read: Result<(), Failure<Fault>>, out: &mut Vec<u8>) -> io::Result<()> {
     match &read {
         Ok(()) => writeln!(out, "read"),
@@ -137,7 +137,7 @@ fn answer_program(alloc: Global, written: &[u8], out: &mut Vec<u8>) -> io::Resul
     write_read(link_alone(alloc, text.as_slice()), out)
 }
 
-// Adds what is answered to the text of rules.
+// Adds the answer for the text of rules.
 fn write_rules_read(read: Result<Rules, Failure<RulesFault>>, out: &mut Vec<u8>) -> io::Result<()> {
     match &read {
         Ok(_) => writeln!(out, "read"),
@@ -182,7 +182,7 @@ fn write_cert_fault(fault: &CertFault, out: &mut Vec<u8>) -> io::Result<()> {
     writeln!(out, "{} {}", fault.line.number(), fault.code.number())
 }
 
-// Adds what is answered to the text of a certificate.
+// Adds the answer for the text of a certificate.
 fn write_cert_read(
     read: Result<Certificate, Failure<CertFault>>,
     out: &mut Vec<u8>,
@@ -234,13 +234,13 @@ fn answer_cert(alloc: Global, written: &[u8], out: &mut Vec<u8>) -> io::Result<(
     write_cert_read(read_cert(alloc, text.as_slice()), out)
 }
 
-// Adds a line that says what the next ones show.
+// Copies a line that describes the next ones.
 fn copy_line(line: &[u8], out: &mut Vec<u8>) -> io::Result<()> {
     out.extend_from_slice(line)?;
     writeln!(out)
 }
 
-// Adds what is answered to a line.
+// Adds the answer for a line.
 fn answer(alloc: Global, line: &[u8], out: &mut Vec<u8>) -> io::Result<()> {
     match line.split_once_str(b" ") {
         None => Err(io::Error::from(ErrorKind::InvalidInput)),

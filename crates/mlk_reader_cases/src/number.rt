@@ -17,7 +17,7 @@ pub(crate) fn answer_canonical(alloc: Global, written: &[u8], out: &mut Vec<u8>)
     }
 }
 
-/// Adds the whole number whose canonical text this is, if it is one.
+/// Adds the whole number whose canonical text is given, if it is one.
 pub(crate) fn answer_whole(alloc: Global, written: &[u8], out: &mut Vec<u8>) -> io::Result<()> {
     let text = text_of(alloc, written)?;
     match whole(text.as_slice()) {

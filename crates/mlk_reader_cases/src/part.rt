@@ -1,4 +1,4 @@
-// Parts of expressions, and what calls and commands name.
+// Parts of expressions, and the names in calls and commands.
 
 ghost use Rattle.std.specs.Prelude.{◌≤◌, length};
 
@@ -14,10 +14,10 @@ use mlk_text::{Failure, Fault, Name};
 use std::alloc::Global;
 use std::io::{self, ErrorKind, Write};
 
-// What a reader answers.
+// The result of a reader.
 type Read<T> = Result<(T, usize), Failure<Fault>>;
 
-// Where a reader stops.
+// The byte at which a reader stops.
 fn end<T: Drop>(read: Read<T>) -> Result<usize, Failure<Fault>> {
     match read {
         Ok((_, next)) => Ok(next),
@@ -25,7 +25,7 @@ fn end<T: Drop>(read: Read<T>) -> Result<usize, Failure<Fault>> {
     }
 }
 
-// Where the reader of this name stops, which reads where not everything is allowed.
+// The byte at which the reader with this name stops, one for places in which not everything is allowed.
 fn end_of_less(
     alloc: Global,
     reader: &[u8],
@@ -47,7 +47,7 @@ fn end_of_less(
     }
 }
 
-// Where the reader of this name stops.
+// The byte at which the reader with this name stops.
 fn end_of(alloc: Global, reader: &[u8], text: &[u8], at: usize) -> Result<usize, Failure<Fault>>
     requires { at ≤ length text.now }
 {
@@ -77,7 +77,7 @@ fn write_failure(failure: &Failure<Fault>, out: &mut Vec<u8>) -> io::Result<()> 
     }
 }
 
-// Adds where a reader stops.
+// Adds the byte at which a reader stops.
 fn write_end(end: Result<usize, Failure<Fault>>, out: &mut Vec<u8>) -> io::Result<()> {
     match &end {
         Ok(end) => writeln!(out, "to {end}"),
@@ -125,7 +125,7 @@ fn write_name_read(read: Read<Name>, out: &mut Vec<u8>) -> io::Result<()> {
     }
 }
 
-// Adds what the reader of this name answers.
+// Adds the answer of the reader with this name.
 fn write_answer(
     alloc: Global,
     reader: &[u8],
@@ -161,7 +161,7 @@ fn answer_text(
     write_answer(alloc, reader, text.as_slice(), at, out)
 }
 
-/// Adds what is answered to a part of an expression, which comes after its place.
+/// Adds the answer for a part of an expression, which comes after its place.
 pub(crate) fn answer_part(
     alloc: Global,
     reader: &[u8],

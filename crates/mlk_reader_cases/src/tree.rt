@@ -1,4 +1,4 @@
-// What was read, printed.
+// Printing of trees.
 
 use mlk_expr::{Actual, Callee, Expr, Subscript};
 use mlk_text::Name;
@@ -74,7 +74,7 @@ fn write_name(name: &Option<Name>, out: &mut Vec<u8>) -> io::Result<()> {
     }
 }
 
-/// Adds a callee: its label, `^` and its routine, each where it is named.
+/// Adds a callee: its label, `^` and its routine, each if it is named.
 pub(crate) fn write_callee(callee: &Callee, out: &mut Vec<u8>) -> io::Result<()> {
     write_name(&callee.label, out)?;
     out.push(b'^')?;

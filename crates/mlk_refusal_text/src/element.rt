@@ -8,7 +8,7 @@ use toml::{Table, Value};
 #[derive(Clone, Copy, Drop)]
 pub(crate) struct Key {
     pub(crate) name: &'static str,
-    /// what its text is to be; none of a rank, which is a whole number
+    /// the form of its text; `None` for a rank, which is a whole number
     pub(crate) form: Option<Form>,
     is_optional: bool,
 }
@@ -86,19 +86,19 @@ pub(crate) fn section_key(section: Section) -> &'static str {
     }
 }
 
-/// Whether this is the key of a section.
+/// Whether `key` is that of a section.
 pub(crate) fn is_section_key(key: &str) -> bool {
     matches!(key, "lock" | "cover" | "private" | "readonly" | "entry")
 }
 
-/// The element of a section with this number, counted from 1; `None` if there is none.
+/// Element number `index` of a section, counted from 1; `None` if there is none.
 pub(crate) fn element_of<'t>(table: &'t Table, section: &str, index: usize) -> Option<&'t Table> {
     let place = index.checked_sub(1)?;
     let elements = table.get(section)?.as_array()?;
     elements.as_slice().get(place)?.as_table()
 }
 
-/// The first key of an element that its section does not have.
+/// The first key of an element that its section does not have, or `None`.
 pub(crate) fn unknown_key<'t>(element: &'t Table, keys: &[Key]) -> Option<&'t str> {
     for key in element.keys() {
         if !keys.iter().any(|known| known.name == key.as_str()) {
@@ -108,7 +108,7 @@ pub(crate) fn unknown_key<'t>(element: &'t Table, keys: &[Key]) -> Option<&'t st
     None
 }
 
-/// The first key that is missing.
+/// The first key that is missing, or `None`.
 pub(crate) fn missing_key(element: &Table, keys: &[Key]) -> Option<&'static str> {
     for key in keys {
         if !key.is_optional && element.get(key.name).is_none() {
@@ -125,7 +125,7 @@ fn has_type(key: &Key, value: &Value) -> bool {
     }
 }
 
-/// The first key whose value has another type, and that type.
+/// The first key whose value has a wrong type, and that type, or `None`.
 pub(crate) fn mistyped_key(element: &Table, keys: &[Key]) -> Option<(&'static str, &'static str)> {
     for key in keys {
         if let Some(value) = element.get(key.name)

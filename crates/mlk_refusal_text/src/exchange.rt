@@ -1,4 +1,4 @@
-// Files that were given in one another's place.
+// Files that were given in the wrong order.
 
 use bstr::ByteSlice;
 use mlk_excerpts::split_at_most;
@@ -13,7 +13,7 @@ fn first_line(text: &[u8]) -> &[u8] {
     b""
 }
 
-// Whether a line begins as lines of routines do, and none of TOML does: with a label or a command, and no `=` after it.
+// Whether a line begins like a line of a routine, and unlike TOML: with a label or a command, and without `=` after it.
 fn begins_routine(line: &[u8]) -> bool {
     let line = line.trim_start();
     let word = line

@@ -1,4 +1,4 @@
-// What explains a refusal, and how it is written.
+// The explanation of a refusal, and its text.
 
 use mlk_excerpts::{Excerpt, TextLines, margin_of, push_excerpt, push_labelled};
 use mlk_report_text::Piece::{At, Bytes, Number, Words};
@@ -6,7 +6,7 @@ use mlk_report_text::push_all;
 use mlk_text::{Code, Column, LineNumber};
 use std::alloc::{AllocError, Global};
 
-/// A file as it was given: its path, and its text, which is empty if it isn't at hand.
+/// A file as it was given: its path, and its text, which is empty if it is not available.
 #[derive(Clone, Copy, Drop)]
 pub struct GivenFile<'a> {
     pub path: &'a str,
@@ -21,29 +21,29 @@ pub struct Spot {
 }
 
 impl Spot {
-    /// The column, or else the first one.
+    /// The column, or the first one if it is not known.
     pub(crate) fn caret(self) -> Column {
         self.column.unwrap_or(Column::new(1))
     }
 }
 
-/// What explains a refusal.
+/// The explanation of a refusal.
 #[derive(Drop)]
 pub(crate) struct Explanation<'a> {
     pub(crate) code: Code,
-    /// the file that is refused, if one is
+    /// the refused file, if there is one
     pub(crate) file: Option<GivenFile<'a>>,
-    /// where it is refused, if that is known
+    /// the place of the refusal, if it is known
     pub(crate) spot: Option<Spot>,
     /// what is wrong
     pub(crate) what: Vec<u8>,
-    /// what mends it
+    /// what corrects it
     pub(crate) help: &'static str,
     /// what else may be wrong
     pub(crate) note: Option<&'static str>,
 }
 
-// Appends where it is: `--> PATH:line:column`.
+// Appends the place: `--> PATH:line:column`.
 fn push_place(text: &mut Vec<u8>, it: &Explanation<'_>) -> Result<(), AllocError> {
     let Some(file) = &it.file else {
         return Ok(());
@@ -77,7 +77,7 @@ impl Explanation<'_> {
         Ok(true)
     }
 
-    // The blanks below the number of the line.
+    // The spaces below the number of the line.
     fn margin(&self) -> &'static [u8] {
         match self.spot {
             Some(spot) => margin_of(spot.line),
@@ -85,7 +85,7 @@ impl Explanation<'_> {
         }
     }
 
-    /// Writes it, on lines of its own.
+    /// Writes the explanation, on lines of its own.
     pub(crate) fn text(&self, alloc: Global) -> Result<Vec<u8>, AllocError> {
         let margin = self.margin();
         let mut text = Vec::new(alloc);

@@ -9,7 +9,7 @@ use mlk_text::Code;
 use std::alloc::{AllocError, Global};
 use std::io::ErrorKind;
 
-// What the page of a code says, at a place of a file.
+// The page of a code as an explanation, at a place of a file.
 fn page_help(
     alloc: Global,
     code: Code,
@@ -28,8 +28,7 @@ fn page_help(
     it.text(alloc)
 }
 
-/// Explains a refusal of this code at a line of `file`: a certificate, a file of events, or the routine at which the maker gave
-/// up.
+/// Explains the refusal `code` at a line of `file`: a certificate, a file of events, or the routine at which the maker gave up.
 pub fn line_help(
     alloc: Global,
     code: Code,
@@ -39,12 +38,12 @@ pub fn line_help(
     page_help(alloc, code, Some(*file), Some(spot))
 }
 
-/// Explains a refusal of this code that is at no place in a file.
+/// Explains the refusal `code` that is at no place in a file.
 pub fn code_help(alloc: Global, code: Code) -> Result<Vec<u8>, AllocError> {
     page_help(alloc, code, None, None)
 }
 
-/// Finds where a rule file with this text declares `entry`; `None` if it is written otherwise there.
+/// Finds the place at which the rule file `rules` declares `entry`; `None` if it is spelled in another way there.
 pub fn entry_place(alloc: Global, rules: &[u8], entry: &[u8]) -> Result<Option<Spot>, AllocError> {
     let text = text_of(alloc, &[Words("\""), Bytes(entry), Words("\"")])?;
     line_with(alloc, rules, text.as_slice())

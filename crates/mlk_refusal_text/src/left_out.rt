@@ -5,7 +5,7 @@ use mlk_report_text::text_of;
 use mlk_text::LeftOut;
 use std::alloc::{AllocError, Global};
 
-/// Writes what is not read. `token` is what is at the place, and names a function or a special variable.
+/// Describes the part of M that is not read. `token` is the text at the place, and names a function or a special variable.
 pub(crate) fn left_out_text(
     alloc: Global,
     left_out: &LeftOut,

@@ -1,5 +1,5 @@
-//! What explains a refusal to people: the line at which the input was refused, with a caret, what is wrong there, and what helps.
-//! The line of the refusal itself is `mlk_app`'s.
+//! Explanations of refusals for people: the line at which the input was refused, with a caret, what is wrong there, and what
+//! helps. The line of the refusal itself is written by `mlk_app`.
 #![tactic(auto)]
 
 mod element;

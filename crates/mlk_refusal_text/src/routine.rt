@@ -1,4 +1,4 @@
-// Why a routine is refused, or the linking of routines.
+// Why a routine, or the linking of routines, is refused.
 
 use crate::exchange::is_like_rules;
 use crate::explanation::{Explanation, GivenFile, Spot};
@@ -34,7 +34,7 @@ fn what_of(alloc: Global, file: &GivenFile<'_>, fault: &Fault) -> Result<Vec<u8>
     }
 }
 
-// What mends it.
+// What corrects it.
 fn help_of(fault: &Fault) -> &'static str {
     match &fault.left_out {
         Some(left_out) => left_out_help(left_out),
@@ -42,7 +42,7 @@ fn help_of(fault: &Fault) -> &'static str {
     }
 }
 
-// Where it is; nowhere in a file whose name is refused.
+// The place of a fault; `None` for a file whose name is refused.
 fn spot_of(fault: &Fault) -> Option<Spot> {
     if fault.code == Code::RoutineName {
         return None;

@@ -33,8 +33,8 @@ fn rule_finding(alloc: Global, text: &[u8], fault: &RulesFault) -> Result<RuleFi
     }
 }
 
-/// Explains why the rule file in `file` is refused: at which line and column, and what is wrong there; of TOML by its reader's own
-/// words.
+/// Explains why the rule file `file` is refused: the line and column, and what is wrong there; for invalid TOML in the words of
+/// the TOML reader.
 pub fn rules_help(
     alloc: Global,
     file: &GivenFile<'_>,
@@ -57,7 +57,7 @@ pub fn rules_help(
     it.text(alloc)
 }
 
-/// Finds where a rule file with this text is refused; `None` if the refusal is at no line.
+/// Finds the place at which the rule file `text` is refused; `None` if the refusal is at no line.
 pub fn rules_place(
     alloc: Global,
     text: &[u8],

@@ -16,7 +16,7 @@ use mlk_text::limit::GREATEST_RANK;
 use std::alloc::{AllocError, Global};
 use toml::Table;
 
-/// What is wrong with a rule file, and where that is, if it is at a line.
+/// What is wrong with a rule file, and the place, if it is at a line.
 #[derive(Drop)]
 pub(crate) struct RuleFinding {
     pub(crate) spot: Option<Spot>,
@@ -34,12 +34,12 @@ fn finding(
     })
 }
 
-// What the page of a code says.
+// The meaning on the page of a code.
 fn page_finding(alloc: Global, spot: Option<Spot>, code: Code) -> Result<RuleFinding, AllocError> {
     finding(alloc, spot, &[Words(page_of(code).meaning)])
 }
 
-/// What the reader of TOML says, and at which byte.
+/// The message of the TOML reader, and its byte.
 pub(crate) fn toml_finding(
     alloc: Global,
     lines: &TextLines<'_>,
@@ -80,7 +80,7 @@ impl<'t, 'a> RefusedElement<'t, 'a> {
         }
     }
 
-    // The same with the caret below a byte of its text.
+    // The line of a key of the element, with the caret below a byte of its text.
     fn at_value(&self, key: &str, text: &str, offset: usize) -> Option<Spot> {
         match key_line(self.lines, section_key(self.section), self.index, key) {
             Some(line) => Some(line.at_value(text.as_bytes(), offset)),
@@ -95,7 +95,7 @@ impl<'t, 'a> RefusedElement<'t, 'a> {
             .as_str()
     }
 
-    // A key at the top that is no section.
+    // A key at the top that is not a section.
     fn top_finding(&self, alloc: Global) -> Result<RuleFinding, AllocError> {
         for key in self.table.keys() {
             if !is_section_key(key.as_str()) {
@@ -110,7 +110,7 @@ impl<'t, 'a> RefusedElement<'t, 'a> {
         page_finding(alloc, None, Code::Key)
     }
 
-    // A section that is no array of tables.
+    // A section that is not an array of tables.
     fn section_finding(&self, alloc: Global) -> Result<RuleFinding, AllocError> {
         let section = Words(section_key(self.section));
         let wanted = Words(" has to be an array of tables, such as [[");
@@ -118,7 +118,7 @@ impl<'t, 'a> RefusedElement<'t, 'a> {
         finding(alloc, self.head(), &[section, wanted, name, Words("]]")])
     }
 
-    // A key of an element that is unknown, missing or of another type.
+    // A key of an element that is unknown, missing or of a wrong type.
     fn element_finding(&self, alloc: Global) -> Result<RuleFinding, AllocError> {
         let section = section_key(self.section);
         let keys = keys_of(self.section);
@@ -174,7 +174,7 @@ impl<'t, 'a> RefusedElement<'t, 'a> {
         page_finding(alloc, self.head(), Code::Pattern)
     }
 
-    // Which variable of a lock its pattern does not have: 404.
+    // The variable of a lock that its pattern does not have: 404.
     fn variable_finding(&self, alloc: Global) -> Result<RuleFinding, AllocError> {
         let pattern = self.text("global").unwrap_or("");
         let pattern = Parts::of(alloc, pattern.as_bytes())?;
@@ -221,7 +221,7 @@ impl<'t, 'a> RefusedElement<'t, 'a> {
         }
     }
 
-    // Which limit is passed: 406.
+    // The limit that is exceeded: 406.
     fn limit_finding(&self, alloc: Global) -> Result<RuleFinding, AllocError> {
         if self.index == 0 {
             let many = Words("a section has at most 1,024 elements");
@@ -238,7 +238,7 @@ impl<'t, 'a> RefusedElement<'t, 'a> {
         page_finding(alloc, self.head(), Code::RulesLimit)
     }
 
-    // The family that meets an earlier one: 405; or what else is refused.
+    // The family that meets an earlier one: 405; or any other refusal.
     fn other_finding(&self, alloc: Global, code: Code) -> Result<RuleFinding, AllocError> {
         let line = match self.text("name") {
             Some(name) => self.at_value("name", name, 0),
@@ -253,7 +253,7 @@ fn is_variable(text: &[u8]) -> bool {
     matches!(text.first(), Some(first) if first.is_ascii_alphabetic() || *first == b'%')
 }
 
-// The first variable of a lock that its pattern does not have, and its byte.
+// The first variable of a lock that its pattern does not have, and its byte, or `None`.
 fn strange_variable<'l>(
     alloc: Global,
     pattern: &Parts<'_>,
@@ -268,7 +268,7 @@ fn strange_variable<'l>(
     Ok(None)
 }
 
-// A variable of a pattern that differs from `name` in capitals alone.
+// A variable of a pattern that differs from `name` in capitals only, or `None`.
 fn same_letters<'p>(pattern: &Parts<'p>, name: &[u8]) -> Option<&'p [u8]> {
     for element in pattern.elements.iter() {
         if element.text.eq_ignore_ascii_case(name) {
@@ -278,7 +278,7 @@ fn same_letters<'p>(pattern: &Parts<'p>, name: &[u8]) -> Option<&'p [u8]> {
     None
 }
 
-/// What is wrong with an element of a rule file that is TOML.
+/// What is wrong with an element of a rule file that is valid TOML.
 pub(crate) fn element_finding(
     alloc: Global,
     element: &RefusedElement<'_, '_>,

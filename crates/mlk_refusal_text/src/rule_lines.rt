@@ -6,12 +6,12 @@ use mlk_excerpts::{TextLines, split_at_most};
 use mlk_text::{Column, LineNumber};
 use std::alloc::{AllocError, Global};
 
-// The number of the line at this place, from 0.
+// The number of the line with the index `place`.
 fn number_at(place: usize) -> LineNumber {
     LineNumber::new(u32::try_from(place.saturating_add(1)).unwrap_or(u32::MAX))
 }
 
-// The byte at `offset` of a line, by its place from 0.
+// The byte at `offset` of the line with the index `place`.
 fn spot_at(place: usize, offset: usize) -> Spot {
     Spot {
         line: number_at(place),
@@ -19,7 +19,7 @@ fn spot_at(place: usize, offset: usize) -> Spot {
     }
 }
 
-/// Finds the first line that has `words`, and where; `None` if no line has them.
+/// Finds the first line that contains `words`, and the place; `None` if no line does.
 pub(crate) fn line_with(
     alloc: Global,
     text: &[u8],
@@ -34,14 +34,14 @@ pub(crate) fn line_with(
     Ok(None)
 }
 
-// What comes after the key at the front of a line and its `=`, if the line has this key.
+// The rest of a line after its key and `=`, or `None` if the line does not have this key.
 fn after_key<'a>(line: &'a [u8], key: &str) -> Option<&'a [u8]> {
     let rest = line.trim_start().strip_prefix(key.as_bytes())?;
     let rest = rest.trim_start().strip_prefix(b"=")?;
     Some(rest.trim_start())
 }
 
-// Whether a line is the head of an element of this section, as `[[lock]]`.
+// Whether a line is the head of an element of `section`, such as `[[lock]]`.
 fn is_element_head(line: &[u8], section: &str) -> bool {
     let Some(rest) = line.trim_start().strip_prefix(b"[[") else {
         return false;
@@ -52,7 +52,7 @@ fn is_element_head(line: &[u8], section: &str) -> bool {
     }
 }
 
-// Whether a line is the head of a table of this name, as `[lock]`, or has it as a key.
+// Whether a line is the head of a table with the name `section`, such as `[lock]`, or has it as a key.
 fn names_section(line: &[u8], section: &str) -> bool {
     if is_element_head(line, section) || after_key(line, section).is_some() {
         return true;
@@ -66,7 +66,7 @@ fn names_section(line: &[u8], section: &str) -> bool {
     }
 }
 
-/// Where a section begins; `None` if no line names it.
+/// The place at which a section begins; `None` if no line names it.
 pub(crate) fn section_line(lines: &TextLines<'_>, section: &str) -> Option<Spot> {
     for (place, line) in lines.as_slice().iter().enumerate() {
         if names_section(*line, section) {
@@ -77,7 +77,7 @@ pub(crate) fn section_line(lines: &TextLines<'_>, section: &str) -> Option<Spot>
     None
 }
 
-// The place of the head of an element, which is this one of its section, counted from 1.
+// The index of the line with the head of element number `index` of a section, counted from 1, or `None`.
 fn element_place(lines: &TextLines<'_>, section: &str, index: usize) -> Option<usize> {
     let mut count = 0usize;
     for (place, line) in lines.as_slice().iter().enumerate() {
@@ -91,13 +91,13 @@ fn element_place(lines: &TextLines<'_>, section: &str, index: usize) -> Option<u
     None
 }
 
-// How many bytes of `line` come before a part at its end.
+// The number of bytes of `line` before `end`, which is its end.
 fn bytes_before(line: &[u8], end: &[u8]) -> usize {
     line.len().saturating_sub(end.len())
 }
 
-/// Where an element begins, which is this one of its section, counted from 1; the first line of the section if its elements have
-/// no lines of their own.
+/// The place at which element number `index` of a section begins, counted from 1; the first line of the section if its elements
+/// have no lines of their own.
 pub(crate) fn element_line(lines: &TextLines<'_>, section: &str, index: usize) -> Option<Spot> {
     let Some(head) = element_place(lines, section, index) else {
         return section_line(lines, section);
@@ -111,18 +111,18 @@ pub(crate) fn element_line(lines: &TextLines<'_>, section: &str, index: usize) -
 pub(crate) struct KeyLine<'a> {
     place: usize,
     line: &'a [u8],
-    /// what comes after the `=`
+    /// the rest of the line after the `=`
     value: &'a [u8],
 }
 
 impl<'a> KeyLine<'a> {
-    /// Where the key is.
+    /// The place of the key.
     pub(crate) fn at_key(&self) -> Spot {
         let key = self.line.trim_start();
         spot_at(self.place, bytes_before(self.line, key))
     }
 
-    /// Where the byte at `offset` of `text` is, which is the key's value; where the value begins if it is not written as it is.
+    /// The place of the byte at `offset` of `text`, the key's value; that of the value's begin if it is not written literally.
     pub(crate) fn at_value(&self, text: &[u8], offset: usize) -> Spot {
         let start = bytes_before(self.line, self.value);
         let quotes = usize::from(matches!(self.value.first(), Some(b'"' | b'\'')));
@@ -138,8 +138,7 @@ impl<'a> KeyLine<'a> {
     }
 }
 
-/// The line of a key of an element, which is this one of its section, counted from 1; `None` if it has none, as in an inline
-/// table.
+/// The line of a key of element number `index` of a section, counted from 1; `None` if it has none, as in an inline table.
 pub(crate) fn key_line<'a>(
     lines: &TextLines<'a>,
     section: &str,
@@ -163,7 +162,7 @@ pub(crate) fn key_line<'a>(
     None
 }
 
-/// Where the byte at `offset` of `text` is; the end of the last line if it is past all lines.
+/// The place of the byte at `offset` of `text`; the end of the last line if it is past all lines.
 pub(crate) fn line_of_byte(lines: &TextLines<'_>, text: &[u8], offset: usize) -> Option<Spot> {
     let (before, _) = split_at_most(text, offset);
     let place = before.iter().filter(|byte| **byte == b'\n').count();

@@ -5,7 +5,7 @@ use mlk_excerpts::split_at_most;
 use mlk_text::limit::LONGEST_NAME;
 use std::alloc::{AllocError, Global};
 
-/// What a text of a rule file is to be.
+/// The form that a text of a rule file must have.
 #[derive(Clone, Copy, Debug, Drop, PartialEq, Eq)]
 pub(crate) enum Form {
     /// the pattern of a cover or a readonly rule
@@ -26,14 +26,14 @@ pub(crate) struct Slip {
     pub(crate) what: &'static str,
 }
 
-/// The most elements in parentheses.
+/// The maximum number of elements in parentheses.
 pub(crate) const MOST_ELEMENTS: usize = 8;
 
 fn wrong_at(at: usize, what: &'static str) -> Option<Slip> {
     Some(Slip { at, what })
 }
 
-// The same in a part of the text that begins at `start`.
+// `slip`, in a part of the text that begins at `start`.
 fn moved(start: usize, slip: Option<Slip>) -> Option<Slip> {
     match slip {
         Some(slip) => Some(Slip {
@@ -44,7 +44,7 @@ fn moved(start: usize, slip: Option<Slip>) -> Option<Slip> {
     }
 }
 
-// The name at the front of a text, and what comes after it.
+// The name at the front of a text, and the rest.
 fn split_name(text: &[u8]) -> (&[u8], &[u8]) {
     let marks = usize::from(text.starts_with(b"%"));
     let (_, rest) = split_at_most(text, marks);
@@ -88,7 +88,7 @@ fn number_slip(text: &[u8]) -> Option<Slip> {
     }
 }
 
-// What is wrong with `$J`, or what is in its place.
+// What is wrong with `$J`, or with the text in its place.
 fn job_slip(form: Form, text: &[u8]) -> Option<Slip> {
     if text != b"$J".as_slice() {
         return wrong_at(0, "only J may come after $: $J is the job's own number");
@@ -123,7 +123,7 @@ fn tree_slip(form: Form, is_last: bool) -> Option<Slip> {
     }
 }
 
-// What is wrong with an element, which may be the last one.
+// What is wrong with an element; `is_last` says whether it is the last one.
 fn element_slip(form: Form, text: &[u8], is_last: bool) -> Option<Slip> {
     if let Some(at) = text.iter().position(|byte| is_blank(*byte))
         && !text.starts_with(b"\"")
@@ -157,7 +157,7 @@ pub(crate) struct ElementAt<'a> {
 #[derive(Drop)]
 pub(crate) struct Parts<'a> {
     pub(crate) name: &'a [u8],
-    /// what comes after the name
+    /// the rest after the name
     list: &'a [u8],
     pub(crate) elements: Vec<ElementAt<'a>>,
     /// the byte of the closing parenthesis, if there is one
@@ -183,7 +183,7 @@ fn push_element<'a>(
 }
 
 impl<'a> Parts<'a> {
-    /// Takes a text apart at its parentheses and commas; those in quotes are none.
+    /// Splits a text at its parentheses and commas, except for those in quotes.
     pub(crate) fn of(alloc: Global, text: &'a [u8]) -> Result<Parts<'a>, AllocError> {
         let carets = usize::from(text.starts_with(b"^"));
         let (_, rest) = split_at_most(text, carets);
@@ -214,12 +214,12 @@ impl<'a> Parts<'a> {
         })
     }
 
-    /// Whether an element is this variable.
+    /// Whether an element is the variable `name`.
     pub(crate) fn has_variable(&self, name: &[u8]) -> bool {
         self.elements.iter().any(|element| element.text == name)
     }
 
-    // What is wrong around the elements: the name, the parentheses, and what comes after them.
+    // What is wrong around the elements: the name, the parentheses, and the rest after them.
     fn frame_slip(&self, form: Form, length: usize) -> Option<Slip> {
         let carets = usize::from(self.name.starts_with(b"^"));
         if carets == 0 && matches!(form, Form::Pattern | Form::Private) {
@@ -243,7 +243,7 @@ impl<'a> Parts<'a> {
         }
     }
 
-    // What is wrong with the elements, each by itself.
+    // What is wrong with the elements, each considered separately.
     fn elements_slip(&self, form: Form) -> Option<Slip> {
         let last = self.elements.len();
         for (place, element) in self.elements.iter().enumerate() {
@@ -271,7 +271,7 @@ impl<'a> Parts<'a> {
         None
     }
 
-    // What is wrong with the number of `$J`, which a private pattern has once.
+    // What is wrong with the number of `$J`; a private pattern has it once.
     fn jobs_slip(&self, form: Form) -> Option<Slip> {
         if form != Form::Private {
             return None;

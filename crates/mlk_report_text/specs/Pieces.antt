@@ -15,7 +15,7 @@ abbrev pub more : List (List ℕ) → List ℕ
 more [] = []
 more (t ∷ ts) = codes ", " ++ t ++ more ts
 
--- texts, with a comma and a blank between them
+-- texts separated by commas
 abbrev pub listed : List (List ℕ) → List ℕ
 listed [] = []
 listed (t ∷ ts) = t ++ more ts

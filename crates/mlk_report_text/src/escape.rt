@@ -1,8 +1,8 @@
-// Bytes, escaped.
+// Escaping of bytes.
 
 use std::alloc::{AllocError, Global};
 
-// Whether a byte stays as it is.
+// Whether a byte is not escaped.
 fn is_plain(byte: u8) -> bool {
     matches!(byte, b' '..=b'~') && byte != b'\\'
 }

@@ -14,9 +14,9 @@ pub enum Field<'a> {
     Number(usize),
     /// a text, as it is
     Text(&'a str),
-    /// bytes, as `escape_bytes` makes them
+    /// bytes, escaped by `escape_bytes`
     Bytes(&'a [u8]),
-    /// bytes that were made for this field, as `escape_bytes` makes them
+    /// bytes that were built for this field, escaped by `escape_bytes`
     Made(Vec<u8>),
     Value(Value),
 }
@@ -60,7 +60,7 @@ fn put_field(
     put(object, alloc, name, value)
 }
 
-/// The object that has `members`.
+/// The object with the members `members`.
 pub fn object(alloc: Global, members: Vec<(&str, Field<'_>)>) -> Result<Value, AllocError> {
     let mut object = Map::new(alloc);
     for (name, field) in members {
@@ -69,7 +69,7 @@ pub fn object(alloc: Global, members: Vec<(&str, Field<'_>)>) -> Result<Value, A
     Ok(Value::Object(object))
 }
 
-/// The object that has one member.
+/// The object with one member.
 pub fn member(alloc: Global, name: &str, field: Field<'_>) -> Result<Value, AllocError> {
     let mut object = Map::new(alloc);
     put_field(&mut object, alloc, name, field)?;

@@ -1,4 +1,4 @@
-//! What printers share: texts as lists of pieces, and JSON objects as tables of fields.
+//! Shared by all printers: texts as lists of pieces, and JSON objects as tables of fields.
 #![tactic(auto)]
 
 mod escape;

@@ -1,4 +1,4 @@
-// Texts, put together of pieces.
+// Texts that are built from pieces.
 
 ghost use Rattle.std.specs.Prelude.{◌≡◌, ◌++◌, IfOk, OnOk, map};
 ghost use Rattle.std.specs.Fmt.{decimal};
@@ -13,7 +13,7 @@ pub enum Piece<'a> {
     Words(&'a str),
     /// bytes, as they are
     Bytes(&'a [u8]),
-    /// bytes that were made for this text
+    /// bytes that were built for this text
     Made(Vec<u8>),
     /// the digits of a number
     Number(usize),
@@ -21,7 +21,7 @@ pub enum Piece<'a> {
     At(LineNumber, Column),
     /// `CODE NAME`
     CodeName(Code),
-    /// texts, with a comma and a blank between them
+    /// texts, separated by a comma and a space
     Listed(&'a [Vec<u8>]),
 }
 
@@ -32,7 +32,7 @@ fn push_number(text: &mut Vec<u8>, number: usize) -> Result<(), AllocError>
     text.extend_from_slice(digits.as_bytes())
 }
 
-// Texts, each after a comma and a blank.
+// Appends texts, each after a comma and a space.
 fn push_more(text: &mut Vec<u8>, items: &[Vec<u8>]) -> Result<(), AllocError>
     ensures { OnOk result (text.new.items ≡ text.old.items ++ more (map bytes_of items.now)) }
 {

@@ -25,7 +25,7 @@ IsTail w returns at t s = Both (λ n r. IsConditionOf w n t.0 r) (λ n r. IsActi
 abbrev pub TailEnds : Option Tree × ActionTree → List ℕ → Type 0
 TailEnds t rest = ActionEnds t.1 rest
 
--- what stands after a command ends an expression and is no colon and no letter
+-- what follows a command ends an expression and is no colon and no letter
 pub stop_lacks : (b : Bool) (rest : List ℕ) → StopEnds b rest → is_command_end rest ≡ true
 stop_lacks true rest h = h
 stop_lacks false [] h = refl
@@ -50,7 +50,7 @@ pub no_letter : (rest : List ℕ) → is_command_end rest ≡ true → starts is
 no_letter [] h = refl
 no_letter (b ∷ rest) h = grind (arith, nat_tests)
 
--- arguments begin with a space, where there are any
+-- arguments, if there are any, begin with a space
 some_space : {A : Type 0} (Is : Spelled A) (k : ℕ) (items : List A) (s : List ℕ) → AreSome Is k items s → (r : List ℕ) × (s ≡ 32 ∷ r)
 some_space Is k items s (r, is, list) = (r, is)
 
@@ -78,7 +78,7 @@ arguments_space returns k (Read reads) s is = inr (some_space IsRead k reads s i
 arguments_space returns k (Set sets) s is = inr (some_space IsSet k sets s is)
 arguments_space returns k (Write writes) s is = inr (some_space IsWrite k writes s is)
 
--- so what stands before them stands before a space, or before what may end the command
+-- so what precedes them is followed by a space, or by what may end the command
 before_arguments : (returns : Bool) (k : ℕ) (a : ActionTree) (s rest : List ℕ) → AreArgumentsOf returns k a s → ActionEnds a rest → is_command_end (s ++ rest) ≡ true
 before_arguments returns k a s rest is e = go (arguments_space returns k a s is)
   where
@@ -90,7 +90,7 @@ condition_end : (w : Word) (condition : Option Tree) (rest : List ℕ) → is_co
 condition_end w None rest h may = lacks_colon rest h
 condition_end w (Some t) rest h may = expr_command t rest h
 
--- whether a postconditional may stand is a matter of the word
+-- the word decides whether a postconditional is allowed
 own_condition : (a : ActionTree) → has_condition (kind a) ≡ may_have_condition a
 own_condition (Do calls) = refl
 own_condition Else = refl
@@ -136,7 +136,7 @@ module _ (returns : Bool) (line : List ℕ) where
         (c.0, c.1, s, t, is, refl, one, two, condition_end w (c.0) (t ++ rest) (before_arguments returns (suc at + length s) (c.1) t rest two.1 e), e);
   }
 
-  -- nothing after the word goes on with it
+  -- nothing after the word continues it
   after_word : (w : Word) (k : ℕ) (t : Option Tree × ActionTree) (s rest : List ℕ) → IsTail w returns k t s → TailEnds t rest → starts is_letter (s ++ rest) ≡ false
   after_word w k t s rest (front, back, is, one, two) e =
       ap (λ l. starts is_letter (l ++ rest)) is ∙ go (t.0) one.1

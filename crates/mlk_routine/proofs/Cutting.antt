@@ -26,7 +26,7 @@ front_is s b =
 some_there : (s : List ℕ) (b : ℕ) → nat_lt 0 (length (s ++ b ∷ [])) ≡ true
 some_there s b = let size = length-append s (b ∷ []) in grind (arith, nat_tests, size)
 
--- the end of a line that ends in this byte
+-- removing the end of a line that ends in this byte
 ended_by : (s : List ℕ) (b : ℕ) → without_terminator (s ++ b ∷ []) ≡ cond (b == 10) (no_cr s) (s ++ b ∷ [])
 ended_by s b = rw (some_there s b) (rw (last_is s b) (rw (front_is s b) refl))
 
@@ -103,7 +103,7 @@ none_len : line_len [] ≡ 0
 unfolding line_len
 none_len = refl
 
--- where the first line ends, by its end
+-- the length of the first line, from its end
 end_len : (s end rest : List ℕ) → list_all is_no_lf s ≡ true → line_len (end ++ rest) ≡ length end → line_len ((s ++ end) ++ rest) ≡ length (s ++ end)
 end_len s end rest plain h =
     let size = length-append s end in
@@ -124,7 +124,7 @@ end_is (b ∷ s) end rest plain (inr (inr h)) =
     let size = length-append (b ∷ s) [] in
     rw (h.0, h.1) (omega (arith, size), none_len, ap without_terminator (append-nil (b ∷ s)) ∙ (kept_whole (b ∷ s) plain).0)
 
--- The lines of a text are those that are cut off.
+-- The lines of a text are the only ones that it is cut into.
 pub cut_only : (lines : List (List ℕ)) (text : List ℕ) → AreCut lines text → lines ≡ map without_terminator (lines_of text)
 cut_only [] text h = rw h (rw lines-nil refl)
 cut_only (s ∷ lines) text (end, rest, is, plain, ending, more) =
@@ -164,7 +164,7 @@ cut_line (b ∷ s) rest = go (snoc b s)
           (10 ∷ [], ap (λ l. l ++ 10 ∷ rest) (sym kept), inl refl)
     ]
 
--- Lines that are cut off are the text's, where none of them has a carriage return left.
+-- The lines that a text is cut into are its lines, if none of them contains another carriage return.
 pub cut_found : (f : ℕ) (text : List ℕ) → length text ≤ f → AllPlain (map without_terminator (lines_of text)) → AreCut (map without_terminator (lines_of text)) text
 cut_found f [] less plain = rw lines-nil refl
 cut_found zero (b ∷ text) less plain = absurd (omega arith)

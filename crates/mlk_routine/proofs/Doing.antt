@@ -22,7 +22,7 @@ use Rattle.mlk_routine_arguments.proofs.Bytes.{AfterByte}
 use Rattle.mlk_routine_arguments.proofs.Sequences.{Turned}
 use Rattle.mlk_routine_arguments.proofs.Stopping.{command_stop}
 
--- the arguments of a word's commands; `H` is not the word of one
+-- the arguments of a word's commands; `H` belongs to two commands
 abbrev pub Content : Word → Type 0
 Content word.Do = List DoTree
 Content word.Else = Unit {0}
@@ -40,7 +40,7 @@ Content word.Read = List ReadTree
 Content word.Set = List SetTree
 Content word.Write = List WriteTree
 
--- a command by its word and its arguments
+-- a command from its word and its arguments
 abbrev pub with : (w : Word) → Content w → ActionTree
 with word.Do c = Do c
 with word.Else c = Else
@@ -94,7 +94,7 @@ own_content (Write writes) = (writes, refl)
 pub content_of : (a : ActionTree) (w : Word) → kind a ≡ w → (c : Content w) × (a ≡ with w c)
 content_of a w same = subst (λ v. (c : Content v) × (a ≡ with v c)) same (own_content a)
 
--- one word's commands, which are one form
+-- the commands of one word have one form
 pub opened : (w : Word) → (w ≡ word.HaltOrHang → ⊥) → (returns : Bool) (line : List ℕ) (at : ℕ)
     → Turned line at (λ k c s. AreArgumentsOf returns k (with w c) s) (λ c. ActionEnds (with w c)) (IsActionOf w returns) ActionEnds (with w)
 opened w other returns line at = record {
@@ -159,7 +159,7 @@ halting_turned returns line at = record {
             let r = hang times u rest (subst (λ x. AreArgumentsOf returns (suc at) x u) h is) (subst (λ x. ActionEnds x rest) h e) in
             (r.0, h ∙ r.1, r.2, r.3)
 
--- a command that is its word alone
+-- a command that consists of its word
 pub nothing_found : (line : List ℕ) (at : ℕ) → at ≤ length line → is_bare_end (drop at line) ≡ true → Found {A = Unit {0}} (λ k c s. s ≡ []) (λ c. StopEnds false) line at tt at
 nothing_found line at less h =
     let stands : Stands {A = Unit {0}} (λ k c s. s ≡ []) (λ c. StopEnds false) line at tt at = record { text = []; within = less; joined = refl; spelled = refl; ended = h } in

@@ -18,7 +18,7 @@ use Rattle.mlk_routine.specs.Lines.{has_name, label_of, is_in, is_labelled, Fits
 use Rattle.mlk_routine.proofs.FormalLists.{AreSeen, AllFresh, fresh_distinct, distinct_fresh, more_seen}
 use Rattle.mlk_syntax.proofs.Distinct.{among}
 
--- names, of which the last is new
+-- names, the last of them new
 fresh_more : (seen names : List (List ℕ)) (n : List ℕ) → AllFresh seen names → among n (seen ++ names) ≡ false → AllFresh seen (names ++ n ∷ [])
 fresh_more seen [] n h new = (subst (λ l. among n l ≡ false) (append-nil seen) new, tt)
 fresh_more seen (m ∷ names) n h new = (h.0, fresh_more (seen ++ m ∷ []) names n h.1 (subst (λ l. among n l ≡ false) (sym (append_assoc seen (m ∷ []) names)) new))
@@ -32,7 +32,7 @@ labels_append [] more = refl
 labels_append (LineHead number level end None formals commands ∷ heads) more = labels_append heads more
 labels_append (LineHead number level end (Some label) formals commands ∷ heads) more = ap (λ l. label ∷ l) (labels_append heads more)
 
--- the label of a line after others is new, and leaves them distinct
+-- the label of a line after others is new, and keeps them distinct
 label_new : (keys : List (Bor (List ℕ))) (heads : List HeadTree) (h : HeadTree) (more : List HeadTree) → AreSeen keys (labels_of heads) → AreDistinct (labels_of (heads ++ h ∷ more)) → is_in (label_of h) keys ≡ false
 label_new keys heads (LineHead number level end None formals commands) more seen distinct = refl
 label_new keys heads (LineHead number level end (Some label) formals commands) more seen distinct =
@@ -52,7 +52,7 @@ labels_seen old new heads (LineHead number level end None formals commands) seen
 labels_seen old new heads (LineHead number level end (Some label) formals commands) seen has q =
     more_seen old new (labels_of heads) label seen has q ∙ ap (λ l. among q l) (sym (labels_append heads (LineHead number level end (Some label) formals commands ∷ [])))
 
--- Lines of which those before a place were read.
+-- Lines whose predecessors were read.
 pub record FlatSoFar (ts : List (List ℕ)) (i : ℕ) (heads : List HeadTree) (before : Before) : Type 0 where
   pub whole : (more : List HeadTree) → AreLines (i + 1) more (drop i ts) → AreLines 1 (heads ++ more) ts
   pub apart : (others : List HeadTree) → AreLines 1 others ts → (more : List HeadTree) × (others ≡ heads ++ more) × AreLines (i + 1) more (drop i ts)
@@ -88,7 +88,7 @@ module _ (ts : List (List ℕ)) (i : ℕ) (heads : List HeadTree) (before : Befo
       only others (h ∷ more, same, (s, rest, front, line, others_are)) = cc (sym done ∙ front)
 
   module _ (t : List ℕ) (here : drop i ts ≡ t ∷ drop (i + 1) ts) where
-    -- the line that stands here
+    -- the line that is here
     first_line : (more : List HeadTree) → AreLines (i + 1) more (drop i ts) → (h : HeadTree) × (rest : List HeadTree) × (more ≡ h ∷ rest) × IsLine (i + 1) h t × AreLines (i + 1 + 1) rest (drop (i + 1) ts)
     first_line [] is = cc (sym here ∙ is)
     first_line (h ∷ more) (s, rest, front, line, others) =
@@ -150,7 +150,7 @@ texts_end [] (suc i) h = refl
 texts_end (x ∷ texts) zero h = absurd (omega (arith, h))
 texts_end (x ∷ texts) (suc i) h = texts_end texts i (omega (arith, h))
 
--- a fault of a line is one of the lines of its text
+-- a fault of a line is a fault of its text's lines
 pub line_told : (routine : List ℕ) (lines : List (List ℕ)) (i : ℕ) (s : List ℕ) → drop i lines ≡ s ∷ drop (i + 1) lines → (e : Failure Fault) → IfRefused e (λ f. (f.place.routine ≡ routine) × (f.place.line ≡ i + 1) × IsLineFault s f)
     → IfRefused e (IsOfLine routine lines)
 line_told routine lines i s here OutOfMemory h = tt

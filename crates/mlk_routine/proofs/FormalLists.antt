@@ -19,7 +19,7 @@ use Rattle.mlk_routine.specs.Lines.{has_name, IsUnseen, IsFormalList}
 use Rattle.mlk_routine_arguments.proofs.Sequences.{Parts, Turned, next_is, not_after, both_found, first_nowhere, second_nowhere, turned_found, turned_nowhere}
 use Rattle.mlk_routine_arguments.proofs.Bytes.{AfterByte, after_found, after_nowhere, byte_there, byte_before, drop_next}
 
--- the bytes of a name that stands at a place
+-- the bytes of a name at a place
 pub text_of : (line : List ℕ) (at : ℕ) (name : List ℕ) (next : ℕ) → at ≤ length line → Stands IsNameText LabelEnds line at name next → take (next - at) (drop at line) ≡ name
 text_of line at name next less s =
     let place = next_is line s.text at next less s.within s.joined in
@@ -49,7 +49,7 @@ pub same_new : (b : Bool) → false ≡ not b → b ≡ true
 same_new true h = refl
 same_new false h = cc h
 
--- names, each new after those seen
+-- names, each different from those seen
 abbrev pub AllFresh : List (List ℕ) → List (List ℕ) → Type 0
 AllFresh seen [] = Unit {0}
 AllFresh seen (n ∷ names) = (among n seen ≡ false) × AllFresh (seen ++ n ∷ []) names
@@ -85,7 +85,7 @@ fresh_distinct names h = (fresh_differ [] names h).0
 pub distinct_fresh : (names : List (List ℕ)) → AreDistinct names → AllFresh [] names
 distinct_fresh names d = differ_fresh [] names d (λ x a b. not_in_none x a)
 
--- A name that is new, and what stands after it: more such names, each after a comma, and the closing parenthesis.
+-- A name that is new, and what follows it: more such names, each after a comma, and the closing parenthesis.
 abbrev pub IsFresh : List (List ℕ) → ℕ → List ℕ → List ℕ → Type 0
 IsFresh seen at n s = IsNameText at n s × (among n seen ≡ false)
 
@@ -259,7 +259,7 @@ module _ (line : List ℕ) (at : ℕ) (seen : List (List ℕ)) (next : ℕ) (l :
         let far = not_after (IsFresh seen) LabelEnds line next name end f.0 l.within in
         omega (arith, size, far)
 
--- the names that were seen, by their texts
+-- the seen names, by their texts
 abbrev pub AreSeen : List (Bor (List ℕ)) → List (List ℕ) → Type 0
 AreSeen keys names = (q : List ℕ) → has_name q keys ≡ among q names
 
@@ -277,7 +277,7 @@ module _ (keys : List (Bor (List ℕ))) (names : List (List ℕ)) (same : AreSee
   pub fresh_nowhere : Nowhere (IsUnseen keys) LabelEnds line at → Nowhere (IsFresh names) LabelEnds line at
   fresh_nowhere f = turned_nowhere fresh_turned f
 
--- one more name was seen
+-- one more seen name
 or_turn : (a b : Bool) → (a || b) ≡ (b || (a || false))
 or_turn true true = refl
 or_turn true false = refl

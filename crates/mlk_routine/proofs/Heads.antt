@@ -1,4 +1,4 @@
--- Lines, by their parts.
+-- Lines, from their parts.
 use Rattle.std.proofs.Common.{◌≡◌, ◌<◌, ◌≤◌, ◌+◌, ℕ, suc, List, [], ◌++◌, length, drop, take, Some, None, false, inl, inr, refl, sym, ap, ◌∙◌, arith, subst, append_assoc, append-nil, length-append}
 use Rattle.std.specs.Prelude.{Option, ◌⊎◌, is_some}
 use Rattle.std.specs.List.{list_all}
@@ -35,7 +35,7 @@ labelled_whole None (Some formals) l r k one two = cc two.0
 labelled_whole (Some label) None l r k one two = (ap (λ x. l ++ x) two ∙ append-nil l ∙ one.0, one.1)
 labelled_whole (Some label) (Some formals) l r k one two = (r, ap (λ x. x ++ r) one.0, one.1, two.1)
 
--- what stands after the label, in two parts
+-- what follows the label, in two parts
 body_parts : (level k : ℕ) (c : CommandTrees) (s : List ℕ) → IsBody level k c s
     → (o : Option ℕ) × (start tail : List ℕ) × (s ≡ start ++ tail) × IsOpening k o start × IsTailOf o (k + length start) c tail × (level ≡ level_in o) × (level ≤ 15) × OpeningEnds o tail
 body_parts level k c s (inl (first, none, comment)) = (None, [], s, refl, refl, (none, comment), first, omega (arith, first), comment_ends s comment)
@@ -144,7 +144,7 @@ module _ (line : List ℕ) (f : Front) (next : ℕ) (found : Found IsFront Front
           let joined : line ≡ label ++ (more ++ drop next line) = found.0.joined ∙ ap (λ x. x ++ drop next line) is ∙ append_assoc l more (drop next line) ∙ ap (λ x. x ++ (more ++ drop next line)) (there l one) in
           ap (take (length label)) joined ∙ take-append_seam label (more ++ drop next line)
 
--- what stands before the commands of a line
+-- what precedes the commands of a line
 pub line_front : (line : List ℕ) (n : ℕ) (h : HeadTree) → IsLine n h line → (g : Front) × (u tail : List ℕ) × (line ≡ u ++ tail) × IsFront 1 g u × FrontEnds g tail
 line_front line n (LineHead number level end label formals commands) (front, body, is, count, last, labelled, only, inside) = go (labelled_parts label formals front labelled) (body_parts level (suc (length front)) commands body inside)
   where
@@ -179,7 +179,7 @@ pub refused_byte : (before : Before) (n : ℕ) (line : List ℕ) (e : Failure Fa
 refused_byte before n line OutOfMemory fault bad = tt
 refused_byte before n line (Refused fault) is_fault bad = (λ head is plain fits. cc (sym bad ∙ plain), is_fault)
 
--- the head of a line that was made
+-- the head of a line that was created
 pub head_roll : (x : Line-F Line) → head_of (roll-Line x) ≡ LineHead x.number x.level x.end x.label x.formals (commands_of x.commands)
 head_roll x = ap (λ p. p.0) (fold-roll-Line (HeadTree × LineTrees) line_step x)
 

@@ -1,4 +1,4 @@
--- Where the first byte that ends a line stands, found by its place, is how many stand before it.
+-- The index of the first byte that ends a line is the number of bytes before it.
 use Rattle.std.proofs.Common.{◌≡◌, ◌<◌, ℕ, zero, suc, List, [], ◌∷◌, length, Some, None, Bool, true, false, inl, inr, refl, ap, ◌∙◌, arith}
 use Rattle.std.specs.Prelude.{◌⊎◌, ◌==◌, not, slice_index}
 use Rattle.std.proofs.lemmas.Bool.{cases_Bool}

@@ -1,4 +1,4 @@
--- The commands of a line, one after the other, and FOR.
+-- The commands of a line, one after another, and FOR.
 use Rattle.mlk_text.specs.Places.{column_at}
 use Rattle.std.proofs.Common.{◌≡◌, ◌<◌, ◌≤◌, ◌+◌, ◌-◌, ℕ, suc, List, [], ◌∷◌, ◌++◌, length, drop, Some, None, Bool, true, false, inl, inr, refl, sym, ap, ◌∙◌, subst, add-one, arith, ◌==◌, append_assoc, append-nil}
 use Rattle.std.specs.Prelude.{Option, Result, Ok, Err, ◌⊎◌, ◌&&◌, is_some, not, nat_eq, slice_get}
@@ -34,7 +34,7 @@ use Rattle.mlk_routine_arguments.proofs.Stopping.{command_stop, list_ended}
 use Rattle.mlk_routine.proofs.Commanding.{stop_lacks, no_letter, command_parts}
 use Rattle.mlk_routine_arguments.proofs.Words.{written_means, either_for, stops_not, ends_stop}
 
--- Words begin with letters, and nothing else does.
+-- Words, and nothing else, begin with letters.
 word_letter : (s : List ℕ) (w : Word) → IsWord s → word_of s ≡ Some w → starts is_letter s ≡ true
 unfolding word_of is_written
 word_letter [] w h of = cc of
@@ -73,7 +73,7 @@ pub head_letter : (column at : ℕ) (control : Option ControlTree) (s : List ℕ
 head_letter column at None s is = for_letter s is.1
 head_letter column at (Some control) s (place, (front, rest, is, for_is, more)) = ap (starts is_letter) is ∙ front_letter front rest (for_letter front for_is)
 
--- Commands are none, or begin with a letter.
+-- Commands are empty, or begin with a letter.
 commands_shape : (level loops at : ℕ) (c : CommandTrees) (s : List ℕ) → AreCommands level loops at c s → ((c ≡ finished) × (s ≡ [])) ⊎ (starts is_letter s ≡ true)
 commands_shape level loops at finished s is = inl (refl, is)
 commands_shape level loops at (then_command first rest) s (text, gap, following, is, one, g, more) = inr (ap (starts is_letter) is ∙ front_letter text (gap ++ following) (command_letter ((level == 1) && (loops == 0)) at first text one))
@@ -137,14 +137,14 @@ module _ (level loops : ℕ) (line : List ℕ) where
         (tt, c, gap, following, is, refl, all, more, no_space_after following rest (commands_letter level loops (suc at + length gap) c following more) e, e);
   }
 
-  -- the same, where so many spaces stand as have to
+  -- the same, with at least as many spaces as are required
   abbrev pub GapThen : Bool → ℕ → CommandTrees → List ℕ → Type 0
   GapThen b n rest r = (gap following : List ℕ) × (r ≡ gap ++ following) × IsGap (least_after b) gap following × AreCommands level loops (n + length gap) rest following
 
   pub forget : (b : Bool) (n : ℕ) (c : CommandTrees) (r : List ℕ) → GapThen b n c r → SpacedCommands n c r
   forget b n c r (gap, following, is, g, more) = (gap, following, is, g.0, more)
 
-  -- where a command ends and these many spaces stand, what is read after them is read after the command
+  -- if a command ends and these spaces follow, what is read after them is read after the command
   pub gap_found : (b : Bool) (at m : ℕ) (rest : CommandTrees) (n : ℕ) → at ≤ length line → StopEnds b (drop at line) → Found (IsRun is_space) (RunEnds is_space) line at tt m → Found (AreCommands level loops) CommandsEnd line m rest n → Found (GapThen b) CommandsEnd line at rest n
   gap_found b at m rest n less stop run found = go (both_found (spaced_parts at) less tt rest m n run found)
     where
@@ -164,7 +164,7 @@ module _ (level loops : ℕ) (line : List ℕ) where
 abbrev pub has_own : CommandTree → Bool
 has_own (Does column condition action) = has_arguments action
 
--- FOR's word, with what stands after it
+-- FOR's word, with what follows it
 for_word : (column at : ℕ) (control : Option ControlTree) (s after : List ℕ) → IsForHead column at control s → StopEnds (is_some control) after → is_for (word_at (s ++ after)).0 ≡ true
 for_word column at None s after is e =
     let read = word-reads s after (either_for s is.1).0 (ends_stop word.Do after (no_letter after (stop_lacks false after e))) in
@@ -189,7 +189,7 @@ unfolding is_for
 no_word_end [] h = refl
 no_word_end (b ∷ rest) h = let no : is_letter b ≡ false = grind (arith, nat_tests) in rw no refl
 
--- nor one that begins with another letter
+-- nor is one that begins with another letter
 pub other_letter : (s : List ℕ) → true ≡ not (option_eq nat_eq (slice_get s 0) (Some 70)) → true ≡ not (option_eq nat_eq (slice_get s 0) (Some 102)) → false ≡ is_for (word_at s).0
 unfolding is_for
 other_letter [] h k = refl
@@ -205,7 +205,7 @@ module _ (level loops : ℕ) (line : List ℕ) where
   abbrev pub Returns : Bool
   Returns = (level == 1) && (loops == 0)
 
-  -- the word of a command here is not that of FOR
+  -- the word of a command here is not FOR's
   command_word : (at : ℕ) (c : CommandTree) (u rest : List ℕ) → drop at line ≡ u ++ rest → IsCommand Returns (suc at) c u → CommandEnd c rest → is_for (word_at (drop at line)).0 ≡ true → ⊥
   command_word at c u rest h is e for_is =
       let r = (command_parts Returns line at).apart c u rest h is e in
@@ -339,7 +339,7 @@ for_found line at ls ys less h for_is = go (run-is is_letter (drop at line))
               (refl, ap (λ (p : List ℕ × List ℕ). p.1) r ∙ s.1),
         )
 
--- FOR before what it holds
+-- FOR before the commands that it contains
 module _ (loops : ℕ) (line : List ℕ) (at : ℕ) where
   pub head_parts : suc loops ≤ 255 → Parts line at IsForWord ForWordEnds (λ u. IsPerhapsControl) (λ u c. StopEnds (is_some c)) (IsLoop loops) LoopEnds (λ u c. c)
   head_parts few = record {
@@ -366,7 +366,7 @@ module _ (loops : ℕ) (line : List ℕ) (at : ℕ) where
   head_told few less m f view (Ok r) t = both_found (head_parts few) less tt (view r.0) m (r.1) f t
   head_told few less m f view (Err e) t = denied_second (head_parts few) less tt m f e t
 
--- FOR and what it holds
+-- FOR and the commands that it contains
 module _ (level loops : ℕ) (line : List ℕ) (at : ℕ) (here : is_for (word_at (drop at line)).0 ≡ true) where
   pub loop_parts : Parts line at (IsLoop loops) LoopEnds (λ control. GapThen level (suc loops) line (is_some control)) (λ control. CommandsEnd) (AreCommands level loops) CommandsEnd (λ control rest. then_for (column_at (at + 1)) (suc loops) control rest)
   loop_parts = record {
@@ -399,7 +399,7 @@ module _ (level loops : ℕ) (line : List ℕ) (at : ℕ) (here : is_for (word_a
             e,
           )
 
--- where the commands neither end nor are read further, a FOR stands
+-- if the commands do not end here and are not read further, there is a FOR
 pub for_stands : (rest : List ℕ) → (is_commands_end rest ≡ true) ⊎ (is_for (word_at rest).0 ≡ true) → is_commands_end rest ≡ false → is_for (word_at rest).0 ≡ true
 for_stands rest (inl end) h = cc (sym h ∙ end)
 for_stands rest (inr here) h = here

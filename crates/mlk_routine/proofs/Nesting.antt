@@ -16,7 +16,7 @@ below_lines : (n : ℕ) (lines : LineTrees) (heads : List HeadTree) → AreNeste
 below_lines n no_lines heads is h = below_more n heads h
 below_lines n (line head block rest) heads is h = omega (arith, is.0)
 
--- no line of this level stands below it
+-- no line of this level is among those below it
 not_below : (n : ℕ) (head : HeadTree) (rest heads : List HeadTree) → level_of head ≡ n → heads ≡ head ∷ rest → Below n heads → ⊥
 not_below n head rest heads level is h = let bad = subst (λ l. Below n l) is h in omega (arith, level, bad)
 
@@ -34,6 +34,6 @@ nesting_from n (line h block rest) (line k under next) xs ys f g below_x below_y
     let second = nesting_from n rest next xs ys f.3 g.3 below_x below_y first.1 in
     (ap (λ x. line x block rest) same.0 ∙ ap (λ x. line k x rest) first.0 ∙ ap (λ x. line k under x) second.0, second.1)
 
--- Lines are nested in one way.
+-- Lines are nested in only one way.
 pub nested_once : (n : ℕ) (a b : LineTrees) → AreNested n a → AreNested n b → heads_of a ≡ heads_of b → a ≡ b
 nested_once n a b f g h = (nesting_from n a b [] [] f g tt tt (append-nil (heads_of a) ∙ h ∙ sym (append-nil (heads_of b)))).0

@@ -1,4 +1,4 @@
--- Of what stands at a place there is one of its kind: commands, and the commands of a line.
+-- At a place there is at most one thing of its kind: commands, and the commands of a line.
 use Rattle.std.proofs.Common.{◌≡◌, ◌<◌, ◌≤◌, ◌-◌, ◌⊎◌, ℕ, zero, suc, Bool, true, false, List, [], ◌∷◌, ◌++◌, length, drop, Some, None, refl, sym, ap, ◌∙◌, arith, inl, inr}
 use Rattle.std.specs.Prelude.{Option, is_some}
 use Rattle.std.proofs.lemmas.Bool.{cases_Bool}
@@ -126,7 +126,7 @@ tail_alone w returns line at less = sole_both (tail_parts returns line w at) les
 command_alone : (returns : Bool) → Alone (IsCommand returns) CommandEnd
 command_alone returns line at less = sole_both (command_parts returns line at) less (word_alone line at less) (λ w m s. tail_alone w returns line m s.within)
 
--- FOR before what it holds
+-- FOR before the commands that it contains
 perhaps_control_alone : Alone IsPerhapsControl (λ c. StopEnds (is_some c))
 perhaps_control_alone line at less = elim (cases_Bool (is_bare_end (drop at line))) [
   | inl bare ↦ sole_found None at (no_control_found line at less bare)
@@ -143,7 +143,7 @@ some_text [] h = cc h
 some_text (b ∷ s) h = omega arith
 
 module _ (level : ℕ) (line : List ℕ) where
-  -- spaces and the commands after them, where these stand alone
+  -- spaces and the commands after them, if these are the only ones
   gap_sole : (loops : ℕ) (b : Bool) (at : ℕ) → at ≤ length line → ((m : ℕ) → at ≤ m → m ≤ length line → Sole (AreCommands level loops) CommandsEnd line m) → Sole (GapThen level loops line b) CommandsEnd line at
   gap_sole loops b at less ih =
       sole_within (λ c s rest is e. (forget level loops line b (suc at) c s is, e))

@@ -1,4 +1,4 @@
--- Of what stands at a place there is one of its kind: what stands before commands, lines, and routines.
+-- At a place there is at most one thing of its kind: what precedes commands, lines, and routines.
 use Rattle.std.proofs.Common.{◌≡◌, ◌<◌, ◌≤◌, ◌+◌, ◌-◌, ◌⊎◌, ℕ, zero, suc, Bool, true, false, List, [], ◌∷◌, ◌++◌, length, drop, Some, None, refl, sym, ap, ◌∙◌, arith, subst, inl, inr, nat_lt, append-nil, add-one}
 use Rattle.std.specs.Prelude.{Option, is_some}
 use Rattle.std.specs.List.{prefix_len}
@@ -101,7 +101,7 @@ opening_alone line at less = go (cases_Bool (nat_lt at blank)) (cases_Bool (is_c
     go (inr e) (inl end) = let none : blank ≤ at = grind (arith, nat_tests, e) in sole_found None at (no_opening line at less blank run none end)
     go (inr e) (inr other) = let none : blank ≤ at = grind (arith, nat_tests, e) in sole_none (opening_nowhere line at less blank run none other)
 
--- what stands before commands
+-- what precedes commands
 label_sole : (line : List ℕ) → Sole IsLabelPart LabelPartEnds line 0
 label_sole line = elim (cases_Bool (starts is_label_byte line)) [
   | inl here ↦ sole_turned (a_label line here) (label_alone line 0 (omega arith))

@@ -32,7 +32,7 @@ lead_from (b ∷ rest) no_blank no_period = go (cases_Bool (b == 46))
     go (inl e) = let same : b ≡ 46 = grind (arith, nat_tests, e) in absurd (no_period (ap (λ x. Some x) same))
     go (inr e) = rw (no_blank, e) refl
 
--- what stands after periods
+-- what follows periods
 after_blanks : (n : ℕ) (t rest : List ℕ) → ArePeriods n t → PeriodsEnd n rest → starts is_blank (t ++ rest) ≡ false
 after_blanks zero t rest is e = subst (λ l. starts is_blank (l ++ rest) ≡ false) (sym is) (no_lead_there rest e)
 after_blanks (suc n) t rest (blanks, more, is, all, next) e = subst (λ l. starts is_blank (l ++ rest) ≡ false) (sym is) refl
@@ -67,7 +67,7 @@ module _ (line : List ℕ) (at : ℕ) where
       only zero u rest h is e = (refl, sym (h ∙ ap (λ l. l ++ rest) is))
       only (suc n) u rest h (blanks, more, is, all, next) e = absurd (no_period (ap first_of (h ∙ ap (λ l. l ++ rest) is)))
 
--- Periods of which some were read.
+-- Periods some of which were read.
 pub record PeriodsSoFar (line : List ℕ) (at count next : ℕ) : Type 0 where
   pub within : next ≤ length line
   pub few : count ≤ next
@@ -111,7 +111,7 @@ module _ (line : List ℕ) (at count next : ℕ) (l : PeriodsSoFar line at count
       let e : count + 0 ≡ count = omega arith in
       subst (λ k. Found ArePeriodsHere PeriodsEnd line at k next) e (l.found 0 next (none_more line next l.within l.blank missing))
 
--- blanks, one at least
+-- blanks, at least one
 abbrev pub SomeBlanks : ℕ → Unit {0} → List ℕ → Type 0
 SomeBlanks at u s = AreBlanks s × (0 < length s)
 

@@ -20,7 +20,7 @@ use Rattle.mlk_routine.specs.RoutineGrammar.{IsComment}
 use Rattle.mlk_routine.specs.Lines.{OpeningEnds, AtEnd, IsTail, IsTailOf, is_lead, level_in}
 use Rattle.mlk_routine_arguments.proofs.Sequences.{Parts, both_found, first_nowhere, second_nowhere}
 
--- a text that begins with a letter, or with what is above all that may stand before commands or after them
+-- a text that begins with a letter, or with a byte above all that may precede or follow commands
 abbrev pub Lettered : List ℕ → Type 0
 Lettered s = (b : ℕ) × (t : List ℕ) × (s ≡ b ∷ t) × (65 ≤ b)
 
@@ -74,7 +74,7 @@ head_lettered : (column k : ℕ) (control : Option ControlTree) (s : List ℕ) �
 head_lettered column k None s (place, word) = for_lettered s word
 head_lettered column k (Some control) s (place, (w, r, is, word, more)) = longer s w r is (for_lettered w word)
 
--- commands are nothing, or begin with a letter
+-- commands are empty, or begin with a letter
 pub commands_lettered : (level loops k : ℕ) (c : CommandTrees) (s : List ℕ) → AreCommands level loops k c s → ((c ≡ finished) × (s ≡ [])) ⊎ Lettered s
 commands_lettered level loops k finished s is = inl (refl, is)
 commands_lettered level loops k (then_command first rest) s (text, gap, following, is, one, spaces, more) = inr (longer s text (gap ++ following) is (command_lettered ((level == 1) && (loops == 0)) k first text one))
@@ -138,7 +138,7 @@ module _ (level : ℕ) (line : List ℕ) (at : ℕ) where
     apart = λ c u rest h (s, t, is, one, two) e. (c, tt, s, t, is, refl, one, two, ap is_commands_end (ap (λ l. t ++ l) e ∙ append-nil t) ∙ comment_ends t two, e);
   }
 
--- a tail after nothing that begins a line is a comment
+-- without a command at its front, a tail is a comment
 module _ (line : List ℕ) (at : ℕ) (end : is_commands_end (drop at line) ≡ true) where
   no_letter : (s t rest : List ℕ) → drop at line ≡ (s ++ t) ++ rest → Lettered s → ⊥
   no_letter s t rest h (b, more, is, high) =
@@ -177,7 +177,7 @@ module _ (line : List ℕ) (at : ℕ) (less : at ≤ length line) where
   no_commands_tail None end none = alone_nowhere line at end (first_nowhere (tail_parts 1 line at) less none)
   no_commands_tail (Some level) end none = first_nowhere (tail_parts level line at) less none
 
--- what a tail begins with can't stand in a line's start
+-- the first byte of a tail cannot be part of a line's start
 pub tail_no_lead : (level k : ℕ) (c : CommandTrees) (s : List ℕ) → IsTail level k c s → starts is_lead s ≡ false
 tail_no_lead level k c s (front, back, is, one, two) = elim (commands_lettered level 0 k c front one) [
   | inl none ↦ ap (starts is_lead) (is ∙ ap (λ l. l ++ back) none.1) ∙ comment_no_lead back two

@@ -1,4 +1,4 @@
--- Lines that follow each other, as blocks under their heads.
+-- Consecutive lines, as blocks under their heads.
 use Rattle.std.proofs.Common.{◌≡◌, ◌<◌, ◌≤◌, ℕ, suc, List, [], ◌∷◌, ◌++◌, length, map, Bool, true, false, inl, inr, refl, sym, ap, ◌∙◌, arith, subst, append_assoc, append-nil, length-append}
 use Rattle.std.specs.Prelude.{◌⊎◌}
 use Rattle.std.proofs.lemmas.Bool.{cases_Bool}
@@ -21,7 +21,7 @@ unreached_upto last [] h = tt
 unreached_upto last (head ∷ heads) (inl low, more) = (low, more)
 unreached_upto last (head ∷ heads) (inr deep, more) = cc deep.1
 
--- a block begins just where the line before it reaches it
+-- a block begins exactly if the line before it reaches it
 block_reached : (head : HeadTree) (heads rest : List HeadTree) (block : LineTrees) → Follow (level_of head) (reaches head) heads → IsBlock (level_of head) block heads rest → (block ≡ no_lines) ⊎ (reaches head ≡ true)
 block_reached head heads rest no_lines follow is = inl refl
 block_reached head heads rest (line k under next) follow (nested, joined, upto) = go (cases_Bool (reaches head))
@@ -43,7 +43,7 @@ heads_snoc [] head block = ap (λ l. head ∷ l) (append-nil (heads_of block))
 heads_snoc (l ∷ ls) head block =
     ap (λ k. l.0 ∷ (heads_of l.1 ++ k)) (heads_snoc ls head block) ∙ ap (λ k. l.0 ∷ k) (sym (append_assoc (heads_of l.1) (heads_of (lines_from ls)) (head ∷ heads_of block)))
 
--- Lines at the front of others, of which some were made blocks.
+-- Lines, some of which were turned into blocks, at the front of others.
 pub record BlocksSoFar (level : ℕ) (start : List HeadTree) (found : List (HeadTree × LineTrees)) (left : List HeadTree) : Type 0 where
   pub nested : AreNested (suc level) (lines_from found)
   pub joined : start ≡ heads_of (lines_from found) ++ left
@@ -94,7 +94,7 @@ module _ (level : ℕ) (start : List HeadTree) (found : List (HeadTree × LineTr
             upto = subst (λ n. Upto n rest) level_here is.2;
           }
 
--- a line of the code, taken apart and made
+-- a line of the code, taken apart and rebuilt
 pub head_out : (l : Line) → head_of l ≡ LineHead (out-Line l).number (out-Line l).level (out-Line l).end (out-Line l).label (out-Line l).formals (commands_of (out-Line l).commands)
 head_out l = ap (λ p. p.0) (fold_out-Line (HeadTree × LineTrees) line_step l)
 

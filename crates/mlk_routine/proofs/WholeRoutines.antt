@@ -16,7 +16,7 @@ use Rattle.mlk_routine.proofs.Cutting.{cut_only, cut_found, cut_plain}
 use Rattle.mlk_routine.proofs.Nesting.{nested_once}
 use Rattle.mlk_routine.proofs.UnderHeads.{follow_upto}
 
--- lines that are nested follow each other
+-- nested lines follow each other
 upto_more : (n : ℕ) (heads : List HeadTree) → Upto n heads → Upto (suc n) heads
 upto_more n [] h = tt
 upto_more n (head ∷ heads) (low, more) = (omega (arith, low), more)
@@ -68,7 +68,7 @@ nothing_left n front (h ∷ rest) texts lines upto =
     absurd (omega (arith, high, low))
 
 module _ (stem text : List ℕ) where
-  -- what is known of any tree of the text
+  -- properties of each tree of the text
   pub routine_parts : (name : List ℕ) (lines : LineTrees) → IsRoutine stem (Named_routine name lines) text
       → (name ≡ percent stem) × IsName name × (length text ≤ 1048576) × (length (lines_in text) ≤ 65535) × AreHeads (lines_in text) (heads_of lines) × AreNested 1 lines
   unfolding IsRoutine

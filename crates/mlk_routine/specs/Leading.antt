@@ -1,4 +1,4 @@
--- What the readers of a line's commands say of what is left to read. For private clauses alone. This project's own.
+-- What the readers of a line's commands establish about the rest of the line. For private clauses only. This project's own.
 use Rattle.std.specs.Prelude.{ℕ, suc, ◌≡◌, ◌≤◌, ◌⊎◌, is_some, map, drop, length, List, [], true, Result, Ok, Err}
 use Rattle.std.specs.Prelude.{Option, Some, None}
 use Rattle.std.specs.Prelude.{Vec}
@@ -15,7 +15,7 @@ use Rattle.mlk_routine_arguments.specs.CommandGrammar.{After, IsControl, IsForHe
 use Rattle.mlk_routine_arguments.specs.Ends.{is_commands_end, StopEnds, CommandsEnd}
 use Rattle.mlk_syntax.specs.Views.{command_of, commands_from}
 
--- whatever follows these commands from `next` on, the whole from `at` on is found or denied with it
+-- whatever follows these commands from `next` on, everything from `at` on is there, or not there, together with it
 abbrev pub LeadsTo : ℕ → ℕ → List ℕ → ℕ → List CommandTree → ℕ → Type 0
 LeadsTo level loops line at done next = (next ≤ length line)
     × ((rest : CommandTrees) (end : ℕ) → Found (AreCommands level loops) CommandsEnd line next rest end
@@ -33,7 +33,7 @@ abbrev pub IsPerhapsControl : ℕ → Option ControlTree → List ℕ → Type 0
 IsPerhapsControl at None s = s ≡ []
 IsPerhapsControl at (Some control) s = After 32 (λ n r. IsControl n control r) at s
 
--- a FOR inside so many others, before what it holds
+-- a FOR inside `loops` others, without the rest of its line
 abbrev pub IsLoop : ℕ → ℕ → Option ControlTree → List ℕ → Type 0
 IsLoop loops at control s = IsForHead (column_at at) at control s × (suc loops ≤ 255)
 

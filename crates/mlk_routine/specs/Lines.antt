@@ -1,5 +1,5 @@
--- The parts of a line, in the order in which they are read, and what may stand after each. For private clauses alone.
--- This project's own.
+-- The parts of a line, in the order in which they are read, and what may follow each. For private clauses only. This project's
+-- own.
 use Rattle.std.specs.Prelude.{ℕ, suc, ◌≡◌, ◌==◌, ◌||◌, Bool, true, false, List, [], ◌∷◌, Option, Some, None, is_some}
 use Rattle.std.specs.Prelude.{bytes_eq, length, Result, Ok, Err, unwrap_or, ◌⊎◌, ◌≤◌, map, ◌++◌}
 use Rattle.std.specs.List.{list_any, list_all}
@@ -29,7 +29,7 @@ use Rattle.mlk_text.specs.declared.failure.Failure.TheVariants.{OutOfMemory, Ref
 use Rattle.mlk_text.specs.declared.fault.Fault.{Fault}
 use Rattle.mlk_expr.specs.Grammar.{Spelled}
 
--- whether this name is among those seen
+-- whether the name has occurred
 abbrev pub has_name : List ℕ → List (Bor (List ℕ)) → Bool
 has_name q keys = list_any (λ k. bytes_eq q k.now) keys
 
@@ -45,7 +45,7 @@ abbrev pub LabelPartEnds : Option (List ℕ) → List ℕ → Type 0
 LabelPartEnds None rest = starts is_label_byte rest ≡ false
 LabelPartEnds (Some label) rest = LabelEnds label rest
 
--- a formal that is none of those seen
+-- a formal that has not occurred
 abbrev pub IsUnseen : List (Bor (List ℕ)) → ℕ → List ℕ → List ℕ → Type 0
 IsUnseen keys at name s = IsNameText at name s × (has_name name keys ≡ false)
 
@@ -53,7 +53,7 @@ IsUnseen keys at name s = IsNameText at name s × (has_name name keys ≡ false)
 abbrev pub IsFormalList : ℕ → List (List ℕ) → List ℕ → Type 0
 IsFormalList at formals s = IsFormals formals s
 
--- the formals that may stand after a label, or nothing
+-- the formals that may follow a label, or nothing
 abbrev pub IsFormalsPart : Bool → ℕ → Option (List (List ℕ)) → List ℕ → Type 0
 IsFormalsPart labelled at None s = s ≡ []
 IsFormalsPart labelled at (Some formals) s = (labelled ≡ true) × IsFormals formals s
@@ -62,7 +62,7 @@ abbrev pub FormalsPartEnds : Bool → Option (List (List ℕ)) → List ℕ → 
 FormalsPartEnds labelled None rest = labelled ≡ true → Lacks 40 rest
 FormalsPartEnds labelled (Some formals) rest = Unit {0}
 
--- periods, each with blanks after it, and what may stand after them: neither of both
+-- periods, each with blanks after it, and what may follow them: neither
 abbrev pub is_lead : ℕ → Bool
 is_lead b = is_blank b || (b == 46)
 
@@ -72,7 +72,7 @@ ArePeriodsHere at periods s = ArePeriods periods s
 abbrev pub PeriodsEnd : ℕ → List ℕ → Type 0
 PeriodsEnd periods rest = starts is_lead rest ≡ false
 
--- a line's start with the level that it gives, or nothing before the line's end or a comment
+-- a line's start with its level, or nothing before the line's end or a comment
 abbrev pub IsOpening : ℕ → Option ℕ → List ℕ → Type 0
 IsOpening at None s = s ≡ []
 IsOpening at (Some level) s = (periods : ℕ) × (level ≡ suc periods) × IsStart periods s
@@ -81,7 +81,7 @@ abbrev pub OpeningEnds : Option ℕ → List ℕ → Type 0
 OpeningEnds None rest = is_commands_end rest ≡ true
 OpeningEnds (Some level) rest = starts is_lead rest ≡ false
 
--- what stands before a line's commands
+-- the part of a line before its commands
 abbrev pub IsFront : ℕ → Front → List ℕ → Type 0
 IsFront at f s = Both (λ n r. IsLabelPart n f.label r)
     (Both (λ n r. IsFormalsPart (is_some f.label) n f.formals r) (λ n r. IsOpening n f.level r)) at s
@@ -93,7 +93,7 @@ FrontEnds f rest = OpeningEnds f.level rest
 abbrev pub AtEnd : {A : Type 0} → A → List ℕ → Type 0
 AtEnd a rest = rest ≡ []
 
--- the commands and the comment of a line of this level; where it has no start, a comment alone
+-- the commands and the comment of a line of this level; without a start, a comment only
 abbrev pub IsTail : ℕ → ℕ → CommandTrees → List ℕ → Type 0
 IsTail level at commands s = Both (λ n r. AreCommands level 0 n commands r) (λ n r. IsComment r) at s
 
@@ -101,7 +101,7 @@ abbrev pub IsTailOf : Option ℕ → ℕ → CommandTrees → List ℕ → Type 
 IsTailOf None at commands s = (commands ≡ finished) × IsComment s
 IsTailOf (Some level) at commands s = IsTail level at commands s
 
--- what is told of all that is left of a line
+-- the result of reading all the rest of a line
 abbrev pub ToldToEnd : {X A : Type 0} → (X → A) → Spelled A → List ℕ → ℕ → Result X (Failure Fault) → Type 0
 ToldToEnd view Is line at (Ok x) = Found Is AtEnd line at (view x) (length line)
 ToldToEnd view Is line at (Err e) = Denied Is AtEnd line at e
@@ -126,11 +126,11 @@ abbrev pub is_labelled : List ℕ → Option (List ℕ) → Bool
 is_labelled q None = false
 is_labelled q (Some label) = bytes_eq q label
 
--- a line of this level may follow one of that level: it is no deeper, or the first of that one's block
+-- a line of this level may follow one of that level: it is no deeper, or the first of that line's block
 abbrev pub Steps : ℕ → Bool → ℕ → Type 0
 Steps last reaches level = (level ≤ last) ⊎ ((level ≡ suc last) × (reaches ≡ true))
 
--- what a line's front keeps to by itself, and after the lines before it
+-- the conditions on the part of a line before its commands, alone and after the lines before it
 abbrev pub IsKept : Option (List ℕ) → ℕ → Type 0
 IsKept label level = ((label ≡ None) ⊎ (level ≤ 1)) × (level ≤ 15)
 
@@ -140,7 +140,7 @@ Fits before label level = (is_in label before.labels.texts.keys ≡ false) × St
 abbrev pub FitsAfter : Before → HeadTree → Type 0
 FitsAfter before head = Fits before (label_of head) (level_of head)
 
--- why a line may not stand there: a code that may be told of it, without a word
+-- why a line is not allowed there: the code of a line, without a word
 abbrev pub IsMisplaced : Option Code → Type 0
 IsMisplaced None = Unit {0}
 IsMisplaced (Some code) = (may_tell (number_of code) ≡ true) × (has_word (number_of code) ≡ false)
@@ -153,7 +153,7 @@ head_of l = (line_of l).0
 abbrev pub IsLineOnly : ℕ → List ℕ → HeadTree → Type 0
 IsLineOnly n s head = IsLine n head s × ((other : HeadTree) → IsLine n other s → other ≡ head)
 
--- what is known with one more line
+-- what is known after one more line
 pub record IsWithLine (old new : Before) (head : HeadTree) : Type 0 where
   pub labels : (q : List ℕ)
       → has_name q new.labels.texts.keys ≡ (is_labelled q (label_of head) || has_name q old.labels.texts.keys)
@@ -166,7 +166,7 @@ NoLine before n s OutOfMemory = Unit {0}
 NoLine before n s (Refused fault) = ((head : HeadTree) → IsLine n head s → list_all is_line_byte s ≡ true
     → FitsAfter before head → ⊥) × IsLineFault s fault
 
--- lines that follow each other, after a line of this level
+-- consecutive lines after a line of this level
 abbrev pub Follow : ℕ → Bool → List HeadTree → Type 0
 Follow last reached [] = Unit {0}
 Follow last reached (head ∷ heads) = Steps last reached (level_of head) × Follow (level_of head) (reaches head) heads
@@ -175,7 +175,7 @@ abbrev pub AllPlain : List (List ℕ) → Type 0
 AllPlain [] = Unit {0}
 AllPlain (s ∷ texts) = (list_all is_line_byte s ≡ true) × AllPlain texts
 
--- the lines of these texts, before they are blocks
+-- the lines of these texts, as a flat list
 abbrev pub AreHeads : List (List ℕ) → List HeadTree → Type 0
 AreHeads texts heads = AreLines 1 heads texts × AllPlain texts × Follow 0 true heads × AreDistinct (labels_of heads)
 
@@ -190,16 +190,16 @@ NoHeads texts (Refused fault) = (heads : List HeadTree) → AreHeads texts heads
 abbrev pub texts_of : List (Bor (List ℕ)) → List (List ℕ)
 texts_of texts = map (λ t. t.now) texts
 
--- lines that go on at this level or above it, after lines that they may follow
+-- lines that continue at this level or above it, after lines that they may follow
 abbrev pub Upto : ℕ → List HeadTree → Type 0
 Upto level [] = Unit {0}
 Upto level (head ∷ heads) = (level_of head ≤ level) × Follow (level_of head) (reaches head) heads
 
--- the lines deeper than a level at the front of others, as blocks, and what is left
+-- the lines at the front that are deeper than a level, as blocks, and the rest
 abbrev pub IsBlock : ℕ → LineTrees → List HeadTree → List HeadTree → Type 0
 IsBlock level lines heads rest = AreNested (suc level) lines × (heads ≡ heads_of lines ++ rest) × Upto level rest
 
--- what may be left where no line is deeper
+-- what may be left if no line is deeper
 abbrev pub IsNotDeeper : ℕ → List Line → Type 0
 IsNotDeeper level [] = Unit {0}
 IsNotDeeper level (l ∷ lines) = level_of (head_of l) ≤ level

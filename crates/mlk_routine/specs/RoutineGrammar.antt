@@ -12,14 +12,14 @@ use Rattle.mlk_syntax.specs.Trees.{RoutineTree, Named_routine}
 use Rattle.mlk_routine_arguments.specs.CommandWords.{reaches_block}
 use Rattle.mlk_routine_arguments.specs.CommandGrammar.{AreCommands}
 
--- A formal list: names in parentheses, with commas between them, no two the same; `()` has none. Standard: formallist.
+-- A formal list: names in parentheses, separated by commas, no two equal; `()` has none. Standard: formallist.
 abbrev pub IsFormals : List (List ℕ) → List ℕ → Type 0
 IsFormals [] s = s ≡ 40 ∷ 41 ∷ []
 IsFormals (n ∷ names) s = (inner : List ℕ) × IsEnclosed inner s × IsList IsNameText 0 (n ∷ names) inner
     × AreDistinct (n ∷ names)
 
--- What stands before a line's start: nothing, or a label, directly after which its formal list may stand. Standard:
--- line, label, formalline.
+-- What precedes a line's start: nothing, or a label, directly followed by an optional formal list. Standard: line, label,
+-- formalline.
 abbrev pub IsLabelled : Option (List ℕ) → Option (List (List ℕ)) → List ℕ → Type 0
 IsLabelled None None s = s ≡ []
 IsLabelled None (Some formals) s = ⊥
@@ -34,7 +34,7 @@ is_blank b = (b == 32) || (b == 9)
 abbrev pub AreBlanks : List ℕ → Type 0
 AreBlanks s = list_all is_blank s ≡ true
 
--- So many periods, with blanks after each. Standard: level line.
+-- The given number of periods, with blanks after each. Standard: level line.
 abbrev pub ArePeriods : ℕ → List ℕ → Type 0
 ArePeriods zero s = s ≡ []
 ArePeriods (suc n) s = (blanks rest : List ℕ) × (s ≡ 46 ∷ (blanks ++ rest)) × AreBlanks blanks × ArePeriods n rest
@@ -48,28 +48,26 @@ IsStart periods s = (blanks rest : List ℕ) × (s ≡ blanks ++ rest) × (0 < l
 abbrev pub IsComment : List ℕ → Type 0
 IsComment s = (s ≡ []) ⊎ ((text : List ℕ) × (s ≡ 59 ∷ text) × (is_text text ≡ true))
 
--- What stands after the label: a comment or nothing; or a line's start, commands, and a comment or nothing. The level
--- is one more than the periods, at most 15, which is this project's own choice. Standard: line body.
+-- What follows the label: a comment or nothing; or a line's start, commands, and a comment or nothing. The level is one more than
+-- the number of periods, at most 15, which is this project's own choice. Standard: line body.
 abbrev pub IsBody : ℕ → ℕ → CommandTrees → List ℕ → Type 0
 IsBody level at commands s = ((level ≡ 1) × (commands ≡ finished) × IsComment s)
     ⊎ ((periods : ℕ) × (start text comment : List ℕ) × (s ≡ start ++ (text ++ comment)) × (level ≡ suc periods)
     × (level ≤ 15) × IsStart periods start × AreCommands level 0 (at + length start) commands text × IsComment comment)
 
--- A line with its number. A label stands on lines of the first level alone, which is this project's own choice.
--- Standard: line.
+-- A line with its number. Only lines of level 1 have labels, which is this project's own choice. Standard: line.
 abbrev pub IsLine : ℕ → HeadTree → List ℕ → Type 0
 IsLine n (LineHead number level end label formals commands) s = (front body : List ℕ) × (s ≡ front ++ body)
     × (number ≡ n) × (end ≡ column_at (suc (length s))) × IsLabelled label formals front
     × ((label ≡ None) ⊎ (level ≡ 1)) × IsBody level (suc (length front)) commands body
 
--- lines, counted from this number
+-- lines, numbered from n
 abbrev pub AreLines : ℕ → List HeadTree → List (List ℕ) → Type 0
 AreLines n [] texts = texts ≡ []
 AreLines n (head ∷ heads) texts = (s : List ℕ) × (rest : List (List ℕ)) × (texts ≡ s ∷ rest) × IsLine n head s
     × AreLines (suc n) heads rest
 
--- The end of a line: LF or CR LF; the last line may lack it, where it is not empty. Standard: eol; this project's own
--- choice.
+-- The end of a line: LF or CR LF; a last line that is not empty may have none. Standard: eol; this project's own choice.
 abbrev pub IsEnd : List ℕ → List ℕ → List ℕ → Type 0
 IsEnd s end rest = (end ≡ 10 ∷ []) ⊎ (end ≡ 13 ∷ 10 ∷ []) ⊎ ((end ≡ []) × (rest ≡ []) × (s ≢ []))
 
@@ -106,13 +104,13 @@ AreNested level no_lines = Unit {0}
 AreNested level (line head block rest) = (level_of head ≡ level) × ((block ≡ no_lines) ⊎ (reaches head ≡ true))
     × AreNested (suc level) block × AreNested level rest
 
--- the name that a file's stem spells: `_` at its front stands for `%`. This project's own choice.
+-- the name that a file's stem spells: `_` at its front means `%`. This project's own choice.
 abbrev pub percent : List ℕ → List ℕ
 percent [] = []
 percent (b ∷ more) = (if b == 95 then 37 else b) ∷ more
 
--- A routine, by the stem of its file and its text: at most 1 MiB and 65,535 lines, which is this project's own choice.
--- No label stands twice. Standard: routine.
+-- A routine, by the stem of its file and its text: at most 1 MiB and 65,535 lines, which is this project's own choice. No two
+-- lines have the same label. Standard: routine.
 unfoldable pub IsRoutine : List ℕ → RoutineTree → List ℕ → Type 0
 IsRoutine stem (Named_routine name lines) text = (texts : List (List ℕ)) × (name ≡ percent stem) × IsName name
     × (length text ≤ 1048576) × AreCut texts text × (length texts ≤ 65535) × AreLines 1 (heads_of lines) texts

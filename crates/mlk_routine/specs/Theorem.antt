@@ -1,4 +1,4 @@
--- What the grammar of routines keeps to.
+-- Laws of the grammar of routines.
 use Rattle.std.specs.Prelude.{ℕ, ◌≡◌, List}
 use Rattle.mlk_syntax.specs.Trees.{LineTrees, RoutineTree}
 use Rattle.mlk_routine.specs.RoutineGrammar.{AreCut, heads_of, AreNested, IsRoutine}
@@ -7,7 +7,7 @@ use Rattle.mlk_routine.specs.RoutineGrammar.{AreCut, heads_of, AreNested, IsRout
 abbrev pub OneCut : Type 0
 OneCut = (lines others : List (List ℕ)) (text : List ℕ) → AreCut lines text → AreCut others text → lines ≡ others
 
--- Lines that follow each other are nested in one way.
+-- Consecutive lines are nested in one way.
 abbrev pub OneNesting : Type 0
 OneNesting = (level : ℕ) (a b : LineTrees) → AreNested level a → AreNested level b → heads_of a ≡ heads_of b → a ≡ b
 

@@ -6,7 +6,7 @@ ghost use Rattle.mlk_routine_arguments.specs.Told.{Found};
 ghost use Rattle.mlk_routine_arguments.specs.Ends.{IsRun, RunEnds};
 ghost use Rattle.mlk_routine.specs.RoutineGrammar.{is_blank};
 
-// How many of them stand at the front.
+// The number of spaces and TABs at the front of `bytes`.
 fn blanks(bytes: &[u8]) -> usize
     ensures value { result ≡ prefix_len is_blank bytes.now }
     ensures within { result ≤ length bytes.now }
@@ -17,7 +17,7 @@ fn blanks(bytes: &[u8]) -> usize
         .count()
 }
 
-/// The byte after the spaces and TABs here.
+/// The byte after the spaces and TABs at `at`.
 pub(crate) fn past_blanks(line: &[u8], at: usize) -> usize
     requires { at ≤ length line.now }
     ensures { Found (IsRun is_blank) (RunEnds is_blank) line.now at tt result }

@@ -10,7 +10,7 @@ use mlk_text::{giving_up, make_room};
 use std::alloc::{AllocError, Global};
 use std::collections::VecDeque;
 
-// The next line, if it is deeper than this level. It is taken away.
+// Removes and returns the next line if it is deeper than `level`, otherwise `None`.
 fn deeper(level: usize, lines: &mut VecDeque<Line>) -> Option<Line>
     ensures { MatchOption result
         ((lines.new.items ≡ lines.old.items) × IsNotDeeper level lines.old.items)
@@ -22,13 +22,12 @@ fn deeper(level: usize, lines: &mut VecDeque<Line>) -> Option<Line>
     }
 }
 
-// How many lines at the front are deeper than this level: as many as its block has, or more, where some have blocks of
-// their own.
+// The number of lines at the front that are deeper than `level`: those of the block, or more if some have blocks of their own.
 fn room(level: usize, lines: &VecDeque<Line>) -> usize {
     lines.iter().take_while(|line| line.level > level).count()
 }
 
-// Whether the next line is deeper than this level.
+// Whether the next line is deeper than `level`.
 fn is_deeper(level: usize, lines: &VecDeque<Line>) -> bool
     ensures { result ≡ false → IsNotDeeper level lines.now.items }
 {
@@ -38,7 +37,7 @@ fn is_deeper(level: usize, lines: &VecDeque<Line>) -> bool
     }
 }
 
-// The block under a line of this level, as `block` gives it. Most lines head none, and then it is not called.
+// The block under a line of `level`, as `block` returns it. Most lines have none, and then `block` is not called.
 #[cycle(blocks)]
 #[inline(always)]
 fn under(alloc: Global, level: usize, lines: &mut VecDeque<Line>) -> Result<Vec<Line>, AllocError>
@@ -52,7 +51,7 @@ fn under(alloc: Global, level: usize, lines: &mut VecDeque<Line>) -> Result<Vec<
     Ok(Vec::new(alloc))
 }
 
-/// The lines at the front that are deeper than this level, each with its block. They are taken away.
+/// Removes the lines at the front that are deeper than `level` and returns them, each with its block.
 #[cycle(blocks)]
 pub(crate) fn block(
     alloc: Global,

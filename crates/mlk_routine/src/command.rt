@@ -1,4 +1,4 @@
-// Commands but FOR: postconditionals and arguments.
+// Commands other than FOR: postconditionals and arguments.
 
 ghost use Rattle.std.specs.Prelude.{◌≡◌, ◌≤◌, ℕ, List, IfOk, length, option_map, true};
 ghost use Rattle.mlk_syntax.specs.ExprTrees.{tree_of, trees};
@@ -19,7 +19,7 @@ use mlk_syntax::{Action, Command, Expr};
 use mlk_text::{Code, Column, Failure, Fault, LeftOut};
 use std::alloc::{AllocError, Global};
 
-/// The postconditional here, where the word may have one, and the byte after it.
+/// Reads the postconditional, if `word` may have one and there is one: its expression, and the byte after it.
 fn condition(
     alloc: Global,
     word: Word,
@@ -35,7 +35,7 @@ fn condition(
     after(alloc, b':', Allows::Everything, line, at)
 }
 
-/// A command that has no arguments ends here.
+/// Checks that a command without arguments ends at `at`, and returns `at`.
 fn no_arguments(alloc: Global, line: &[u8], at: usize) -> Result<usize, Failure<Fault>>
     requires { at ≤ length line.now }
     ensures { IsNothing line.now at result }
@@ -47,7 +47,7 @@ fn no_arguments(alloc: Global, line: &[u8], at: usize) -> Result<usize, Failure<
     Err(refused(alloc, Code::Spacing, at + space))
 }
 
-/// The value after one space, and the byte after it.
+/// Reads the value of QUIT after one space: its expression, and the byte after it.
 fn returned(alloc: Global, line: &[u8], at: usize) -> Result<(Expr, usize), Failure<Fault>>
     requires { at ≤ length line.now }
     ensures { Told tree_of (λ n t. After 32 (λ k s. IsValue k t s) n) (λ t. StopEnds true) line.now at result }
@@ -60,19 +60,19 @@ fn returned(alloc: Global, line: &[u8], at: usize) -> Result<(Expr, usize), Fail
     Ok((value, next))
 }
 
-// Few commands have a postconditional or QUIT's value, so those do not stand in place.
+// Few commands have a postconditional, and few QUITs a value, so these are boxed.
 fn boxed(alloc: Global, value: Expr) -> Result<Box<Expr>, AllocError>
     ensures { IfOk result (λ b. tree_of b.value ≡ tree_of value) }
 {
     Ok(Box::new(alloc, value)?)
 }
 
-// Whether no expression begins in this column.
+// Whether `fault` is that no expression begins in `column`.
 fn is_no_expression(fault: &Fault, column: Column) -> bool {
     fault.code == Code::ExprForm && fault.place.column == column
 }
 
-// What is told of a value that can't be read, where QUIT may have none.
+// The refusal of a value that can't be read, in a place where QUIT may have none.
 fn no_expression(alloc: Global, failure: Failure<Fault>, at: usize) -> Failure<Fault>
     ensures { (line : List ℕ) → at ≤ length line → IsFaulty line failure → IsFaulty line result }
 {
@@ -86,7 +86,7 @@ fn no_expression(alloc: Global, failure: Failure<Fault>, at: usize) -> Failure<F
     leaves_out(alloc, LeftOut::QuitValue, at)
 }
 
-// Why no value stands here, where QUIT may have none.
+// Why there is no value here, in a place where QUIT may have none.
 fn no_value(alloc: Global, line: &[u8], at: usize) -> Failure<Fault>
     requires { at ≤ length line.now }
     ensures { IsFaulty line.now result }
@@ -101,7 +101,7 @@ fn no_value(alloc: Global, line: &[u8], at: usize) -> Failure<Fault>
     }
 }
 
-/// QUIT's value, where it may have one, and the byte after it.
+/// Reads QUIT's value, if `returns` allows one: its expression, and the byte after it.
 fn quit_value(
     alloc: Global,
     returns: bool,
@@ -122,7 +122,7 @@ fn quit_value(
     Ok((Some(kept), next))
 }
 
-/// What `H` does: HALT without arguments, HANG with them.
+/// The action of `H`: HALT without arguments, HANG with them.
 fn halt_or_hang(times: Vec<Expr>) -> Action
     ensures { action_of result ≡ halting (trees times.items) }
 {
@@ -140,7 +140,7 @@ macro_rules! turned {
     }};
 }
 
-/// What a command of this word does, from the byte after its postconditional, and the byte after it.
+/// Reads the arguments of a command after its word and postconditional: its action, and the byte after it.
 #[inline(always)]
 fn action(
     alloc: Global,
@@ -180,7 +180,7 @@ fn boxed_if(alloc: Global, condition: Option<Expr>) -> Result<Option<Box<Expr>>,
     }
 }
 
-/// The command whose word stands here, and the byte after it.
+/// Reads the command whose word is at `at`: the command, and the byte after it.
 pub(crate) fn command(
     alloc: Global,
     returns: bool,

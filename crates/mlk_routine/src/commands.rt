@@ -21,7 +21,7 @@ use std::alloc::{AllocError, Global};
 
 const MOST_LOOPS: usize = 255;
 
-/// Where commands stand: on a line of this level, inside so many FORs.
+/// Where commands are: on a line of `level`, inside `loops` FORs.
 #[derive(Clone, Copy, Drop)]
 pub(crate) struct Inside {
     pub(crate) level: usize,
@@ -29,7 +29,7 @@ pub(crate) struct Inside {
 }
 
 impl Inside {
-    // Whether a QUIT here ends a call, and may have a value.
+    // Whether a QUIT here ends a call, and so may have a value.
     fn returns(self) -> bool
         ensures { result ≡ (self.level == 1) && (self.loops == 0) }
     {
@@ -37,7 +37,7 @@ impl Inside {
     }
 }
 
-// Whether the word that stands first is that of a FOR. Most begin with another letter, and are not looked through.
+// Whether the word at the front is FOR. Most words begin with another letter, and are not compared.
 fn begins_for(bytes: &[u8]) -> bool
     ensures { result ≡ is_for (word_at bytes.now).0 }
 {
@@ -49,7 +49,7 @@ fn begins_for(bytes: &[u8]) -> bool
     is_for(letters)
 }
 
-// Whether the word of a FOR stands here.
+// Whether the word at `at` is FOR.
 fn is_for_here(line: &[u8], at: usize) -> bool
     requires { at ≤ length line.now }
     ensures { result ≡ is_for (word_at (drop at line.now)).0 }
@@ -58,8 +58,8 @@ fn is_for_here(line: &[u8], at: usize) -> bool
     begins_for(bytes)
 }
 
-// Makes room for a command. Most lines have one or two, so there is room for two where the first is not the last; then it
-// grows by half, so that little of it stays empty.
+// Makes room for a command. Most lines have one or two: if the first is not the last, there is room for two; after that the
+// capacity grows by half, so that little of it is unused.
 fn make_room_for(before: &mut Vec<Command>, is_last: bool) -> Result<(), AllocError>
     ensures same { OnOk result (before.new.items ≡ before.old.items) }
     ensures room { OnOk result (vec_len before.new < vec_capacity before.new) }
@@ -75,7 +75,7 @@ fn make_room_for(before: &mut Vec<Command>, is_last: bool) -> Result<(), AllocEr
     before.reserve_exact(more)
 }
 
-// The commands from here on before the next FOR, or all, and the byte after them and the spaces there.
+// Reads the commands up to the next FOR, or all: the commands, and the byte after them and the spaces there.
 #[inline(always)]
 fn before_for(
     alloc: Global,
@@ -99,7 +99,7 @@ fn before_for(
     Ok((before, next))
 }
 
-// FOR's variable and parameters, if it has any, and the byte after them.
+// Reads FOR's variable and parameters, if it has any: both, and the byte after them.
 fn perhaps_control(
     alloc: Global,
     line: &[u8],
@@ -119,7 +119,8 @@ fn perhaps_control(
     Ok((Some(read), next))
 }
 
-// A FOR inside so many others, before what it holds, and the byte after that.
+// Reads a FOR inside `loops` others, without the rest of its line: its variable and parameters, if it has any, and the byte
+// after them.
 fn for_head(
     alloc: Global,
     loops: usize,
@@ -138,7 +139,7 @@ fn for_head(
     perhaps_control(alloc, line, at + letters.len())
 }
 
-// Commands before a FOR, that FOR, and what it holds.
+// The commands of a line: those before a FOR, and that FOR with the rest of the line.
 fn with_for(
     alloc: Global,
     before: Vec<Command>,
@@ -160,7 +161,7 @@ fn with_for(
     Ok(Commands { before, last })
 }
 
-// The FOR here with what it holds, after the commands before it, and the byte after that.
+// Reads the FOR here with the rest of its line, after the commands `before`: all of them, and the byte after them.
 #[cycle(commanding)]
 fn with_loop(
     alloc: Global,
@@ -184,7 +185,7 @@ fn with_loop(
     Ok((with_for(alloc, before, place, control, rest)?, end))
 }
 
-/// All commands from here on, and the byte after them: the line's end, or a comment.
+/// Reads all commands from `at` on: the commands, and the byte after them, which is the line's end or a comment.
 #[cycle(commanding)]
 pub(crate) fn commands(
     alloc: Global,

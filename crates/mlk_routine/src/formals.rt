@@ -14,7 +14,7 @@ use mlk_routine_arguments::{has, other_form, refused};
 use mlk_text::{Code, Failure, Fault, List, Name};
 use std::alloc::Global;
 
-// Why no formal is read here. What is left out elsewhere has another form here.
+// Why no formal can be read here. What is unsupported elsewhere has a wrong form here.
 fn no_formal(alloc: Global, line: &[u8], at: usize, fault: Fault) -> Failure<Fault>
     requires { at ≤ length line.now }
     ensures { IsLineFault line.now fault → IsFaulty line.now result }
@@ -26,7 +26,7 @@ fn no_formal(alloc: Global, line: &[u8], at: usize, fault: Fault) -> Failure<Fau
     }
 }
 
-// The name here, and the byte after it.
+// Reads a name: the name, and the byte after it.
 fn name(alloc: Global, line: &[u8], at: usize) -> Result<(Name, usize), Failure<Fault>>
     requires { at ≤ length line.now }
     ensures { Told (λ n. n) IsNameText LabelEnds line.now at result }
@@ -38,7 +38,7 @@ fn name(alloc: Global, line: &[u8], at: usize) -> Result<(Name, usize), Failure<
     }
 }
 
-// The formal here, which is none of those seen, and the byte after it.
+// Reads a formal, which must not be in `seen`: the name, and the byte after it.
 fn formal<'a>(
     alloc: Global,
     seen: &mut SeenNames<'a>,
@@ -59,7 +59,7 @@ fn formal<'a>(
     Ok((name, next))
 }
 
-/// The formal list that the parenthesis here opens, and the byte after it.
+/// Reads the formal list whose parenthesis is at `at`: the formals, and the byte after the list.
 pub(crate) fn formals(
     alloc: Global,
     line: &[u8],

@@ -1,4 +1,4 @@
-// What stands before a line's commands.
+// The part of a line before its commands.
 
 ghost use Rattle.std.specs.Prelude.{◌≡◌, ◌≤◌, length};
 ghost use Rattle.mlk_routine_arguments.specs.Told.{Told, Found};
@@ -11,16 +11,16 @@ use mlk_routine_arguments::has;
 use mlk_text::{Failure, Fault, List, Name};
 use std::alloc::Global;
 
-/// What stands before a line's commands.
+/// The part of a line before its commands.
 #[derive(Drop)]
 pub(crate) struct Front {
     pub(crate) label: Option<Name>,
     pub(crate) formals: Option<List<Name>>,
-    /// the level of the line's start, if it has one
+    /// the level of the line's start, or `None` if it has none
     pub(crate) level: Option<usize>,
 }
 
-// The formal list here, if one stands here, and the byte after it.
+// Reads the formal list, if there is one: the formals, and the byte after it.
 fn perhaps_formals(
     alloc: Global,
     is_labelled: bool,
@@ -37,7 +37,7 @@ fn perhaps_formals(
     Ok((Some(names), next))
 }
 
-/// What stands before a line's commands, after the label that was read.
+/// Reads the rest of the part before a line's commands, after `label`.
 pub(crate) fn before_commands(
     alloc: Global,
     label: Option<Name>,

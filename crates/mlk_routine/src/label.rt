@@ -11,7 +11,7 @@ use mlk_text::lexeme::{is_digit, is_letter};
 use mlk_text::{Code, Failure, Fault, Name};
 use std::alloc::Global;
 
-// Whether a label begins a line.
+// Whether a line begins with a label.
 fn starts_label(line: &[u8]) -> bool
     ensures { result ≡ starts is_label_byte line.now }
 {
@@ -21,7 +21,7 @@ fn starts_label(line: &[u8]) -> bool
     }
 }
 
-/// The label at the front of a line, if one stands there, and the byte after it.
+/// Reads the label at the front of a line, if there is one: the label, and the byte after it.
 pub(crate) fn label(alloc: Global, line: &[u8]) -> Result<(Option<Name>, usize), Failure<Fault>>
     ensures { Told (λ l. l) IsLabelPart LabelPartEnds line.now 0 result }
 {

@@ -1,4 +1,4 @@
-// What the grammar of routines keeps to.
+// Laws of the grammar of routines.
 
 ghost use Rattle.mlk_routine.specs.Theorem.{OneCut, OneNesting, OneTree};
 
@@ -7,7 +7,7 @@ pub fn one_cut()
     ensures { OneCut }
 {}
 
-/// Lines that follow each other are blocks in one way.
+/// Consecutive lines form blocks in one way.
 pub fn one_nesting()
     ensures { OneNesting }
 {}

@@ -1,4 +1,4 @@
-//! The routines of M: their trees, and the reader that is exact for their grammar.
+//! M's routines: the exact reader of their grammar.
 #![tactic(auto)]
 
 mod blank;

@@ -1,4 +1,4 @@
-// Lines, one after the other.
+// Lines, one after another.
 
 ghost use Rattle.std.specs.Prelude.{◌≡◌, ◌<◌, ◌≤◌, ◌+◌, ◌||◌, ◌⊎◌, ℕ, List, length, take, is_some};
 ghost use Rattle.std.specs.Prelude.{true, false, Some, None};
@@ -22,18 +22,18 @@ use std::alloc::{AllocError, Global};
 
 const MOST_LEVELS: usize = 15;
 
-/// What is known of the lines before a line.
+/// What the reader of a line knows of the lines before it.
 #[derive(Drop)]
 pub(crate) struct Before<'a> {
     labels: SeenNames<'a>,
-    /// the level of the last one, 0 where there is none
+    /// the level of the previous line, 0 if there is none
     level: usize,
-    /// whether a DO without arguments stands on the last one
+    /// whether the previous line has a DO without arguments
     reaches: bool,
 }
 
 impl<'a> Before<'a> {
-    /// Before the first line, which has the first level.
+    /// The state before the first line, which must have level 1.
     pub(crate) fn new(alloc: Global) -> Before<'a>
         ensures labels { (q : List ℕ) → has_name q result.labels.texts.keys ≡ false }
         ensures level { result.level ≡ 0 }
@@ -46,7 +46,7 @@ impl<'a> Before<'a> {
         }
     }
 
-    // Whether a line before has the label.
+    // Whether an earlier line has the label `label`.
     #[inline(always)]
     fn has_label(&self, label: &Option<Name>) -> bool
         ensures { result ≡ is_in label.now self.now.labels.texts.keys }
@@ -57,7 +57,7 @@ impl<'a> Before<'a> {
         }
     }
 
-    // Whether a line of this level is more than one deeper than the last.
+    // Whether a line of `level` is more than one deeper than the previous line.
     fn is_jump(&self, level: usize) -> bool
         ensures yes { result ≡ true → self.now.level + 1 < level }
         ensures no { result ≡ false → level ≤ self.now.level + 1 }
@@ -65,7 +65,7 @@ impl<'a> Before<'a> {
         level > self.level && level - 1 > self.level
     }
 
-    // Whether a line of this level begins a block that the last line does not run.
+    // Whether a line of `level` begins a block that the previous line does not run.
     fn is_unreached(&self, level: usize) -> bool
         ensures yes { result ≡ true → (self.now.level < level) × (self.now.reaches ≡ false) }
         ensures no { result ≡ false → (level ≤ self.now.level) ⊎ (self.now.reaches ≡ true) }
@@ -73,7 +73,7 @@ impl<'a> Before<'a> {
         level > self.level && !self.reaches
     }
 
-    // Why a line with this front may not stand here, if it may not.
+    // The code of what is wrong with a line at this place with `front`, or `None`.
     fn misplaced(&self, front: &Front) -> Option<Code>
         ensures code { IsMisplaced result }
         ensures none { result ≡ None → IsKept front.now.label (level_in front.now.level) }
@@ -117,7 +117,8 @@ impl<'a> Before<'a> {
     }
 }
 
-// What stands before the commands of a line, and the byte after it. A label that stood before is told first.
+// Reads the part of a line before its commands, and returns the byte after it. A label that an earlier line has is refused
+// before anything else.
 fn front(alloc: Global, before: &Before, text: &[u8]) -> Result<(Front, usize), Failure<Fault>>
     ensures { Told (λ f. f) IsFront FrontEnds text.now 0 result }
 {
@@ -130,7 +131,7 @@ fn front(alloc: Global, before: &Before, text: &[u8]) -> Result<(Front, usize), 
     }
 }
 
-// How many bytes stand before one that ends a line.
+// The number of bytes before the first byte that ends a line.
 fn line_bytes(text: &[u8]) -> usize
     ensures value { result ≡ prefix_len is_line_byte text.now }
     ensures within { result ≤ length text.now }
@@ -141,7 +142,7 @@ fn line_bytes(text: &[u8]) -> usize
     }
 }
 
-/// A line, without its block.
+/// Reads a line, without its block.
 pub(crate) fn line<'a>(
     alloc: Global,
     before: &mut Before<'a>,

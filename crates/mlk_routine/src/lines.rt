@@ -1,4 +1,4 @@
-// The lines of a text, as they follow each other.
+// The lines of a text, as a flat list.
 
 ghost use Rattle.std.specs.Prelude.{◌≤◌, map, length, IfOk, IfErr};
 ghost use Rattle.mlk_text.specs.Failures.{IfRefused};
@@ -13,7 +13,7 @@ use mlk_text::{Failure, Fault, LineNumber};
 use std::alloc::Global;
 use std::collections::VecDeque;
 
-/// The lines of a routine's texts, each without its block.
+/// Reads the lines of a routine, each without its block.
 pub(crate) fn lines(
     alloc: Global,
     routine: &[u8],

@@ -1,4 +1,4 @@
-// Why a routine was not read, and where.
+// Why a routine was refused, and where.
 
 ghost use Rattle.std.specs.Prelude.{◌≡◌};
 ghost use Rattle.mlk_text.specs.Failures.{IfRefused};
@@ -9,12 +9,12 @@ ghost use Rattle.mlk_routine.specs.Refusals.{IsOfWhole};
 use mlk_text::{Code, Column, Failure, Fault, LeftOut, LineNumber, Place, Value};
 use std::alloc::Global;
 
-// Whether a byte may stand outside of comments and texts in quotes.
+// Whether `b` is allowed outside of comments and quoted texts.
 fn is_plain(b: u8) -> bool {
     32 <= b && b <= 126
 }
 
-// Whether a refusal is of a line's place among others, whatever stands in its first column.
+// Whether `code` refuses a line for its place among the others, whatever its first column contains.
 fn is_above(code: Code) -> bool {
     matches!(
         code,
@@ -22,7 +22,7 @@ fn is_above(code: Code) -> bool {
     )
 }
 
-// Whether a byte stands in this column that may not stand there.
+// Whether the byte in `column` is not allowed there.
 fn has_wrong_byte(text: &[u8], column: Column) -> bool {
     let place = column.number() as usize;
     if place == 0 || place > text.len() {
@@ -57,7 +57,7 @@ fn located(
     })
 }
 
-/// The refusal of a line by its place in the routine. A byte that may not stand at its place is nothing else.
+/// Gives the refusal of a line its place in the routine. A byte that is not allowed is always refused as that.
 pub(crate) fn in_line(
     alloc: Global,
     routine: &[u8],

@@ -1,4 +1,4 @@
-// Whether a line runs the block under it.
+// Whether a line runs the block below it.
 
 ghost use Rattle.std.specs.Prelude.{◌≡◌, ◌||◌};
 ghost use Rattle.std.specs.List.{list_any};
@@ -8,7 +8,7 @@ ghost use Rattle.mlk_routine.specs.Lines.{is_block};
 
 use mlk_syntax::{Action, Command, Commands};
 
-// Whether this is a DO without arguments.
+// Whether `command` is a DO without arguments.
 fn is_block(command: &Command) -> bool
     ensures { result ≡ is_block (command_of command.now) }
 {
@@ -18,14 +18,14 @@ fn is_block(command: &Command) -> bool
     }
 }
 
-// Whether one stands among these.
+// Whether one of `commands` is a DO without arguments.
 fn has_block(commands: &[Command]) -> bool
     ensures { result ≡ list_any (λ c. is_block (command_of c)) commands.now }
 {
     commands.iter().any(|c| is_block(c))
 }
 
-/// Whether a DO without arguments stands among these, in their FORs too.
+/// Whether one of `commands`, or of the commands in their FORs, is a DO without arguments.
 pub(crate) fn reaches_block(commands: &Commands) -> bool
     ensures { result ≡ reaches_block (commands_of commands.now) }
 {

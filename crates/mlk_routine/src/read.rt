@@ -21,22 +21,22 @@ const MOST_BYTES: usize = 1048576;
 
 const MOST_LINES: usize = 65535;
 
-// The lines of a text, without their ends.
+// The lines of `text`, without their terminators.
 fn cut(alloc: Global, text: &[u8]) -> Result<Vec<&[u8]>, AllocError>
     ensures { IfOk result (λ v. texts_of v.items ≡ map without_terminator (lines_of text.now)) }
 {
     text.lines().collect(alloc)
 }
 
-/// Reads the routine of a text, by the stem of its file.
+/// Reads the routine of `text`, whose file has the stem `stem`.
 pub fn read_routine(alloc: Global, stem: &[u8], text: &[u8]) -> Result<Routine, Failure<Fault>>
-    // What is read is written by the stem and the text.
+    // The tree that is read is spelled by the stem and the text.
     ensures found { IfOk result (λ r. IsRoutine stem.now (routine_of r) text.now) }
-    // Nothing else is.
+    // No other tree is.
     ensures only { IfOk result (λ r. (tree : RoutineTree) → IsRoutine stem.now tree text.now → tree ≡ routine_of r) }
-    // What is refused, unless memory ran out, is no routine.
+    // If the text is refused, unless memory ran out, it is not a routine.
     ensures refused { IfErr result (NoRoutine stem.now text.now) }
-    // It is of the stem, of a limit of the text, or of a line, with a code and a place that go with it.
+    // The refusal is of the stem, of a limit of the text, or of a line, with a code and a place that fit.
     ensures place { IfErr result (Places stem.now text.now) }
 {
     let Some(name) = stem_name(alloc, stem)? else {

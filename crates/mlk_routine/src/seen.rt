@@ -1,4 +1,4 @@
-// Names that stood before.
+// Names that have occurred.
 
 ghost use Rattle.std.specs.Prelude.{◌≡◌, ◌||◌, ℕ, List, IfOk, OnOk, not, false, bytes_eq};
 ghost use Rattle.mlk_routine.specs.Lines.{has_name};
@@ -6,7 +6,7 @@ ghost use Rattle.mlk_routine.specs.Lines.{has_name};
 use std::alloc::{AllocError, Global};
 use std::collections::HashSet;
 
-/// Names that stood before, as the text has them.
+/// Names that have occurred, as slices of the text.
 #[derive(Drop)]
 pub(crate) struct SeenNames<'a> {
     texts: HashSet<&'a [u8]>,
@@ -22,14 +22,14 @@ impl<'a> SeenNames<'a> {
         }
     }
 
-    /// Whether the name stood before.
+    /// Whether `name` has occurred.
     pub(crate) fn has(&self, name: &[u8]) -> bool
         ensures { result ≡ has_name name.now self.now.texts.keys }
     {
         self.texts.contains(name)
     }
 
-    /// Adds a name, and says whether it is new.
+    /// Adds `name`, and returns whether it is new.
     pub(crate) fn add(&mut self, name: &'a [u8]) -> Result<bool, AllocError>
         ensures new { IfOk result (λ new. new ≡ not (has_name name.now self.old.texts.keys)) }
         ensures has { OnOk result ((q : List ℕ)

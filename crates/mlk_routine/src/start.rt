@@ -11,7 +11,7 @@ use mlk_routine_arguments::{has, is_commands_end, refused};
 use mlk_text::{Code, Failure, Fault};
 use std::alloc::Global;
 
-// How many periods stand here, where no blank does, and the byte after them and the blanks after each.
+// Counts the periods here, if no blank precedes them: their number, and the byte after them and the blanks after each.
 fn periods(line: &[u8], at: usize) -> (usize, usize)
     requires within { at ≤ length line.now }
     requires none { starts is_blank (drop at line.now) ≡ false }
@@ -27,8 +27,8 @@ fn periods(line: &[u8], at: usize) -> (usize, usize)
     (count, next)
 }
 
-/// The level that the line's start here gives, and the byte after it. Only before the line's end or a comment may a
-/// start be missing.
+/// Reads the start of a line: its level, and the byte after it. A start may be missing only before the line's end or a
+/// comment.
 pub(crate) fn opening(
     alloc: Global,
     line: &[u8],

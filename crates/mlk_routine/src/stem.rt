@@ -20,7 +20,7 @@ fn percent(alloc: Global, stem: &[u8]) -> Result<Vec<u8>, AllocError>
     Ok(spelled)
 }
 
-/// The name that a file's stem spells, if it spells one.
+/// The name that a file's stem spells, or `None` if it spells none.
 pub(crate) fn stem_name(alloc: Global, stem: &[u8]) -> Result<Option<Name>, AllocError>
     ensures { IfOk result (IsStemName stem.now) }
 {

@@ -1,4 +1,4 @@
-// What stands after a line's start.
+// The part of a line after its start.
 
 ghost use Rattle.std.specs.Prelude.{◌≡◌, ◌≤◌, length, drop, true, OnOk, OnErr, IfErr};
 ghost use Rattle.mlk_routine_arguments.specs.Faults.{IsFaulty};
@@ -13,7 +13,7 @@ use mlk_syntax::Commands;
 use mlk_text::{Code, Failure, Fault};
 use std::alloc::Global;
 
-// Tells where a comment that begins here, if one does, has a byte that may not stand in it.
+// Checks the comment that begins here, if there is one; refused at a byte that is not allowed in comments.
 fn comment(alloc: Global, line: &[u8], at: usize) -> Result<(), Failure<Fault>>
     requires within { at ≤ length line.now }
     requires end { is_commands_end (drop at line.now) ≡ true }
@@ -29,7 +29,7 @@ fn comment(alloc: Global, line: &[u8], at: usize) -> Result<(), Failure<Fault>>
     Ok(())
 }
 
-/// The commands of a line of this level from here on, with its comment.
+/// Reads the commands of a line of `level` from `at` on, and its comment.
 pub(crate) fn tail(
     alloc: Global,
     level: Option<usize>,

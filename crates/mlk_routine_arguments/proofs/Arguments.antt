@@ -21,7 +21,7 @@ use Rattle.mlk_routine_arguments.specs.CommandGrammar.{IsCall, IsDo, before_cond
 use Rattle.mlk_routine_arguments.proofs.Sequences.{Parts}
 use Rattle.mlk_routine_arguments.proofs.Bytes.{AfterByte}
 
--- a thing that no such byte may follow
+-- a thing that this byte may not follow
 module _ {A : Type 0} (Is : Spelled A) (Ends : A → List ℕ → Type 0) (line : List ℕ) (at b : ℕ) (a : A) (n : ℕ) (f : Found Is Ends line at a n) where
   pub lacking_found : (byte_at line n ≡ Some b → ⊥) → Found Is (λ a rest. Ends a rest × Lacks b rest) line at a n
   lacking_found missing =
@@ -31,7 +31,7 @@ module _ {A : Type 0} (Is : Spelled A) (Ends : A → List ℕ → Type 0) (line 
   pub lacking_nowhere : byte_at line n ≡ Some b → Nowhere Is (λ a rest. Ends a rest × Lacks b rest) line at
   lacking_nowhere here c u rest h is e = e.1 (ap first_of (f.1 c u rest h is e.0).1 ∙ here)
 
--- a part that is written where less may stand is written where everything may
+-- a part that is written where less is allowed is written where everything is
 pub call_anywhere : (at : ℕ) (c : CallTree) (s : List ℕ) (condition : Option Tree) → IsCall (before_condition condition) ByReference at c s → IsCall Everything ByReference at c s
 call_anywhere at (Called column callee None) s condition (place, (front, back, is, one, two)) = (place, (front, back, is, one, two))
 call_anywhere at (Called column callee (Some given)) s condition (place, (front, back, is, one, two)) = (place, (front, back, is, one, (two.0, given-anything given)))
@@ -40,7 +40,7 @@ pub none_mapped : {A B : Type 0} (f : A → B) (o : Option A) → is_some o ≡ 
 none_mapped f None h = refl
 none_mapped f (Some a) h = cc h
 
--- a call without actuals is written wherever it is
+-- a call without actuals is written anywhere
 pub bare_call : (line : List ℕ) (at : ℕ) (column : ℕ) (callee : Callee) (given : Option (List ActualTree)) (n : ℕ) → given ≡ None → Found (IsCall Everything ByReference) CallEnds line at (Called column callee given) n
     → Found (IsCall NoTouches ByReference) CallEnds line at (Called column callee given) n
 bare_call line at column callee given n none f = go given none f
@@ -51,7 +51,7 @@ bare_call line at column callee given n none f = go given none f
         (stands, λ c u rest h is e. only c u rest h (call_anywhere (suc at) c u (Some Free) is) e)
     go (Some actuals) none f = cc none
 
--- a colon may stand after a call
+-- a colon may follow a call
 label_colon : (label ys : List ℕ) → label_ends label (58 ∷ ys) ≡ true
 label_colon [] ys = refl
 label_colon (d ∷ label) ys = elim (cases_Bool (is_digit d)) [
@@ -69,7 +69,7 @@ pub call_colon : (c : CallTree) (ys : List ℕ) → CallEnds c (58 ∷ ys)
 call_colon (Called column callee None) ys = ((callee_colon callee.label callee.routine ys, λ bad. let e = same_Some 58 43 bad in omega (arith, e)), λ bad. let e = same_Some 58 40 bad in omega (arith, e))
 call_colon (Called column callee (Some given)) ys = tt
 
--- what stands after the call of a DO argument
+-- what follows the call of a DO argument
 do_call : (at : ℕ) (call : CallTree) (condition : Option Tree) (u rest : List ℕ) → IsDo at (DoCall call condition) u → DoEnds (DoCall call condition) rest
     → (s t : List ℕ) × (u ≡ s ++ t) × IsCall Everything ByReference at call s × CallEnds call (t ++ rest)
 do_call at call None u rest (s, t, is, one, two) e = (s, t, is, call_anywhere at call s None one, subst (λ l. CallEnds call (l ++ rest)) (sym two) e.0)
@@ -116,7 +116,7 @@ module _ (line : List ℕ) (at : ℕ) where
         go (DoCall other (Some x)) u rest h (s, t, is, one, two) e =
             (other, x, s, t, is, refl, one, two, subst (λ l. CallEnds other (l ++ rest)) (sym two.1) (call_colon other (two.0 ++ rest)), e)
 
-    -- the call that is read again ends in the same place
+    -- the call that is read again ends at the same place
     pub colon_again : (x : Tree) → byte_at line m ≡ Some 58 → (again : CallTree) (n : ℕ) → Found (IsCall NoTouches ByReference) CallEnds line at again n → byte_at line n ≡ Some 58
     colon_again x here again n f =
         let same = found.1 again f.0.text (drop n line) f.0.joined (call_anywhere (suc at) again f.0.text (Some x) f.0.spelled) f.0.ended in

@@ -1,4 +1,4 @@
--- A byte at a place, and what stands after it.
+-- A byte at a place, and what follows it.
 use Rattle.std.proofs.Common.{◌≡◌, ◌<◌, ◌+◌, ℕ, zero, suc, List, [], ◌∷◌, ◌++◌, length, drop, Some, None, refl, sym, ap, ◌∙◌, arith, subst, add-one, length-drop}
 use Rattle.std.specs.Prelude.{Option}
 use Rattle.mlk_expr.specs.declared.context.Allows.{Allows}

@@ -12,7 +12,7 @@ use Rattle.mlk_text.specs.declared.failure.Failure.{Failure}
 use Rattle.mlk_text.specs.declared.failure.Failure.TheVariants.{OutOfMemory, Refused}
 use Rattle.mlk_text.specs.declared.fault.Fault.{Fault}
 
--- a byte alone
+-- a byte by itself
 abbrev pub IsByte : ℕ → ℕ → Unit {0} → List ℕ → Type 0
 IsByte b at u s = s ≡ b ∷ []
 

@@ -1,4 +1,4 @@
--- Faults of a line: those that are made, and those that are handed on.
+-- Faults of a line: those that are created, and those that are passed on.
 use Rattle.std.proofs.Common.{◌≡◌, ◌≤◌, ℕ, suc, Bool, true, false, length, List, sym, ap, ◌∙◌, arith, ◌==◌}
 use Rattle.std.specs.Prelude.{Option, ◌||◌, ◌&&◌, nat_le, not, is_some}
 use Rattle.std.proofs.Math.Nat.{min-le_left, le-min}
@@ -19,7 +19,7 @@ use Rattle.mlk_routine_arguments.specs.Faults.{Tells, may_tell, has_word, IsLine
 column_first : (at : ℕ) → 1 ≤ column_at (suc at)
 column_first at = le-min (omega arith) (omega arith)
 
--- a fault that is made
+-- a fault that is created
 pub made_fault : (line : List ℕ) (code : Code) (left_out : Option LeftOut) (at : ℕ) (e : Failure Fault) → Tells code left_out at e → may_tell (number_of code) ≡ true → is_some left_out ≡ has_word (number_of code) → at ≤ length line → IsFaulty line e
 made_fault line code left_out at OutOfMemory t coded worded less = absurd t
 made_fault line code left_out at (Refused fault) t coded worded less =

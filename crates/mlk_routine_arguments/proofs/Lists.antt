@@ -1,4 +1,4 @@
--- Lists with commas between their items, read item by item.
+-- Lists of items separated by commas, read item by item.
 use Rattle.std.proofs.Common.{◌≡◌, ◌<◌, ◌≤◌, ◌+◌, ◌-◌, ℕ, suc, List, [], ◌∷◌, ◌++◌, length, drop, Some, true, refl, sym, ap, ◌∙◌, arith, subst, append_assoc, append-nil}
 use Rattle.mlk_expr.specs.Grammar.{Spelled, AreNext, IsList}
 use Rattle.mlk_expr.specs.Theorem.{Stands, Only}
@@ -8,7 +8,7 @@ use Rattle.mlk_routine_arguments.proofs.Sequences.{Parts, both_found, first_nowh
 use Rattle.mlk_routine_arguments.proofs.Bytes.{AfterByte, after_found, after_nowhere, byte_before}
 
 module _ {A : Type 0} (Is : Spelled A) (Ends : A → List ℕ → Type 0) (stop : (a : A) (rest : List ℕ) → is_stop rest ≡ true → Ends a rest) where
-  -- what stands after an item that more items follow
+  -- what follows an item before more items
   item_ends : (at : ℕ) (a : A) (more : List A) (t rest : List ℕ) → AreNext Is at more t → MoreEnds Ends a more rest → Ends a (t ++ rest)
   item_ends at a [] t rest is e = subst (λ l. Ends a (l ++ rest)) (sym is) e.1
   item_ends at a (b ∷ more) t rest (front, others, is, one, next) e = subst (λ l. Ends a (l ++ rest)) (sym is) (stop a (44 ∷ ((front ++ others) ++ rest)) refl)
@@ -38,7 +38,7 @@ module _ {A : Type 0} (Is : Spelled A) (Ends : A → List ℕ → Type 0) (stop 
       go (a ∷ more) u rest h (front, back, is, one, next) e =
           (a, more, 44 ∷ front, back, is, refl, (front, refl, one), subst (λ k. AreNext Is k more back) (omega arith) next, item_ends (suc (suc at + length front)) a more back rest next e, e)
 
-  -- A list of which items were read up to here.
+  -- A list whose items were read up to here.
   pub record SoFar (line : List ℕ) (at : ℕ) (items : List A) (next : ℕ) : Type 0 where
     pub last : A
     pub within : next ≤ length line

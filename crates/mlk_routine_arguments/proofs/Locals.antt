@@ -19,7 +19,7 @@ use Rattle.mlk_routine_arguments.specs.Ends.{VariableEnds}
 use Rattle.mlk_routine_arguments.specs.CommandGrammar.{IsVariable, IsLocal, is_local_name}
 use Rattle.mlk_routine_arguments.proofs.Sequences.{narrow_told}
 
--- a local or a global is a local where no caret stands
+-- a local or a global is a local if there is no caret
 plain_local : (k at : ℕ) (t : Tree) (s rest : List ℕ) → IsPlain (IsAtom k) (IsPattern k) at t s → starts_reference s ≡ true → (first_of (s ++ rest) ≡ Some 94 → ⊥) → is_local_name t ≡ true
 plain_local k at (Lit value) s rest (inl same) first missing = absurd (number-first s (canonical-number s value same) first)
 plain_local k at (Lit value) s rest (inr is) first missing = cc (subst (λ z. starts_reference z ≡ true) is.0 first)

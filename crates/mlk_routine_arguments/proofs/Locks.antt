@@ -20,7 +20,7 @@ use Rattle.mlk_routine_arguments.proofs.Bytes.{AfterByte, byte_there, byte_befor
 use Rattle.mlk_routine_arguments.proofs.Variables.{variable_starts, starts_lacking, variable_before}
 
 module _ (line : List ℕ) (at : ℕ) where
-  -- a sign that stands there
+  -- a sign that is there
   module _ (s : Sign) (b : ℕ) (same : IsSign 0 s (b ∷ [])) (free : (rest : List ℕ) → SignEnds s rest) (here : byte_at line at ≡ Some b) where
     sign_stands : Stands IsSign SignEnds line at s (at + 1)
     sign_stands =
@@ -93,7 +93,7 @@ module _ (s : Sign) (line : List ℕ) (at : ℕ) where
           cc (sym other ∙ ap is_stop (h ∙ ap (λ l. l ++ rest) none.1) ∙ stop)
       go (inr some) = missing (ap first_of (h ∙ ap (λ l. l ++ rest) some.1))
 
--- what stands where a colon does: after `-` nothing
+-- what may follow where there is a colon: nothing after `-`
 module _ (line : List ℕ) (at : ℕ) (here : byte_at line at ≡ Some 58) where
   no_stop : (rest : List ℕ) → drop at line ≡ rest → is_stop rest ≡ true → ⊥
   no_stop rest h stop = cc (sym stop ∙ ap is_stop (sym h ∙ byte_there line at 58 here))

@@ -11,7 +11,7 @@ use Rattle.mlk_routine_arguments.specs.Ends.{Lacks, AfterEnds, ParameterEnds}
 use Rattle.mlk_routine_arguments.specs.CommandGrammar.{Both, IsValue, IsAfter, IsParameter}
 use Rattle.mlk_routine_arguments.proofs.Sequences.{Parts}
 
--- a limit stands after a step alone
+-- a limit occurs only after a step
 abbrev pub IsLimit : Option Tree → ℕ → Option Tree → List ℕ → Type 0
 IsLimit None at limit s = (limit ≡ None) × (s ≡ [])
 IsLimit (Some step) at limit s = IsAfter 58 Everything at limit s
@@ -94,7 +94,7 @@ module _ (line : List ℕ) (at : ℕ) where
       opens (Limited start step limit) u rest (s, t, is, one, (r, eq, (a, b, ab, two, (q, also, three)))) e =
           (start, (Some step, Some limit), s, t, is, refl, one, (58 ∷ a, b, eq ∙ ap (λ l. 58 ∷ l) ab, (a, refl, two), (q, also, subst (λ k. IsValue k limit q) (omega arith) three)), subst (λ l. ExprEnds start (l ++ rest)) (sym eq) (colon_ends start (r ++ rest)), e)
 
--- no limit where there is no step
+-- no limit without a step
 pub no_limit : (line : List ℕ) (at : ℕ) → at ≤ length line → (byte_at line at ≡ Some 58 → ⊥) → Found (IsLimit None) (LimitEnds None) line at None at
 no_limit line at less missing =
     let stands : Stands (IsLimit None) (LimitEnds None) line at None at = record { text = []; within = less; joined = refl; spelled = (refl, refl); ended = missing } in

@@ -1,4 +1,4 @@
--- Two parts, one after the other: what their readers say of the whole.
+-- Two parts, one after the other: what the readers of the parts say of the whole.
 use Rattle.std.proofs.Common.{◌≡◌, ◌≤◌, ◌+◌, ℕ, suc, List, ◌++◌, length, drop, sym, ap, ◌∙◌, arith, subst, append_assoc, length-append, length-drop, drop-drop}
 use Rattle.std.proofs.Math.Seq.{drop-append_seam}
 use Rattle.std.specs.Prelude.{Result, Ok, Err}
@@ -20,7 +20,7 @@ next_is line text at m a b h =
 pub not_after : {A : Type 0} (Is : Spelled A) (Ends : A → List ℕ → Type 0) (line : List ℕ) (at : ℕ) (a : A) (next : ℕ) → Stands Is Ends line at a next → at ≤ length line → at ≤ next
 not_after Is Ends line at a next s h = let e = next_is line s.text at next h s.within s.joined in omega arith
 
--- A whole that is made of two parts, at a place.
+-- A whole of two parts, at a place.
 pub record Parts {A B C : Type 0} (line : List ℕ) (at : ℕ) (IsA : Spelled A) (EndsA : A → List ℕ → Type 0) (IsB : A → Spelled B) (EndsB : A → B → List ℕ → Type 0) (IsC : Spelled C) (EndsC : C → List ℕ → Type 0) (make : A → B → C) : Type 0 where
   pub into : (a : A) (b : B) (s t : List ℕ) → IsA (suc at) a s → IsB a (suc at + length s) b t → IsC (suc at) (make a b) (s ++ t)
   pub ends : (a : A) (b : B) (k : ℕ) (t rest : List ℕ) → IsB a k b t → EndsA a (t ++ rest) → EndsB a b rest → EndsC (make a b) rest
@@ -68,7 +68,7 @@ module _ {A B C : Type 0} {line : List ℕ} {at : ℕ} {IsA : Spelled A} {EndsA 
   denied_second a m f OutOfMemory h = tt
   denied_second a m f (Refused fault) h = (second_nowhere a m f h.0, h.1)
 
-  -- what is answered of the second part is answered of the whole
+  -- what a result says of the second part it says of the whole
   pub both_told : {X : Type 0} (a : A) (m : ℕ) → Found IsA EndsA line at a m → (r : Result (X × ℕ) (Failure Fault)) (view : X → B) → Told view (IsB a) (EndsB a) line m r → Told (λ x. make a (view x)) IsC EndsC line at r
   both_told a m f (Ok r) view h = both_found a (view r.0) m r.1 f h
   both_told a m f (Err e) view h = denied_second a m f e h
@@ -100,12 +100,12 @@ module _ {A C : Type 0} {line : List ℕ} {at : ℕ} {IsA : Spelled A} {EndsA : 
   turned_denied OutOfMemory h = tt
   turned_denied (Refused fault) h = (turned_nowhere h.0, h.1)
 
-  -- what is answered of the part is answered of the whole
+  -- what a result says of the part it says of the whole
   pub turned_told : {X : Type 0} (r : Result (X × ℕ) (Failure Fault)) (view : X → A) → Told view IsA EndsA line at r → Told (λ x. make (view x)) IsC EndsC line at r
   turned_told (Ok r) view h = turned_found (view r.0) r.1 h
   turned_told (Err e) view h = turned_denied e h
 
--- Of what stands at a place, things of one kind are of another too.
+-- If things of one kind at a place are exactly those of another kind there, a result for one kind is one for the other.
 module _ {A : Type 0} (IsA IsC : Spelled A) (Ends : A → List ℕ → Type 0) (line : List ℕ) (at : ℕ) (wide : (a : A) (s : List ℕ) → IsC (suc at) a s → IsA (suc at) a s)
     (narrow : (a : A) (s rest : List ℕ) → drop at line ≡ s ++ rest → IsA (suc at) a s → Ends a rest → IsC (suc at) a s) where
   pub narrow_told : {X : Type 0} (r : Result (X × ℕ) (Failure Fault)) (view : X → A) → Told view IsA Ends line at r → Told view IsC Ends line at r

@@ -1,4 +1,4 @@
--- The law that a text has one tree, for the whole from its parts: what stands at a place is the only thing of its kind there.
+-- The law that a text has one tree, for the whole from its parts: a thing at a place is the only one of its kind there.
 use Rattle.std.proofs.Common.{◌≡◌, ◌≤◌, ◌+◌, ◌⊎◌, ℕ, suc, List, [], ◌∷◌, ◌++◌, length, drop, Some, sym, ap, ◌∙◌, arith, subst, append_assoc, inl, inr, ◌==◌}
 use Rattle.std.proofs.lemmas.Bool.{cases_Bool, eqb-true, eq-eqb}
 use Rattle.std.proofs.lemmas.Option.{same_Some}
@@ -11,11 +11,11 @@ use Rattle.mlk_routine_arguments.proofs.Bytes.{AfterByte, drop_next, byte_before
 abbrev pub Sole : {A : Type 0} → Spelled A → (A → List ℕ → Type 0) → List ℕ → ℕ → Type 0
 Sole {A = A} Is Ends line at = (a : A) (next : ℕ) → Stands Is Ends line at a next → Only Is Ends line at a next
 
--- the same wherever it stands
+-- the same at every place
 abbrev pub Alone : {A : Type 0} → Spelled A → (A → List ℕ → Type 0) → Type 0
 Alone Is Ends = (line : List ℕ) (at : ℕ) → at ≤ length line → Sole Is Ends line at
 
--- a byte stands at a place, or does not
+-- a byte is at a place, or is not
 pub byte_or_not : (line : List ℕ) (at b : ℕ) → (byte_at line at ≡ Some b) ⊎ (byte_at line at ≡ Some b → ⊥)
 byte_or_not line at b = go (drop at line)
   where
@@ -43,14 +43,14 @@ module _ {A : Type 0} {Is : Spelled A} {Ends : A → List ℕ → Type 0} where
     pub sole_none : Nowhere Is Ends line at → Sole Is Ends line at
     sole_none none b m s = absurd (none b s.text (drop m line) s.joined s.spelled s.ended)
 
-    -- what is of a wider kind too
+    -- a thing that belongs to a wider kind too
     pub sole_within : {Wide : Spelled A} {Also : A → List ℕ → Type 0} → ((a : A) (s rest : List ℕ) → Is (suc at) a s → Ends a rest → Wide (suc at) a s × Also a rest) → Sole Wide Also line at → Sole Is Ends line at
     sole_within wide one b n s c u rest h is e =
         let first = wide b s.text (drop n line) s.spelled s.ended in
         let other = wide c u rest is e in
         one b n (record { text = s.text; within = s.within; joined = s.joined; spelled = first.0; ended = first.1 }) c u rest h other.0 other.1
 
-  -- what stands after a byte
+  -- what follows a byte
   pub alone_after : (b : ℕ) → Alone Is Ends → Alone (AfterByte b Is) Ends
   alone_after b one line at less c n whole = go whole.spelled
     where
@@ -62,11 +62,11 @@ module _ {A : Type 0} {Is : Spelled A} {Ends : A → List ℕ → Type 0} where
           one line (suc at) (omega (arith, size)) c n (record { text = r; within = whole.within; joined = next; spelled = spelled; ended = whole.ended }) d q rest
           (drop_next line at b (q ++ rest) (h ∙ ap (λ l. l ++ rest) also)) other e
 
--- how a whole of two parts comes apart
+-- how a whole splits into two parts
 abbrev pub Apart : {A B C : Type 0} → ℕ → Spelled A → (A → List ℕ → Type 0) → (A → Spelled B) → (A → B → List ℕ → Type 0) → (A → B → C) → C → List ℕ → List ℕ → Type 0
 Apart {A = A} {B = B} at IsA EndsA IsB EndsB make c u rest = (a : A) × (b : B) × (s t : List ℕ) × (u ≡ s ++ t) × (c ≡ make a b) × IsA (suc at) a s × IsB a (suc at + length s) b t × EndsA a (t ++ rest) × EndsB a b rest
 
--- a whole of two parts, each of which is the only one
+-- a whole of two parts, each of them the only one
 module _ {A B C : Type 0} {line : List ℕ} {at : ℕ} {IsA : Spelled A} {EndsA : A → List ℕ → Type 0} {IsB : A → Spelled B} {EndsB : A → B → List ℕ → Type 0} {IsC : Spelled C} {EndsC : C → List ℕ → Type 0}
     (make : A → B → C) (within : at ≤ length line) where
   pub sole_apart : ((c : C) (u rest : List ℕ) → drop at line ≡ u ++ rest → IsC (suc at) c u → EndsC c rest → Apart at IsA EndsA IsB EndsB make c u rest) → Sole IsA EndsA line at

@@ -1,4 +1,4 @@
--- Of what stands at a place there is one of its kind: the parts of arguments, and arguments.
+-- At a place there is at most one thing of its kind: the parts of arguments, and arguments.
 use Rattle.mlk_text.specs.Places.{column_at}
 use Rattle.std.proofs.Common.{◌≡◌, ◌<◌, ◌≤◌, ◌+◌, ◌-◌, ◌⊎◌, ℕ, zero, suc, Bool, true, List, [], ◌∷◌, ◌++◌, length, drop, Some, None, refl, sym, ap, ◌∙◌, arith, subst, inl, inr}
 use Rattle.std.specs.Prelude.{Option}
@@ -38,7 +38,7 @@ use Rattle.mlk_routine_arguments.proofs.Arguments.{call_anywhere, call_colon}
 use Rattle.mlk_routine_arguments.proofs.Names.{kill_names, merge_parts, new_names}
 use Rattle.mlk_routine_arguments.proofs.Locks.{plus_found, minus_found, no_sign, no_timeout, timeout_nowhere, left_out, for_none, for_plus, timed_parts, lock_parts}
 
--- what the readers of expressions know
+-- what the readers of expressions show
 pub expr_alone : (a : Allows) → Alone (IsExprWhere a) ExprEnds
 expr_alone a line at less = sole_within (λ t s rest is e. (is.0, e)) (alone_of (one-of expr_at followed.IsExpr IsExpr ExprEnds whole-exact same-expr) line at less)
 
@@ -57,7 +57,7 @@ label_alone = alone_of (one-of (λ end. label_at) Labels IsLabelText LabelEnds l
 callee_alone : Alone IsCalleeText CalledEnds
 callee_alone line at less = sole_within (λ c s rest is e. (is, e.0)) (alone_of (one-of (λ end. callee_at) (λ end. CalleeIs) IsCalleeText CalleeEnds (λ end. callee-exact) same-callee) line at less)
 
--- a byte alone, and a run of bytes
+-- a single byte, and a run of bytes
 pub byte_alone : (b : ℕ) → Alone (IsByte b) AnyEnds
 byte_alone b line at less a n s c u rest h is e =
     let one : drop at line ≡ b ∷ drop n line = s.joined ∙ ap (λ l. l ++ drop n line) s.spelled in

@@ -1,4 +1,4 @@
--- Of what stands at a place there is one of its kind: the arguments of READ, WRITE and SET, and those of FOR.
+-- At a place there is at most one thing of its kind: the arguments of READ, WRITE and SET, and those of FOR.
 use Rattle.std.proofs.Common.{◌≡◌, ◌+◌, ℕ, suc, List, [], ◌∷◌, ◌++◌, drop, Some, None, refl, sym, ap, ◌∙◌, inl, inr, append-nil}
 use Rattle.std.specs.Prelude.{Option}
 use Rattle.std.proofs.lemmas.Bool.{cases_Bool}

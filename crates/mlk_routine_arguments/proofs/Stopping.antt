@@ -18,7 +18,7 @@ use Rattle.mlk_routine_arguments.specs.Stops.{expr_stop}
 use Rattle.mlk_syntax.specs.ExprTrees.{Tree}
 use Rattle.mlk_routine_arguments.proofs.Bytes.{AfterByte, byte_there, drop_next}
 
--- A thing of which more is asked of what stands after it.
+-- A thing with a stricter condition on what follows it.
 module _ {A : Type 0} (Is : Spelled A) (Ends Less : A → List ℕ → Type 0) (line : List ℕ) (at : ℕ) (less : (k : ℕ) (a : A) (s rest : List ℕ) → Is k a s → Less a rest → Ends a rest) where
   pub narrowed_found : (a : A) (n : ℕ) → Found Is Ends line at a n → Less a (drop n line) → Found Is Less line at a n
   narrowed_found a n f h =
@@ -45,7 +45,7 @@ lacks_comma (b ∷ rest) h bad = let same : b ≡ 44 = cc bad in let no : is_com
 pub space_stops : (line : List ℕ) (at : ℕ) → byte_at line at ≡ Some 32 → is_stop (drop at line) ≡ true
 space_stops line at h = ap is_stop (byte_there line at 32 h)
 
--- after a space a bare word may stop just where what is after the space may end a command
+-- after a space, a word without arguments may stop exactly if what is after the space may end a command
 pub bare_space : (line : List ℕ) (at : ℕ) → byte_at line at ≡ Some 32 → is_command_end (drop (suc at) line) ≡ is_bare_end (drop at line)
 bare_space line at h = sym (ap is_bare_end (byte_there line at 32 h))
 
@@ -114,7 +114,7 @@ module _ {A : Type 0} (Is : Spelled A) (begin : (k : ℕ) (a : A) (s : List ℕ)
     pub list_end : (k : ℕ) (items : List A) (s rest : List ℕ) → AfterByte 32 (IsList Is) k items s → is_command_end rest ≡ true → AreEnded Ends items rest
     list_end k items s rest (t, eq, list) h = list_ended (suc k) items t rest list h
 
--- where no one space stands before arguments, there are none
+-- if arguments are not preceded by one space, there are none
 pub unspaced : {A : Type 0} (Is : Spelled A) (begin : (k : ℕ) (a : A) (s : List ℕ) → Is k a s → is_stop s ≡ false) (E : A → List ℕ → Type 0) (line : List ℕ) (at : ℕ) (e : Failure Fault)
     → (byte_at line at ≡ Some 32 → is_stop (drop (at + 1) line) ≡ true) × IsFaulty line e → Denied (AfterByte 32 Is) E line at e
 unspaced Is begin E line at OutOfMemory h = tt

@@ -25,7 +25,7 @@ use Rattle.mlk_routine_arguments.proofs.Enclosed.{IsByte, closes}
 use Rattle.mlk_routine_arguments.proofs.Words.{same_case, lower_word}
 use Rattle.mlk_routine_arguments.proofs.Variables.{variable_starts, starts_lacking, variable_shut, variable_before}
 
--- the function of a word, but for the case of its letters
+-- the function of a word, whatever the case of its letters
 case_part : (s t : List ℕ) → str_to_ascii_lowercase s ≡ str_to_ascii_lowercase t → part_of s ≡ part_of t
 unfolding part_of
 case_part s t same = rw same refl

@@ -40,7 +40,7 @@ variable_shut allows at v s is = go s (variable_starts allows at v s is)
     go [] start = cc start
     go (b ∷ s) start = (b, s, refl, λ e. starts_lacking 40 refl (b ∷ s) [] start (ap Some e))
 
--- a local or a global ends before what does not go on with it
+-- a local or a global ends before what does not continue it
 pub variable_before : (v : VariableTree) (rest : List ℕ) → goes_on rest ≡ false → VariableEnds v rest
 variable_before (Named column name) rest h = elim (cases_Bool (has_subscript name)) [
   | inl has ↦ rw has refl

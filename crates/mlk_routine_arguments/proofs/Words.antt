@@ -20,7 +20,7 @@ use Rattle.mlk_routine_arguments.specs.CommandWords.{is_word_of, is_for}
 use Rattle.mlk_routine_arguments.specs.Kinds.{kind, halts_or_hangs, Means, is_written, first_word, all_words, word_of, IsNamed, WordEnds}
 use Rattle.mlk_routine_arguments.proofs.Sequences.{stands_at}
 
--- what stands at the front of a text, as far as letters go
+-- the word at the front of a text, up to its last letter
 pub stops_not : (rest : List ℕ) → stops is_letter rest ≡ true → WordEnds word.Do rest
 stops_not [] h = refl
 stops_not (b ∷ rest) h = elim (cases_Bool (is_letter b)) [
@@ -57,7 +57,7 @@ none_named line at ls ys h of c u others g (good, is) e =
     let bad : ◌≡◌ {A = Option Word} (Some c) None = sym is ∙ ap (λ (p : List ℕ × List ℕ). word_of p.0) r ∙ of in
     cc bad
 
--- a word that is found is written so
+-- a word that is found is written in this way
 first_written : (words : List Word) (s : List ℕ) (w : Word) → first_word words s ≡ Some w → is_written w s ≡ true
 first_written [] s w h = cc h
 first_written (v ∷ words) s w h = elim (cases_Bool (is_written v s)) [
@@ -69,7 +69,7 @@ pub named_written : (s : List ℕ) (w : Word) → word_of s ≡ Some w → is_wr
 unfolding word_of
 named_written s w h = first_written all_words s w h
 
--- what a command's own word is, it is written as
+-- a command's own word is written in this way
 kind_written : (a : ActionTree) (s : List ℕ) → is_written (kind a) s ≡ true → is_word_of a s ≡ true
 unfolding is_written is_word_of
 kind_written (Do calls) s h = h
@@ -118,7 +118,7 @@ pub means_written : (w : Word) (a : ActionTree) (s : List ℕ) → Means w a →
 means_written w a s (inl same) h = kind_written a s (subst (λ x. is_written x s ≡ true) (sym same) (named_written s w h))
 means_written w a s (inr (same, m)) h = h_written a s m (short_h s (subst (λ x. is_written x s ≡ true) same (named_written s w h)))
 
--- The other way. A text is one of two texts but for the case of its letters.
+-- The other direction. A text is one of two texts, apart from the case of its letters.
 pub same_case : (s t : List ℕ) → str_eq_ignore_ascii_case s t ≡ true → str_to_ascii_lowercase s ≡ str_to_ascii_lowercase t
 same_case s t e = (bytes_eq-Decides (str_to_ascii_lowercase s) (str_to_ascii_lowercase t)).0 e
 
@@ -133,7 +133,7 @@ pub lower_word : (s : List ℕ) → list_all is_letter (str_to_ascii_lowercase s
 lower_word [] = refl
 lower_word (b ∷ s) = rw (lower_letter b, lower_word s) refl
 
--- what is found of a text that is one of these is found of it
+-- what is found for both of two texts is found for a text that is one of them
 either_named : (x y s : List ℕ) (w : Word) → is_either x y s ≡ true → (IsWord x × (word_of x ≡ Some w)) → (IsWord y × (word_of y ≡ Some w)) → IsWord s × (word_of s ≡ Some w)
 either_named x y s w h one two = elim (or_cases (str_eq_ignore_ascii_case s x) (str_eq_ignore_ascii_case s y) h) [
   | inl e ↦ as_named x s w (same_case s x e) one
@@ -166,7 +166,7 @@ written_means (Read reads) s h = let r = either_named (codes "R") (codes "READ")
 written_means (Set sets) s h = let r = either_named (codes "S") (codes "SET") s word.Set h (refl, refl) (refl, refl) in (word.Set, r.0, r.1, inl refl)
 written_means (Write writes) s h = let r = either_named (codes "W") (codes "WRITE") s word.Write h (refl, refl) (refl, refl) in (word.Write, r.0, r.1, inl refl)
 
--- FOR's word is a word, and that of nothing else
+-- FOR's word is a word, and that of no other command
 pub either_for : (s : List ℕ) → is_for s ≡ true → IsWord s × (word_of s ≡ None)
 unfolding is_for word_of is_written
 either_for s h = elim (or_cases (str_eq_ignore_ascii_case s (codes "F")) (str_eq_ignore_ascii_case s (codes "FOR")) h) [

@@ -1,4 +1,4 @@
--- Where an argument may stop, none begins. For private clauses alone. This project's own.
+-- No argument begins with what may end one. For private clauses only. This project's own.
 use Rattle.std.specs.Prelude.{ℕ, ◌≡◌, ◌<◌, ◌+◌, true, false, ◌==◌, ◌++◌, length, List, [], ◌∷◌, Option, Some, None}
 use Rattle.std.specs.List.{list_all}
 use Rattle.std.proofs.Common.{arith, refl, ap, ◌∙◌, inl, inr}
@@ -34,7 +34,7 @@ opens_apart (b ∷ s) h = elim (cases_Bool (b == 46)) [
   | inr e ↦ let rest = rw e at h in grind (arith, nat_tests)
 ]
 
--- what begins with a text begins as it does
+-- a text that begins with another begins like it
 pub front_begins : (front rest : List ℕ) → is_stop front ≡ false → is_stop (front ++ rest) ≡ false
 front_begins [] rest h = cc h
 front_begins (b ∷ front) rest h = h

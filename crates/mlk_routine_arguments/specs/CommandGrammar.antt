@@ -1,5 +1,5 @@
--- Commands and their arguments, from trees to texts. `Is.. at t s` says that t is written as the text s, where s begins
--- in the column `at`. What follows each other is joined by `++`; a list has commas between its items.
+-- Commands and their arguments, from trees to texts. `Is.. at t s` says that the text s spells the tree t, where s begins in the
+-- column `at`. Consecutive parts are joined by `++`; the items of a list are separated by commas.
 use Rattle.mlk_text.specs.Places.{column_at}
 use Rattle.std.specs.Prelude.{ℕ, suc, ◌≡◌, ◌<◌, ◌≤◌, ◌+◌, ◌⊎◌, ◌==◌, ◌&&◌, ◌||◌, is_some, Bool, true, false, List, []}
 use Rattle.std.specs.Prelude.{◌∷◌, ◌++◌, length, Option, Some, None, codes}
@@ -26,19 +26,19 @@ use Rattle.mlk_syntax.specs.Trees.{Write, CommandTree, Does, ParameterTree, Once
 use Rattle.mlk_syntax.specs.Trees.{CommandTrees, finished, then_command, then_for}
 use Rattle.mlk_routine_arguments.specs.CommandWords.{is_word_of, is_for, may_have_condition, has_arguments, least_after}
 
--- a thing in two parts, the second of which begins where the first ends
+-- two parts, the second of which begins where the first ends
 abbrev pub Both : (ℕ → List ℕ → Type 0) → (ℕ → List ℕ → Type 0) → ℕ → List ℕ → Type 0
 Both First Second at s = (front rest : List ℕ) × (s ≡ front ++ rest) × First at front × Second (at + length front) rest
 
--- a thing after this byte
+-- a part after a given byte
 abbrev pub After : ℕ → (ℕ → List ℕ → Type 0) → ℕ → List ℕ → Type 0
 After b Next at s = (rest : List ℕ) × (s ≡ b ∷ rest) × Next (suc at) rest
 
--- an expression in which everything may stand
+-- an expression in which everything is allowed
 abbrev pub IsValue : ℕ → Tree → List ℕ → Type 0
 IsValue = IsExprWhere Everything
 
--- nothing, or an expression after this byte
+-- nothing, or an expression after a given byte
 abbrev pub IsAfter : ℕ → Allows → ℕ → Option Tree → List ℕ → Type 0
 IsAfter b allows at None s = s ≡ []
 IsAfter b allows at (Some t) s = After b (λ n r. IsExprWhere allows n t r) at s
@@ -47,12 +47,12 @@ IsAfter b allows at (Some t) s = After b (λ n r. IsExprWhere allows n t r) at s
 abbrev pub IsCondition : ℕ → Option Tree → List ℕ → Type 0
 IsCondition = IsAfter 58 Everything
 
--- A timeout, or none. Standard: timeout. No call stands in any, since it is not certain what is evaluated first; LOCK
--- without a sign asks more.
+-- A timeout, or none. Standard: timeout. It contains no calls, since it is not certain what is evaluated first; LOCK without a
+-- sign is more restrictive.
 abbrev pub IsTimeout : Allows → ℕ → Option Tree → List ℕ → Type 0
 IsTimeout = IsAfter 58
 
--- items in parentheses, with commas between them
+-- items in parentheses, separated by commas
 abbrev pub AreEnclosed : {A : Type 0} → Spelled A → ℕ → List A → List ℕ → Type 0
 AreEnclosed Item at items s = (inner : List ℕ) × IsEnclosed inner s × IsList Item (suc at) items inner
 
@@ -61,7 +61,7 @@ abbrev pub IsOneOrEnclosed : {A : Type 0} → Spelled A → ℕ → List A → L
 IsOneOrEnclosed {A = A} Item at items s = ((item : A) × (items ≡ item ∷ []) × Item at item s)
     ⊎ AreEnclosed Item at items s
 
--- a local or a global; what may stand there is asked of its subscripts alone
+-- a local or a global; what is allowed concerns only its subscripts
 abbrev pub IsVariable : Allows → ℕ → VariableTree → List ℕ → Type 0
 IsVariable allows at (Named column name) s = (column ≡ column_at at) × IsReferenceWhere allows at name s
 
@@ -75,8 +75,8 @@ is_local (Named column name) = is_local_name name
 abbrev pub IsLocal : ℕ → VariableTree → List ℕ → Type 0
 IsLocal at v s = IsVariable Everything at v s × (is_local v ≡ true)
 
--- What DO and JOB call: a label, a routine, or both, and perhaps actuals. Standard: DO, JOB, entryref, labelref.
--- Left out: an offset after a label, an environment, external routines.
+-- The callee and actuals of DO and JOB: a label, a routine, or both, and optional actuals. Standard: DO, JOB, entryref,
+-- labelref. Not read: an offset after a label, an environment, external routines.
 abbrev pub IsGiven : Allows → Passing → ℕ → Option (List ActualTree) → List ℕ → Type 0
 IsGiven allows passing at None s = s ≡ []
 IsGiven allows passing at (Some given) s = IsActualListWhere allows passing at given s
@@ -85,7 +85,7 @@ abbrev pub IsCall : Allows → Passing → ℕ → CallTree → List ℕ → Typ
 IsCall allows passing at (Called column callee actuals) s = (column ≡ column_at at)
     × Both (λ n r. IsCalleeText n callee r) (λ n r. IsGiven allows passing n actuals r) at s
 
--- In actuals before a postconditional stand no globals and no calls: it is not certain what is evaluated first.
+-- Actuals before a postconditional contain no globals and no calls: it is not certain what is evaluated first.
 abbrev pub before_condition : Option Tree → Allows
 before_condition None = Everything
 before_condition (Some t) = NoTouches
@@ -94,11 +94,11 @@ abbrev pub IsDo : ℕ → DoTree → List ℕ → Type 0
 IsDo at (DoCall call condition) s =
     Both (λ n r. IsCall (before_condition condition) ByReference n call r) (λ n r. IsCondition n condition r) at s
 
--- JOB passes values alone. Left out: its process parameters and its timeout.
+-- JOB passes only by value. Not read: its process parameters and its timeout.
 abbrev pub IsJob : ℕ → CallTree → List ℕ → Type 0
 IsJob = IsCall Everything ByValue
 
--- names in parentheses: all locals but these. Standard: exclusive KILL and NEW.
+-- names in parentheses: all locals except these. Standard: exclusive KILL and NEW.
 abbrev pub IsAllBut : ℕ → List (List ℕ) → List ℕ → Type 0
 IsAllBut = AreEnclosed IsNameText
 
@@ -107,13 +107,13 @@ abbrev pub IsKill : ℕ → KillTree → List ℕ → Type 0
 IsKill at (KillOne v) s = IsVariable Everything at v s
 IsKill at (KillAllBut names) s = IsAllBut at names s
 
--- Standard: NEW. Left out: NEW of a special variable.
+-- Standard: NEW. Not read: NEW of a special variable.
 abbrev pub IsNew : ℕ → NewTree → List ℕ → Type 0
 IsNew at (NewOne column name) s = (column ≡ column_at at) × IsNameText at name s
 IsNew at (NewAllBut names) s = IsAllBut at names s
 
--- Standard: LOCK. Without a sign what is held is released too, so neither globals nor calls stand in the subscripts of
--- its names or in its timeout, since it is not certain what is evaluated first. The timeout of `-` is left out.
+-- Standard: LOCK. Without a sign the held locks are released too, so the subscripts of its names and its timeout contain
+-- neither globals nor calls, since it is not certain what is evaluated first. Not read: the timeout of `-`.
 abbrev pub sign_text : Sign → List ℕ
 sign_text sign.None = []
 sign_text sign.Plus = codes "+"
@@ -133,12 +133,12 @@ abbrev pub IsLock : ℕ → LockTree → List ℕ → Type 0
 IsLock at (LockNames sign names timeout) s = Both (λ n r. r ≡ sign_text sign)
     (Both (λ n r. IsOneOrEnclosed (IsVariable (in_names sign)) n names r) (λ n r. IsLockTimeout sign n timeout r)) at s
 
--- Standard: MERGE. No calls stand in the subscripts of its variables, since it is not certain what is evaluated first.
+-- Standard: MERGE. The subscripts of its variables contain no calls, since it is not certain what is evaluated first.
 abbrev pub IsMerge : ℕ → MergeTree → List ℕ → Type 0
 IsMerge at (MergeInto target source) s =
     Both (λ n r. IsVariable NoCalls n target r) (After 61 (λ n r. IsVariable NoCalls n source r)) at s
 
--- A format: `!` and `#`, then perhaps a column after `?`; not empty. Standard: READ, WRITE, format.
+-- A format: `!` and `#`, then an optional column after `?`; not empty. Standard: READ, WRITE, format.
 abbrev pub is_mark : ℕ → Bool
 is_mark b = (b == 33) || (b == 35)
 
@@ -146,7 +146,7 @@ abbrev pub IsFormat : ℕ → Option Tree → List ℕ → Type 0
 IsFormat at None s = (list_all is_mark s ≡ true) × (0 < length s)
 IsFormat at (Some t) s = Both (λ n r. list_all is_mark r ≡ true) (After 63 (λ n r. IsValue n t r)) at s
 
--- Standard: READ. Left out: READ into a global.
+-- Standard: READ. Not read: READ into a global.
 abbrev pub IsRead : ℕ → ReadTree → List ℕ → Type 0
 IsRead at (ReadText prompt) s = IsStringLiteral prompt s
 IsRead at (ReadFormat tab) s = IsFormat at tab s
@@ -155,8 +155,8 @@ IsRead at (ReadLine v most timeout) s = Both (λ n r. IsLocal n v r)
 IsRead at (ReadCharacter v timeout) s =
     After 42 (Both (λ n r. IsLocal n v r) (λ n r. IsTimeout NoCalls n timeout r)) at s
 
--- Standard: SET, setleft. In a target that is part of a value no calls stand in the subscripts of its variable or in its
--- arguments, since it is not certain what is evaluated first. Left out: SET of a special variable.
+-- Standard: SET, setleft. In a target that is part of a value, the subscripts of its variable and its arguments contain no
+-- calls, since it is not certain what is evaluated first. Not read: SET of a special variable.
 abbrev pub is_part_word : Part → List ℕ → Bool
 is_part_word part.Piece = is_either (codes "P") (codes "PIECE")
 is_part_word part.Extract = is_either (codes "E") (codes "EXTRACT")
@@ -178,8 +178,8 @@ IsWrite at (WriteValue t) s = IsValue at t s
 IsWrite at (WriteCharacter t) s = After 42 (λ n r. IsValue n t r) at s
 IsWrite at (WriteFormat tab) s = IsFormat at tab s
 
--- FOR's parameters: a value; a start and a step; these and a limit. Standard: FOR, forparameter. Left out: a variable
--- with subscripts.
+-- FOR's parameters: a value; a start and a step; a start, a step and a limit. Standard: FOR, forparameter. Not read: a
+-- variable with subscripts.
 abbrev pub IsParameter : ℕ → ParameterTree → List ℕ → Type 0
 IsParameter at (Once value) s = IsValue at value s
 IsParameter at (Endless start step) s = Both (λ n r. IsValue n start r) (After 58 (λ n r. IsValue n step r)) at s
@@ -190,7 +190,7 @@ abbrev pub IsControl : ℕ → ControlTree → List ℕ → Type 0
 IsControl at (Runs column variable parameters) s = (column ≡ column_at at)
     × Both (λ n r. IsNameText n variable r) (After 61 (λ n r. IsList IsParameter n parameters r)) at s
 
--- Arguments: one space and a list; some words may stand without. Standard: commands, argument.
+-- Arguments: one space and a list; some words may have none. Standard: commands, argument.
 abbrev pub AreSome : {A : Type 0} → Spelled A → ℕ → List A → List ℕ → Type 0
 AreSome Item at items s = After 32 (λ n r. IsList Item n items r) at s
 
@@ -198,8 +198,8 @@ abbrev pub ArePerhaps : {A : Type 0} → Spelled A → ℕ → List A → List �
 ArePerhaps Item at [] s = s ≡ []
 ArePerhaps Item at (a ∷ items) s = AreSome Item at (a ∷ items) s
 
--- QUIT has a value only where it ends a call: inside no FOR, and in no block. Standard: QUIT; that the others are left
--- out is this project's own choice.
+-- QUIT has a value only if it ends a call: inside no FOR, and in no block. Standard: QUIT; that others are not read is this
+-- project's own choice.
 abbrev pub IsQuit : Bool → ℕ → Option Tree → List ℕ → Type 0
 IsQuit returns at None s = s ≡ []
 IsQuit returns at (Some t) s = (returns ≡ true) × After 32 (λ n r. IsValue n t r) at s
@@ -220,7 +220,7 @@ AreArgumentsOf returns at (Read reads) s = AreSome IsRead at reads s
 AreArgumentsOf returns at (Set sets) s = AreSome IsSet at sets s
 AreArgumentsOf returns at (Write writes) s = AreSome IsWrite at writes s
 
--- A command but FOR: its word, perhaps a postconditional, its arguments. Standard: commands.
+-- A command other than FOR: its word, an optional postconditional, its arguments. Standard: commands.
 abbrev pub IsCommand : Bool → ℕ → CommandTree → List ℕ → Type 0
 IsCommand returns at (Does column condition action) s = (column ≡ column_at at)
     × ((condition ≡ None) ⊎ (may_have_condition action ≡ true))
@@ -230,7 +230,7 @@ IsCommand returns at (Does column condition action) s = (column ≡ column_at at
 abbrev pub least_of : CommandTree → ℕ
 least_of (Does column condition action) = least_after (has_arguments action)
 
--- FOR before what it holds: its word, and perhaps its variable and parameters
+-- FOR without the rest of its line: its word, and optionally its variable and parameters
 abbrev pub IsForHead : ℕ → ℕ → Option ControlTree → List ℕ → Type 0
 IsForHead column at None s = (column ≡ column_at at) × (is_for s ≡ true)
 IsForHead column at (Some control) s = (column ≡ column_at at)
@@ -239,13 +239,13 @@ IsForHead column at (Some control) s = (column ≡ column_at at)
 abbrev pub is_space : ℕ → Bool
 is_space b = b == 32
 
--- The spaces after a command: so many at least, unless no command follows. Standard: commands, cs.
+-- The spaces after a command: at least `least`, unless no command follows. Standard: commands, cs.
 abbrev pub IsGap : ℕ → List ℕ → List ℕ → Type 0
 IsGap least gap following = (list_all is_space gap ≡ true) × ((following ≡ []) ⊎ (least ≤ length gap))
 
--- Commands with the spaces after each. The index of a FOR counts those of its line from 1: it is one more than the number
--- of FORs that it stands in, which hold all that follows them. It is 255 at most, which is this project's own choice.
--- Standard: line body, FOR.
+-- Commands with the spaces after each. The index of a FOR counts those of its line from 1: it is one more than the number of FORs
+-- that contain it; a FOR contains everything that follows it. It is at most 255, which is this project's own choice. Standard:
+-- line body, FOR.
 abbrev pub AreCommands : ℕ → ℕ → ℕ → CommandTrees → List ℕ → Type 0
 AreCommands level loops at finished s = s ≡ []
 AreCommands level loops at (then_command first rest) s = (text gap following : List ℕ)

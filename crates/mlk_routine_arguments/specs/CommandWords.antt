@@ -1,6 +1,6 @@
--- The words of commands and what may stand after them. Standard: commands; which of them are read is this project's own
--- choice. Left out by name: BREAK, CLOSE, GOTO, OPEN, USE, VIEW, XECUTE, TSTART, TCOMMIT, TROLLBACK, TRESTART, the
--- commands of events, and all words that begin with Z.
+-- The words of commands and what may follow them. Standard: commands; which of them are read is this project's own choice.
+-- Refused by name: BREAK, CLOSE, GOTO, OPEN, USE, VIEW, XECUTE, TSTART, TCOMMIT, TROLLBACK, TRESTART, the commands of events, and
+-- all words that begin with Z.
 use Rattle.std.specs.Prelude.{ℕ, Bool, true, false, List, [], ◌∷◌, None, codes}
 use Rattle.mlk_expr_tokens.specs.Words.{is_either}
 use Rattle.mlk_syntax.specs.Trees.{ActionTree, Do, Else, Halt, Hang, If, Job, Kill, Lock, Merge, New, Quit, Read, Set}
@@ -37,7 +37,7 @@ abbrev pub has_any : {A : Type 0} → List A → Bool
 has_any [] = false
 has_any (a ∷ more) = true
 
--- whether arguments stand after the word
+-- whether there are arguments after the word
 abbrev pub has_arguments : ActionTree → Bool
 has_arguments (Do calls) = has_any calls
 has_arguments Else = false
@@ -49,13 +49,12 @@ has_arguments (New news) = has_any news
 has_arguments (Quit None) = false
 has_arguments action = true
 
--- How many spaces stand at least before the next command: one after arguments, two where there are none. Standard:
--- commands, cs.
+-- The minimum number of spaces before the next command: one after arguments, two without. Standard: commands, cs.
 abbrev pub least_after : Bool → ℕ
 least_after true = 1
 least_after false = 2
 
--- Whether a DO without arguments stands on the line, in its FORs too: it runs the block.
+-- Whether the line has a DO without arguments, also inside its FORs: it runs the block.
 abbrev pub reaches_block : CommandTrees → Bool
 reaches_block finished = false
 reaches_block (then_command (Does column condition (Do [])) rest) = true

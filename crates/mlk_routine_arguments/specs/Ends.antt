@@ -1,4 +1,4 @@
--- What may stand after the parts of arguments. For private clauses alone. This project's own.
+-- What may follow the parts of arguments. For private clauses only. This project's own.
 use Rattle.std.specs.Prelude.{ℕ, ◌≡◌, ◌≢◌, ◌⊎◌, ◌==◌, ◌||◌, Bool, true, false, List, [], ◌∷◌, Option}
 use Rattle.std.specs.Prelude.{Some, None, if◌then◌else◌, ◌++◌}
 use Rattle.std.specs.List.{list_all}
@@ -20,16 +20,16 @@ use Rattle.mlk_syntax.specs.declared.command.Part.{Part}
 use Rattle.mlk_syntax.specs.declared.command.Part.TheVariants as part
 use Rattle.mlk_routine_arguments.specs.CommandGrammar.{sign_text, is_mark, is_part_word}
 
--- What an argument may stand before: the line's end, a space, a comma, a closing parenthesis, a comment's semicolon.
+-- What may follow an argument: the line's end, a space, a comma, a closing parenthesis, a comment's semicolon.
 abbrev pub is_stop : List ℕ → Bool
 is_stop [] = true
 is_stop (b ∷ rest) = (b == 32) || (b == 44) || (b == 41) || (b == 59)
 
--- no such byte
+-- the given byte does not follow
 abbrev pub Lacks : ℕ → List ℕ → Type 0
 Lacks b rest = first_of rest ≢ Some b
 
--- after an expression that may be missing: what ends one, or not the byte before it
+-- after an optional expression: what ends one, or anything but the byte that precedes it
 abbrev pub AfterEnds : ℕ → Option Tree → List ℕ → Type 0
 AfterEnds b None rest = Lacks b rest
 AfterEnds b (Some t) rest = ExprEnds t rest
@@ -37,7 +37,7 @@ AfterEnds b (Some t) rest = ExprEnds t rest
 abbrev pub VariableEnds : VariableTree → List ℕ → Type 0
 VariableEnds (Named column name) rest = ReferenceEnds name rest
 
--- after more items of a list: no comma, and what may stand after the last item
+-- after more items of a list: no comma, and what may follow the last item
 abbrev pub MoreEnds : {A : Type 0} → (A → List ℕ → Type 0) → A → List A → List ℕ → Type 0
 MoreEnds Ends last [] rest = Lacks 44 rest × Ends last rest
 MoreEnds Ends last (a ∷ more) rest = MoreEnds Ends a more rest
@@ -47,16 +47,16 @@ abbrev pub AreEnded : {A : Type 0} → (A → List ℕ → Type 0) → List A �
 AreEnded Ends [] rest = ⊥
 AreEnded Ends (a ∷ items) rest = MoreEnds Ends a items rest
 
--- after an actual list anything; where there is none, no parenthesis
+-- after an actual list anything; without one, no parenthesis
 abbrev pub GivenEnds : Option (List ActualTree) → List ℕ → Type 0
 GivenEnds None rest = Lacks 40 rest
 GivenEnds (Some given) rest = Unit {0}
 
--- after what is called: no plus either, since offsets are left out
+-- after a callee: no plus either, since offsets are not read
 abbrev pub CalledEnds : Callee → List ℕ → Type 0
 CalledEnds callee rest = CalleeEnds callee rest × Lacks 43 rest
 
--- after a call: anything after its actuals; without them what may stand after what is called, but no parenthesis
+-- after a call: anything after its actuals; without them what may follow a callee, but no parenthesis
 abbrev pub CallEnds : CallTree → List ℕ → Type 0
 CallEnds (Called column callee None) rest = CalledEnds callee rest × Lacks 40 rest
 CallEnds (Called column callee (Some given)) rest = Unit {0}
@@ -81,7 +81,7 @@ DoEnds (DoCall call (Some t)) rest = ExprEnds t rest
 abbrev pub JobEnds : CallTree → List ℕ → Type 0
 JobEnds call rest = CallEnds call rest × Lacks 58 rest
 
--- after a step, and after a parameter of FOR: no further colon where one more part may stand
+-- after a step, and after a parameter of FOR: no further colon if one more part may follow
 abbrev pub StepEnds : Tree → Option Tree → List ℕ → Type 0
 StepEnds step None rest = ExprEnds step rest × Lacks 58 rest
 StepEnds step (Some limit) rest = ExprEnds limit rest
@@ -98,11 +98,11 @@ abbrev pub NewEnds : NewTree → List ℕ → Type 0
 NewEnds (NewOne column name) rest = LabelEnds name rest
 NewEnds (NewAllBut names) rest = Unit {0}
 
--- a text begins with some byte that is no parenthesis
+-- a text begins with a byte that is not a parenthesis
 abbrev pub Begins : List ℕ → Type 0
 Begins s = (b : ℕ) × (t : List ℕ) × (s ≡ b ∷ t) × (b ≢ 40)
 
--- after one item what may stand there; after several in parentheses, where one begins the text, anything
+-- after one item what may follow it; after several in parentheses, with which the text begins, anything
 abbrev pub SingleEnds : {A : Type 0} → (A → List ℕ → Type 0) → List A → List ℕ → Type 0
 SingleEnds Ends [] rest = ⊥
 SingleEnds Ends (a ∷ []) rest = Ends a rest
@@ -111,7 +111,7 @@ SingleEnds Ends (a ∷ b ∷ more) rest = ⊥
 abbrev pub OneEnds : {A : Type 0} → (A → List ℕ → Type 0) → Option ℕ → List A → List ℕ → Type 0
 OneEnds Ends first items rest = (first ≡ Some 40) ⊎ SingleEnds Ends items rest
 
--- a sign of LOCK, and what may stand after it: where there is none, none
+-- a sign of LOCK, and what may follow it: no sign if there is none
 abbrev pub IsSign : ℕ → Sign → List ℕ → Type 0
 IsSign at sign s = s ≡ sign_text sign
 
@@ -120,7 +120,7 @@ SignEnds sign.None rest = Lacks 43 rest × Lacks 45 rest
 SignEnds sign.Plus rest = Unit {0}
 SignEnds sign.Minus rest = Unit {0}
 
--- After a timeout what ends it. Without one a stop alone: one name and one name in parentheses are the same tree.
+-- After a timeout what ends it. Without one, a stop only: one name and one name in parentheses are the same tree.
 abbrev pub TimeoutEnds : Option Tree → List ℕ → Type 0
 TimeoutEnds None rest = is_stop rest ≡ true
 TimeoutEnds (Some t) rest = ExprEnds t rest
@@ -128,7 +128,7 @@ TimeoutEnds (Some t) rest = ExprEnds t rest
 abbrev pub LockEnds : LockTree → List ℕ → Type 0
 LockEnds (LockNames sign names timeout) rest = TimeoutEnds timeout rest
 
--- a run of bytes of one kind, and what may stand after it: none of them
+-- a run of bytes of one class, and what may follow it: none of them
 abbrev pub IsRun : (ℕ → Bool) → ℕ → Unit {0} → List ℕ → Type 0
 IsRun kind at u s = list_all kind s ≡ true
 
@@ -139,7 +139,7 @@ starts kind (b ∷ rest) = kind b
 abbrev pub RunEnds : (ℕ → Bool) → Unit {0} → List ℕ → Type 0
 RunEnds kind u rest = starts kind rest ≡ false
 
--- what may stand after the commands of a line: its end, or a comment
+-- what may follow the commands of a line: its end, or a comment
 abbrev pub is_commands_end : List ℕ → Bool
 is_commands_end [] = true
 is_commands_end (b ∷ rest) = b == 59
@@ -147,12 +147,12 @@ is_commands_end (b ∷ rest) = b == 59
 abbrev pub CommandsEnd : CommandTrees → List ℕ → Type 0
 CommandsEnd commands rest = is_commands_end rest ≡ true
 
--- after a command's last argument: these, or a space
+-- after a command's last argument: the same, or a space
 abbrev pub is_command_end : List ℕ → Bool
 is_command_end [] = true
 is_command_end (b ∷ rest) = (b == 32) || (b == 59)
 
--- after a command without arguments: a single space stands only before the end of the commands
+-- after a command without arguments: a single space is allowed only before the end of the commands
 abbrev pub is_bare_end : List ℕ → Bool
 is_bare_end [] = true
 is_bare_end (b ∷ rest) = if b == 32 then is_command_end rest else b == 59
@@ -165,14 +165,14 @@ StopEnds false rest = is_bare_end rest ≡ true
 abbrev pub CommandEnd : CommandTree → List ℕ → Type 0
 CommandEnd (Does column condition action) rest = StopEnds (has_arguments action) rest
 
--- a text in quotes, and what may stand after it: no quote
+-- a quoted text, and what may follow it: no quote
 abbrev pub IsPrompt : ℕ → List ℕ → List ℕ → Type 0
 IsPrompt at prompt s = IsStringLiteral prompt s
 
 abbrev pub PromptEnds : List ℕ → List ℕ → Type 0
 PromptEnds prompt rest = Lacks 34 rest
 
--- what a format begins with, and what may stand after one: without a column neither
+-- what a format begins with, and what may follow one: without a column neither
 abbrev pub starts_format : List ℕ → Bool
 starts_format [] = false
 starts_format (b ∷ rest) = is_mark b || (b == 63)
@@ -186,7 +186,7 @@ WriteEnds (WriteValue t) rest = ExprEnds t rest
 WriteEnds (WriteCharacter t) rest = ExprEnds t rest
 WriteEnds (WriteFormat tab) rest = FormatEnds tab rest
 
--- after a local with a timeout, and with a length too: without a part not the byte before it
+-- after a local with an optional timeout, and with an optional length: if a part is missing, not the byte that precedes it
 abbrev pub TimedEnds : (List ℕ → Type 0) → Option Tree → List ℕ → Type 0
 TimedEnds Before None rest = Before rest × Lacks 58 rest
 TimedEnds Before (Some t) rest = ExprEnds t rest
@@ -201,7 +201,7 @@ ReadEnds (ReadFormat tab) rest = FormatEnds tab rest
 ReadEnds (ReadLine v most timeout) rest = TimedEnds (MostEnds v most) timeout rest
 ReadEnds (ReadCharacter v timeout) rest = TimedEnds (VariableEnds v) timeout rest
 
--- after expressions of which each follows a comma: no further comma, and what ends the last
+-- after expressions each of which follows a comma: no further comma, and what ends the last
 abbrev pub NextEnds : List Tree → List ℕ → Type 0
 NextEnds [] rest = Lacks 44 rest
 NextEnds (t ∷ more) rest = MoreEnds ExprEnds t more rest

@@ -1,4 +1,4 @@
--- What is told of a fault in a line. This project's own.
+-- The faults of a line. This project's own.
 use Rattle.std.specs.Prelude.{ℕ, suc, ◌≡◌, ◌≤◌, ◌==◌, ◌&&◌, ◌||◌, nat_le, is_some, Bool, true, Option, List, [], length}
 use Rattle.mlk_text.specs.Codes.{number_of}
 use Rattle.mlk_text.specs.Places.{column_at}
@@ -8,7 +8,7 @@ use Rattle.mlk_text.specs.declared.failure.Failure.TheVariants.{OutOfMemory, Ref
 use Rattle.mlk_text.specs.declared.fault.Fault.{Fault}
 use Rattle.mlk_text.specs.declared.fault.LeftOut.{LeftOut}
 
--- this code, with what is left out, in the column of this byte of the first line of a routine without a name
+-- the given code and part that is not read, in the column of the given byte of the first line of a routine without a name
 pub record IsTold (code : Code) (left_out : Option LeftOut) (at : ℕ) (fault : Fault) : Type 0 where
   pub coded : fault.code ≡ code
   pub worded : fault.left_out ≡ left_out
@@ -16,20 +16,20 @@ pub record IsTold (code : Code) (left_out : Option LeftOut) (at : ℕ) (fault : 
   pub on_line : fault.place.line ≡ 1
   pub placed : fault.place.column ≡ column_at (suc at)
 
--- a refusal, and no want of memory
+-- a refusal, not out of memory
 abbrev pub Tells : Code → Option LeftOut → ℕ → Failure Fault → Type 0
 Tells code left_out at OutOfMemory = ⊥
 Tells code left_out at (Refused fault) = IsTold code left_out at fault
 
--- The numbers of what may be told of a line: those of expressions, and those of lines and commands.
+-- The numbers of the codes of a line: those of expressions, and those of lines and commands.
 abbrev pub may_tell : ℕ → Bool
 may_tell n = (nat_le 101 n && nat_le n 104) || (nat_le 201 n && nat_le n 210)
 
--- The numbers that a word goes with: it says what is left out.
+-- The numbers of codes with a word, which names the part that is not read.
 abbrev pub has_word : ℕ → Bool
 has_word n = (n == 102) || (n == 206)
 
--- A fault of this line: one of these codes, with a word just where one goes with it, in a column up to the one after the
+-- A fault of this line: one of these codes, with a word exactly if the code has one, in a column up to the one after the
 -- line's end.
 pub record IsLineFault (line : List ℕ) (fault : Fault) : Type 0 where
   pub coded : may_tell (number_of fault.code) ≡ true

@@ -1,4 +1,4 @@
--- What the readers of commands distinguish. For private clauses alone. This project's own.
+-- Distinctions that the readers of commands make. For private clauses only. This project's own.
 use Rattle.std.specs.Prelude.{ℕ, ◌≡◌, ◌⊎◌, Bool, true, false, List, [], ◌∷◌, Option, Some, None, codes}
 use Rattle.std.specs.Prelude.{if◌then◌else◌, ◌+◌, drop, Result, Ok, Err}
 use Rattle.mlk_text.specs.declared.failure.Failure.{Failure}
@@ -17,7 +17,7 @@ use Rattle.mlk_routine_arguments.specs.Told.{byte_at}
 use Rattle.mlk_routine_arguments.specs.Faults.{IsFaulty}
 use Rattle.mlk_routine_arguments.specs.Ends.{starts, is_stop, is_bare_end, AfterEnds, StopEnds}
 
--- the word of what a command does
+-- the word of a command, by its action
 abbrev pub kind : ActionTree → Word
 kind (Do calls) = word.Do
 kind Else = word.Else
@@ -43,7 +43,7 @@ halts_or_hangs action = false
 abbrev pub Means : Word → ActionTree → Type 0
 Means w a = (kind a ≡ w) ⊎ ((w ≡ word.HaltOrHang) × (halts_or_hangs a ≡ true))
 
--- as which texts a word is written
+-- the texts of a word
 unfoldable pub is_written : Word → List ℕ → Bool
 is_written word.Do = is_either (codes "D") (codes "DO")
 is_written word.Else = is_either (codes "E") (codes "ELSE")
@@ -61,7 +61,7 @@ is_written word.Read = is_either (codes "R") (codes "READ")
 is_written word.Set = is_either (codes "S") (codes "SET")
 is_written word.Write = is_either (codes "W") (codes "WRITE")
 
--- the first of these that a text is
+-- the first of the words that the text spells
 abbrev pub first_word : List Word → List ℕ → Option Word
 first_word [] s = None
 first_word (w ∷ words) s = if is_written w s then Some w else first_word words s
@@ -80,13 +80,13 @@ IsNamed at w s = IsWord s × (word_of s ≡ Some w)
 abbrev pub WordEnds : Word → List ℕ → Type 0
 WordEnds w rest = starts is_letter rest ≡ false
 
--- whether a postconditional may stand after the word
+-- whether a postconditional may follow the word
 abbrev pub has_condition : Word → Bool
 has_condition word.If = false
 has_condition word.Else = false
 has_condition w = true
 
--- a postconditional, where the word may have one
+-- a postconditional, if the word may have one
 abbrev pub IsConditionOf : Word → ℕ → Option Tree → List ℕ → Type 0
 IsConditionOf w at condition s = ((condition ≡ None) ⊎ (has_condition w ≡ true)) × IsCondition at condition s
 
@@ -100,7 +100,7 @@ IsActionOf w returns at action s = Means w action × AreArgumentsOf returns at a
 abbrev pub ActionEnds : ActionTree → List ℕ → Type 0
 ActionEnds action rest = StopEnds (has_arguments action) rest
 
--- no arguments, where a command may end without
+-- no arguments, if a command may end without them
 abbrev pub IsNothing : List ℕ → ℕ → Result ℕ (Failure Fault) → Type 0
 IsNothing line at (Ok next) = (next ≡ at) × (is_bare_end (drop at line) ≡ true)
 IsNothing line at (Err e) = (is_bare_end (drop at line) ≡ false) × IsFaulty line e
@@ -110,7 +110,7 @@ abbrev pub IsSpaced : List ℕ → ℕ → Result ℕ (Failure Fault) → Type 0
 IsSpaced line at (Ok next) = (next ≡ at + 1) × (byte_at line at ≡ Some 32)
 IsSpaced line at (Err e) = (byte_at line at ≡ Some 32 → is_stop (drop (at + 1) line) ≡ true) × IsFaulty line e
 
--- what `H` does, by what stands after it
+-- the action of `H`, by its arguments
 abbrev pub halting : List Tree → ActionTree
 halting [] = Halt
 halting (t ∷ times) = Hang (t ∷ times)

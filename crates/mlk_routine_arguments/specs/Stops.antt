@@ -1,4 +1,4 @@
--- What an argument may stand before, it may stand before whatever it is. For private clauses alone. This project's own.
+-- What may follow any argument may follow each argument. For private clauses only. This project's own.
 use Rattle.std.specs.Prelude.{ℕ, ◌≡◌, refl, Bool, true, false, not, ◌||◌, ◌==◌}
 use Rattle.std.specs.Prelude.{if◌then◌else◌, Option, Some, None, List, [], ◌∷◌}
 use Rattle.std.proofs.Common.{arith, sym, subst, inl, inr}
@@ -18,7 +18,7 @@ use Rattle.mlk_routine_arguments.specs.Ends.{is_stop, Lacks, VariableEnds, CallE
 use Rattle.mlk_routine_arguments.specs.Ends.{KillEnds, MergeEnds, NewEnds, ParameterEnds, LockEnds}
 use Rattle.mlk_routine_arguments.specs.Ends.{FormatEnds, MostEnds, ReadEnds, WriteEnds, TargetEnds, SetEnds}
 
--- what holds of each of them holds before a stop
+-- a property of each stop holds before a stop
 pub by_stop : (P : List ℕ → Type 0) → P [] → ((rest : List ℕ) → P (32 ∷ rest)) → ((rest : List ℕ) → P (44 ∷ rest))
     → ((rest : List ℕ) → P (41 ∷ rest)) → ((rest : List ℕ) → P (59 ∷ rest)) → (rest : List ℕ) → is_stop rest ≡ true
     → P rest
@@ -38,7 +38,7 @@ pub expr_stop : (t : Tree) (rest : List ℕ) → is_stop rest ≡ true → ExprE
 unfolding ends
 expr_stop t = by_stop (ExprEnds t) refl (λ rest. refl) (λ rest. refl) (λ rest. refl) (λ rest. refl)
 
--- neither goes on with digits nor with a name
+-- neither continues digits or a name
 same_either : (b : Bool) → not (if b then false else false) ≡ true
 same_either true = refl
 same_either false = refl
@@ -53,7 +53,7 @@ name_stop (d ∷ name) rest h =
     let either = λ (rest : List ℕ). same_either (is_digit d) in
     by_stop (LabelEnds (d ∷ name)) refl either either either either rest h
 
--- a byte that is no stop does not stand there
+-- a byte that is not a stop is not there
 no_byte : (b c : ℕ) → (c ≡ b → ⊥) → (rest : List ℕ) → Lacks b (c ∷ rest)
 no_byte b c other rest bad = other (same_Some c b bad)
 
@@ -156,7 +156,7 @@ target_stop (SetPart part v arguments) rest h = tt
 pub set_stop : (s : SetTree) (rest : List ℕ) → is_stop rest ≡ true → SetEnds s rest
 set_stop (SetTo targets value) rest h = expr_stop value rest h
 
--- an equals sign may stand after a name
+-- an equals sign may follow a name
 pub name_equals : (name rest : List ℕ) → LabelEnds name (61 ∷ rest)
 name_equals [] rest = refl
 name_equals (d ∷ name) rest = same_either (is_digit d)

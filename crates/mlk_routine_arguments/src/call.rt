@@ -1,4 +1,4 @@
-// Calls, as DO and JOB have them.
+// Calls by DO and JOB.
 
 ghost use Rattle.std.specs.Prelude.{◌≡◌, ◌≤◌, length, option_map, Some, true, false};
 ghost use Rattle.mlk_syntax.specs.ExprTrees.{actual_trees};
@@ -18,7 +18,7 @@ use mlk_syntax::{Actual, Call, Callee, DoArgument};
 use mlk_text::{Code, Column, Failure, Fault, LeftOut};
 use std::alloc::Global;
 
-// The label and the routine here, and the byte after them.
+// Reads a label and a routine: the callee, and the byte after it.
 fn called(alloc: Global, line: &[u8], at: usize) -> Result<(Callee, usize), Failure<Fault>>
     requires { at ≤ length line.now }
     ensures { Told (λ c. c) IsCalleeText CalleeEnds line.now at result }
@@ -30,7 +30,7 @@ fn called(alloc: Global, line: &[u8], at: usize) -> Result<(Callee, usize), Fail
     }
 }
 
-/// What is called here, and the byte after it. An offset after a label is left out.
+/// Reads the callee of DO or JOB: the callee, and the byte after it. An offset after a label is refused as not read.
 fn callee(alloc: Global, line: &[u8], at: usize) -> Result<(Callee, usize), Failure<Fault>>
     requires { at ≤ length line.now }
     ensures { Told (λ c. c) IsCalleeText CalledEnds line.now at result }
@@ -46,7 +46,7 @@ fn callee(alloc: Global, line: &[u8], at: usize) -> Result<(Callee, usize), Fail
     }
 }
 
-/// The actual list here, if one stands here, and the byte after it.
+/// Reads the actual list, if there is one: the actuals, and the byte after them.
 fn actuals(
     alloc: Global,
     allows: Allows,
@@ -67,7 +67,7 @@ fn actuals(
     }
 }
 
-/// The call here, and the byte after it.
+/// Reads a call: the call, and the byte after it.
 pub(crate) fn call(
     alloc: Global,
     allows: Allows,
@@ -91,7 +91,7 @@ pub(crate) fn call(
     ))
 }
 
-/// The call here before a postconditional, where less may stand in the actuals: if it has any, it is read again.
+/// Reads a call again that precedes a postconditional, since less is allowed in its actuals; without actuals it is kept.
 fn quiet_call(
     alloc: Global,
     any: Call,
@@ -109,7 +109,7 @@ fn quiet_call(
     call(alloc, Allows::NoTouches, Passing::ByReference, line, at)
 }
 
-/// The argument of DO here, and the byte after it.
+/// Reads an argument of DO: the argument, and the byte after it.
 pub(crate) fn do_argument(
     alloc: Global,
     line: &[u8],
@@ -139,7 +139,7 @@ pub(crate) fn do_argument(
     ))
 }
 
-/// The argument of JOB here, and the byte after it.
+/// Reads an argument of JOB: the call, and the byte after it.
 pub(crate) fn job_argument(
     alloc: Global,
     line: &[u8],

@@ -15,7 +15,7 @@ use mlk_text::lexeme::word_at;
 use mlk_text::{Code, Column, Failure, Fault, LeftOut, List};
 use std::alloc::Global;
 
-/// The argument of KILL here, and the byte after it.
+/// Reads an argument of KILL: the argument, and the byte after it.
 pub(crate) fn kill(
     alloc: Global,
     line: &[u8],
@@ -32,7 +32,7 @@ pub(crate) fn kill(
     Ok((KillArgument::One(one), next))
 }
 
-/// The argument of MERGE here, and the byte after it.
+/// Reads an argument of MERGE: the argument, and the byte after it.
 pub(crate) fn merge(
     alloc: Global,
     line: &[u8],
@@ -49,7 +49,7 @@ pub(crate) fn merge(
     Ok((MergeArgument { target, source }, next))
 }
 
-// Whether a special variable stands here: a word after `$`, without a parenthesis.
+// Whether there is a special variable here: a word after `$`, without a parenthesis.
 fn is_special(line: &[u8], at: usize) -> bool
     requires { at ≤ length line.now }
     ensures { result ≡ true → byte_at line.now at ≡ Some 36 }
@@ -62,7 +62,7 @@ fn is_special(line: &[u8], at: usize) -> bool
     !word.is_empty() && !has(rest, 0, b'(')
 }
 
-/// The argument of NEW here, and the byte after it. A special variable is left out.
+/// Reads an argument of NEW: the argument, and the byte after it. A special variable is refused as not read.
 pub(crate) fn new(
     alloc: Global,
     line: &[u8],

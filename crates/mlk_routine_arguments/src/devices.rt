@@ -17,7 +17,7 @@ use mlk_text::literal::quoted;
 use mlk_text::{Code, Failure, Fault, LeftOut, Value};
 use std::alloc::Global;
 
-/// The text in quotes here, at the first of them, and the byte after it.
+/// Reads the quoted text whose opening quote is at `at`: its value, and the byte after it.
 fn prompt(alloc: Global, line: &[u8], at: usize) -> Result<(Value, usize), Failure<Fault>>
     requires { byte_at line.now at ≡ Some 34 }
     ensures { Told (λ value. value) IsPrompt PromptEnds line.now at result }
@@ -45,7 +45,7 @@ fn starts_format(line: &[u8], at: usize) -> bool
     }
 }
 
-/// The column of the format that begins here, and the byte after the whole.
+/// Reads a format: the expression of its column, if it has one, and the byte after it.
 fn format(alloc: Global, line: &[u8], at: usize) -> Result<(Option<Expr>, usize), Failure<Fault>>
     requires within { at ≤ length line.now }
     requires starts { starts_format (drop at line.now) ≡ true }
@@ -55,7 +55,7 @@ fn format(alloc: Global, line: &[u8], at: usize) -> Result<(Option<Expr>, usize)
     after(alloc, b'?', Allows::Everything, line, next)
 }
 
-/// The argument of WRITE here, and the byte after it.
+/// Reads an argument of WRITE: the argument, and the byte after it.
 pub(crate) fn write_argument(
     alloc: Global,
     line: &[u8],
@@ -76,7 +76,7 @@ pub(crate) fn write_argument(
     Ok((WriteArgument::Value(value), next))
 }
 
-/// The local here, with its subscripts, and the byte after it. A global is left out.
+/// Reads a local with its subscripts: the variable, and the byte after it. A global is refused as not read.
 fn local(alloc: Global, line: &[u8], at: usize) -> Result<(Variable, usize), Failure<Fault>>
     requires { at ≤ length line.now }
     ensures { Told variable_of IsLocal VariableEnds line.now at result }
@@ -87,7 +87,7 @@ fn local(alloc: Global, line: &[u8], at: usize) -> Result<(Variable, usize), Fai
     variable(alloc, Allows::Everything, line, at)
 }
 
-/// The argument of READ here, and the byte after it.
+/// Reads an argument of READ: the argument, and the byte after it.
 pub(crate) fn read_argument(
     alloc: Global,
     line: &[u8],

@@ -1,4 +1,4 @@
-// Why a part of a line was not read.
+// Why a part of a line was refused.
 
 ghost use Rattle.std.specs.Prelude.{◌≡◌, ◌<◌, ◌≤◌, ◌^◌, ℕ, List, length, Some, None, true, false};
 ghost use Rattle.mlk_text.specs.declared.code.Code.TheVariants.{ExprLeftOut, CommandLeftOut};
@@ -24,7 +24,7 @@ fn fault(alloc: Global, code: Code, left_out: Option<LeftOut>, at: usize) -> Fai
     })
 }
 
-/// The refusal of what stands at this byte of a line.
+/// The refusal `code` at byte `at` of a line.
 #[tactic(auto, using(crate::proofs::LineFaults::made_fault))]
 pub fn refused(alloc: Global, code: Code, at: usize) -> Failure<Fault>
     ensures tells { Tells code None at result }
@@ -34,7 +34,7 @@ pub fn refused(alloc: Global, code: Code, at: usize) -> Failure<Fault>
     fault(alloc, code, None, at)
 }
 
-/// The refusal of what is left out.
+/// The refusal of a part of M that is not read.
 #[tactic(auto, using(crate::proofs::LineFaults::made_fault))]
 pub fn leaves_out(alloc: Global, what: LeftOut, at: usize) -> Failure<Fault>
     ensures tells { Tells ExprLeftOut (Some what) at result }
@@ -43,7 +43,7 @@ pub fn leaves_out(alloc: Global, what: LeftOut, at: usize) -> Failure<Fault>
     fault(alloc, Code::ExprLeftOut, Some(what), at)
 }
 
-/// A refusal where no expression is expected: what can't begin here has another form.
+/// Turns `fault` into one of a text that need not begin with an expression: 101 becomes `form`.
 pub fn other_form(form: Code, fault: Fault) -> Failure<Fault>
     ensures refusal { IsRefusal result }
     ensures fault { (line : List ℕ) → may_tell (number_of form) ≡ true → has_word (number_of form) ≡ false
@@ -65,7 +65,7 @@ pub fn other_form(form: Code, fault: Fault) -> Failure<Fault>
     })
 }
 
-/// The refusal of a command that is left out, by its full word.
+/// The refusal of a command that is not read, by its full word.
 #[tactic(auto, using(crate::proofs::LineFaults::made_fault))]
 pub(crate) fn no_command(alloc: Global, word: Value, at: usize) -> Failure<Fault>
     ensures tells { Tells CommandLeftOut (Some (Command word)) at result }

@@ -1,4 +1,4 @@
-// What stands between commas, and lists of it.
+// The items of lists that are separated by commas, and such lists.
 
 ghost use Rattle.std.specs.Prelude.{◌≡◌, ◌≤◌, ℕ, List, length, map, Some, true, false};
 ghost use Rattle.mlk_routine_arguments.specs.Told.{Told, byte_at};
@@ -18,13 +18,13 @@ use mlk_syntax::Expr;
 use mlk_text::{Code, Failure, Fault, Name, giving_up, make_room};
 use std::alloc::Global;
 
-/// What stands between the commas of a list.
+/// An item of a list that is separated by commas.
 pub trait Item: Drop {
     ghost use Rattle.std.specs.Prelude.{ℕ, List, ◌≡◌, true, false};
     ghost use Rattle.mlk_expr.specs.Grammar.{Spelled};
     ghost use Rattle.mlk_routine_arguments.specs.Ends.{is_stop};
 
-    /// What contracts see of it, how it is written, and what may stand after it.
+    /// What contracts see of the item, how it is written, and what may follow it.
     ghost Seen: { Type 0 };
 
     ghost seen: { Self → Seen };
@@ -33,10 +33,10 @@ pub trait Item: Drop {
 
     ghost ends: { Seen → List ℕ → Type 0 };
 
-    /// The line's end may, a space, a comma, a closing parenthesis and a comment.
+    /// It may be followed by the line's end, a space, a comma, a closing parenthesis and a comment.
     ghost stop: { (a : Seen) (rest : List ℕ) → is_stop rest ≡ true → ends a rest };
 
-    /// None begins with one of these.
+    /// No item begins with one of these.
     ghost begin: { (k : ℕ) (a : Seen) (s : List ℕ) → is k a s → is_stop s ≡ false };
 
     fn read(alloc: Global, line: &[u8], at: usize) -> Result<(Self, usize), Failure<Fault>>
@@ -62,7 +62,7 @@ impl Item for Expr {
     }
 }
 
-/// One or more items with commas between them, and the byte after them.
+/// Reads one or more items separated by commas: the items, and the byte after them.
 pub(crate) fn listed<T: Item>(
     alloc: Global,
     line: &[u8],
@@ -86,7 +86,7 @@ pub(crate) fn listed<T: Item>(
     Ok((items, next))
 }
 
-/// Items in parentheses, the first of which stands here, and the byte after the second.
+/// Reads items in parentheses, whose opening one is at `at`: the items, and the byte after the closing one.
 #[inline(always)]
 pub(crate) fn enclosed<T: Item>(
     alloc: Global,
@@ -124,7 +124,7 @@ impl Item for Name {
     }
 }
 
-/// One item, or several in parentheses, and the byte after them. No item begins with a parenthesis.
+/// Reads one item, or several in parentheses: the items, and the byte after them. No item begins with a parenthesis.
 pub(crate) fn one_or_enclosed<T: Item>(
     alloc: Global,
     line: &[u8],

@@ -1,4 +1,4 @@
-// The arguments that stand in lists.
+// The arguments that occur in lists.
 
 ghost use Rattle.mlk_syntax.specs.Trees.{VariableTree, DoTree, CallTree, KillTree, NewTree, MergeTree, ParameterTree};
 ghost use Rattle.mlk_syntax.specs.Trees.{LockTree, ReadTree, WriteTree, TargetTree, SetTree};
@@ -165,7 +165,7 @@ impl Item for Variable {
     }
 }
 
-/// A name of LOCK without a sign, in which neither globals nor calls stand.
+/// A name of LOCK without a sign, in which neither globals nor calls are allowed.
 #[derive(Drop)]
 pub(crate) struct Unsigned {
     pub(crate) variable: Variable,

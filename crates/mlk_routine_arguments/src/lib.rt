@@ -1,4 +1,4 @@
-//! The words and arguments of M's commands: which texts they are, and the readers of them.
+//! The words and arguments of M's commands: their definition as texts, and their readers.
 #![tactic(auto)]
 
 mod call;

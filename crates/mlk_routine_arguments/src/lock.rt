@@ -17,7 +17,7 @@ use mlk_syntax::{Expr, LockArgument, Sign, Variable};
 use mlk_text::{Code, Failure, Fault, LeftOut};
 use std::alloc::{AllocError, Global};
 
-/// The sign here, and the byte after it.
+/// Reads the sign, if there is one: the sign, and the byte after it.
 fn sign(line: &[u8], at: usize) -> (Sign, usize)
     requires { at ≤ length line.now }
     ensures { Found IsSign SignEnds line.now at result.0 result.1 }
@@ -31,14 +31,14 @@ fn sign(line: &[u8], at: usize) -> (Sign, usize)
     (Sign::None, at)
 }
 
-// The names as they stand in the tree.
+// The variables of `names`, as the tree has them.
 fn variables(alloc: Global, names: Vec<Unsigned>) -> Result<Vec<Variable>, AllocError>
     ensures { IfOk result (λ v. v.items ≡ map (λ name. name.variable) names.items) }
 {
     names.into_iter().map(|name| name.variable).collect(alloc)
 }
 
-/// The names of LOCK without a sign, and the byte after them.
+/// Reads the names of LOCK without a sign: the names, and the byte after them.
 fn unsigned(alloc: Global, line: &[u8], at: usize) -> Result<(Vec<Variable>, usize), Failure<Fault>>
     requires { at ≤ length line.now }
     ensures { Told (λ v. map variable_of v.items) (IsOneOrEnclosed (IsVariable NoTouches))
@@ -49,7 +49,7 @@ fn unsigned(alloc: Global, line: &[u8], at: usize) -> Result<(Vec<Variable>, usi
     Ok((names, next))
 }
 
-/// The names here, and the byte after them. Without a sign less may stand in them.
+/// Reads the names of LOCK: the names, and the byte after them. Without a sign less is allowed in them.
 fn names(
     alloc: Global,
     sign: Sign,
@@ -66,8 +66,8 @@ fn names(
     }
 }
 
-/// The timeout here, if one stands here, and the byte after it. After `-` it is left out. Without one an argument
-/// stops here.
+/// Reads the timeout, if there is one: its expression, and the byte after it. After `-` it is refused as not read. Without a
+/// timeout the argument must end here.
 fn timeout(
     alloc: Global,
     sign: Sign,
@@ -92,7 +92,7 @@ fn timeout(
     Ok((Some(timeout), next))
 }
 
-/// The argument of LOCK here, and the byte after it.
+/// Reads an argument of LOCK: the argument, and the byte after it.
 pub(crate) fn lock(
     alloc: Global,
     line: &[u8],

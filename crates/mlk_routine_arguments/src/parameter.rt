@@ -1,4 +1,4 @@
-// FOR's variable and what it runs through.
+// FOR's variable and its parameters.
 
 ghost use Rattle.std.specs.Prelude.{◌≡◌, ◌≤◌, length, Some, true, false};
 ghost use Rattle.mlk_syntax.specs.ExprTrees.{tree_of};
@@ -15,7 +15,7 @@ use mlk_syntax::{Control, Parameter};
 use mlk_text::{Code, Column, Failure, Fault, LeftOut};
 use std::alloc::Global;
 
-/// A parameter of FOR here, and the byte after it.
+/// Reads a parameter of FOR: the parameter, and the byte after it.
 pub(crate) fn parameter(
     alloc: Global,
     line: &[u8],
@@ -36,7 +36,7 @@ pub(crate) fn parameter(
     }
 }
 
-/// FOR's variable and what it runs through, and the byte after it. A variable with subscripts is left out.
+/// Reads FOR's variable and its parameters: both, and the byte after them. A variable with subscripts is refused as not read.
 pub fn control(alloc: Global, line: &[u8], at: usize) -> Result<(Control, usize), Failure<Fault>>
     requires { at ≤ length line.now }
     ensures { Told control_of IsControl ControlEnds line.now at result }

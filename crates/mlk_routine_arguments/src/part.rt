@@ -1,4 +1,4 @@
-// The parts of arguments that the readers of expressions know.
+// The parts of arguments that are read by the readers of expressions.
 
 ghost use Rattle.std.specs.Prelude.{◌≡◌, ◌≤◌, length, drop, option_map, Some, true, false};
 ghost use Rattle.mlk_syntax.specs.ExprTrees.{tree_of, actual_trees};
@@ -16,7 +16,7 @@ use mlk_syntax::{Expr, Variable};
 use mlk_text::{Code, Column, Failure, Fault, Name};
 use std::alloc::Global;
 
-/// Whether this byte stands here.
+/// Whether byte `at` of `line` is `wanted`.
 pub fn has(line: &[u8], at: usize, wanted: u8) -> bool
     requires { at ≤ length line.now }
     ensures yes { result ≡ true → byte_at line.now at ≡ Some wanted }
@@ -29,7 +29,7 @@ pub fn has(line: &[u8], at: usize, wanted: u8) -> bool
     }
 }
 
-/// Whether an argument may stop here: at the line's end, or before one of these bytes.
+/// Whether an argument may end here: at the line's end, or before a byte that ends arguments.
 pub(crate) fn stops(line: &[u8], at: usize) -> bool
     requires { at ≤ length line.now }
     ensures { result ≡ is_stop (drop at line.now) }
@@ -41,7 +41,7 @@ pub(crate) fn stops(line: &[u8], at: usize) -> bool
     }
 }
 
-/// The expression here, and the byte after it.
+/// Reads the expression at `at`: its tree, and the byte after it.
 #[inline(always)]
 pub fn expression(
     alloc: Global,
@@ -59,7 +59,7 @@ pub fn expression(
     }
 }
 
-/// An expression after this byte, where it stands here.
+/// Reads the expression after the byte `first`, or nothing if that byte is not here.
 #[inline(always)]
 pub fn after(
     alloc: Global,
@@ -78,7 +78,7 @@ pub fn after(
     Ok((Some(value), next))
 }
 
-/// The local or global here, with its subscripts, and the byte after it.
+/// Reads the local or global with its subscripts at `at`: the variable, and the byte after it.
 #[inline(always)]
 pub(crate) fn variable(
     alloc: Global,
@@ -106,7 +106,7 @@ pub(crate) fn variable(
     }
 }
 
-/// The name here, and the byte after it.
+/// Reads the name at `at`: the name, and the byte after it.
 pub(crate) fn name(alloc: Global, line: &[u8], at: usize) -> Result<(Name, usize), Failure<Fault>>
     requires { at ≤ length line.now }
     ensures { Told (λ n. n) IsNameText LabelEnds line.now at result }

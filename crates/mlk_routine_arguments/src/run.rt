@@ -1,4 +1,4 @@
-// Runs of bytes of one kind.
+// Runs of bytes of one class.
 
 ghost use Rattle.std.specs.Prelude.{◌≡◌, ◌≤◌, length};
 ghost use Rattle.std.specs.List.{prefix_len};
@@ -9,7 +9,7 @@ ghost use Rattle.mlk_routine_arguments.specs.CommandGrammar.{is_mark, is_space};
 
 use mlk_text::lexeme::is_text_byte;
 
-// How many of them stand at the front.
+// The number of spaces at the front of `bytes`.
 fn spaces(bytes: &[u8]) -> usize
     ensures value { result ≡ prefix_len is_space bytes.now }
     ensures within { result ≤ length bytes.now }
@@ -17,7 +17,7 @@ fn spaces(bytes: &[u8]) -> usize
     bytes.iter().take_while(|b| **b == b' ').count()
 }
 
-/// The byte after the spaces here.
+/// The byte after the spaces at `at`.
 pub fn past_spaces(line: &[u8], at: usize) -> usize
     requires { at ≤ length line.now }
     ensures { Found (IsRun is_space) (RunEnds is_space) line.now at tt result }
@@ -26,7 +26,7 @@ pub fn past_spaces(line: &[u8], at: usize) -> usize
     at + spaces(bytes)
 }
 
-// How many of them stand at the front.
+// The number of `!` and `#` at the front of `bytes`.
 fn marks(bytes: &[u8]) -> usize
     ensures value { result ≡ prefix_len is_mark bytes.now }
     ensures within { result ≤ length bytes.now }
@@ -37,7 +37,7 @@ fn marks(bytes: &[u8]) -> usize
         .count()
 }
 
-/// The byte after the `!` and `#` here.
+/// The byte after the `!` and `#` at `at`.
 pub(crate) fn past_marks(line: &[u8], at: usize) -> usize
     requires { at ≤ length line.now }
     ensures { Found (IsRun is_mark) (RunEnds is_mark) line.now at tt result }
@@ -46,7 +46,7 @@ pub(crate) fn past_marks(line: &[u8], at: usize) -> usize
     at + marks(bytes)
 }
 
-/// How many bytes that may stand in comments and in texts in quotes stand at the front.
+/// The number of bytes at the front of `bytes` that are allowed in comments and quoted texts.
 pub fn text_bytes(bytes: &[u8]) -> usize
     ensures value { result ≡ prefix_len is_text_byte bytes.now }
     ensures within { result ≤ length bytes.now }

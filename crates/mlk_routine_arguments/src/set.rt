@@ -23,7 +23,7 @@ use mlk_text::lexeme::word_at;
 use mlk_text::{Code, Failure, Fault, LeftOut};
 use std::alloc::{AllocError, Global};
 
-/// The function of a target by its word.
+/// The function of a target that `word` names, or `None`.
 #[tactic(auto, unfolding(crate::specs::Ends::part_of))]
 fn part_of(word: &[u8]) -> Option<Part>
     ensures { result ≡ part_of word.now }
@@ -37,7 +37,7 @@ fn part_of(word: &[u8]) -> Option<Part>
     }
 }
 
-// Why no target stands here, at a `$`, with the word after it and what is after that.
+// Why there is no target at `at`, a `$`, where `word` follows it and `after` follows the word.
 fn no_part(alloc: Global, word: &[u8], after: &[u8], at: usize) -> Failure<Fault>
     ensures refusal { IsRefusal result }
     ensures fault { (line : List ℕ) → at < length line → IsFaulty line result }
@@ -59,7 +59,7 @@ fn no_part(alloc: Global, word: &[u8], after: &[u8], at: usize) -> Failure<Fault
     refused(alloc, Code::ArgumentForm, at)
 }
 
-/// The function of the target here, at its `$`, and the byte after its parenthesis.
+/// Reads the function of a target at its `$`: the function, and the byte after the opening parenthesis.
 fn opening(alloc: Global, line: &[u8], at: usize) -> Result<(Part, usize), Failure<Fault>>
     requires { byte_at line.now at ≡ Some 36 }
     ensures { Told (λ part. part) IsPartOpening AnyEnds line.now at result }
@@ -72,7 +72,7 @@ fn opening(alloc: Global, line: &[u8], at: usize) -> Result<(Part, usize), Failu
     }
 }
 
-/// An expression in which no call stands.
+/// An expression without calls.
 #[derive(Drop)]
 struct CallFree {
     value: Expr,
@@ -97,14 +97,14 @@ impl Item for CallFree {
     }
 }
 
-// The expressions as they stand in the tree.
+// The expressions of `items`, as the tree has them.
 fn expressions(alloc: Global, items: Vec<CallFree>) -> Result<Vec<Expr>, AllocError>
     ensures { IfOk result (λ v. v.items ≡ map (λ item. item.value) items.items) }
 {
     items.into_iter().map(|item| item.value).collect(alloc)
 }
 
-/// The arguments after the variable of a target, each after a comma, and the byte after them.
+/// Reads the arguments after the variable of a target, each after a comma: the arguments, and the byte after them.
 fn arguments(alloc: Global, line: &[u8], at: usize) -> Result<(Vec<Expr>, usize), Failure<Fault>>
     requires { at ≤ length line.now }
     ensures { Told (λ v. trees v.items) (AreNext (IsExprWhere NoCalls)) NextEnds line.now at result }
@@ -117,7 +117,7 @@ fn arguments(alloc: Global, line: &[u8], at: usize) -> Result<(Vec<Expr>, usize)
     Ok((arguments, next))
 }
 
-/// The target that is part of a value here, at its `$`, and the byte after it.
+/// Reads a target that is part of a value, at its `$`: the target, and the byte after it.
 #[inline(always)]
 fn part_target(alloc: Global, line: &[u8], at: usize) -> Result<(Target, usize), Failure<Fault>>
     requires { byte_at line.now at ≡ Some 36 }
@@ -133,7 +133,7 @@ fn part_target(alloc: Global, line: &[u8], at: usize) -> Result<(Target, usize),
     Ok((Target::Part(part, variable, arguments), next + 1))
 }
 
-/// The target here, and the byte after it.
+/// Reads a target of SET: the target, and the byte after it.
 #[inline(always)]
 pub(crate) fn target(
     alloc: Global,
@@ -150,7 +150,7 @@ pub(crate) fn target(
     Ok((Target::Whole(whole), next))
 }
 
-// The target here, or the targets in parentheses, and the byte after them.
+// Reads a target, or several in parentheses: the targets, and the byte after them.
 #[inline(always)]
 fn targets(
     alloc: Global,
@@ -169,7 +169,7 @@ fn targets(
     Ok((Several::one(only), next))
 }
 
-/// The argument of SET here, and the byte after it.
+/// Reads an argument of SET: the argument, and the byte after it.
 #[inline(always)]
 pub(crate) fn set(
     alloc: Global,

@@ -1,4 +1,4 @@
-// Arguments as commands have them: a list after one space, or none.
+// The arguments of a command with the space before them: a list after one space, or none.
 
 ghost use Rattle.std.specs.Prelude.{◌≡◌, ◌≤◌, length, map, drop, true};
 ghost use Rattle.mlk_routine_arguments.specs.Told.{Told};
@@ -25,7 +25,7 @@ pub fn is_commands_end(line: &[u8], at: usize) -> bool
     }
 }
 
-/// Whether a command may end here: where the commands end, or before a space.
+/// Whether a command may end here: before a space, or where the commands end.
 pub fn is_command_end(line: &[u8], at: usize) -> bool
     requires { at ≤ length line.now }
     ensures { result ≡ is_command_end (drop at line.now) }
@@ -37,7 +37,7 @@ pub fn is_command_end(line: &[u8], at: usize) -> bool
     }
 }
 
-/// Whether no arguments follow: other than one space, or the end of the commands after it.
+/// Whether there are no arguments here: after at most one space, the command ends.
 pub fn is_bare(line: &[u8], at: usize) -> bool
     requires { at ≤ length line.now }
     ensures { result ≡ is_bare_end (drop at line.now) }
@@ -49,7 +49,7 @@ pub fn is_bare(line: &[u8], at: usize) -> bool
     }
 }
 
-/// The byte after the one space that stands before arguments.
+/// The byte after the one space that precedes arguments.
 pub fn first_argument(alloc: Global, line: &[u8], at: usize) -> Result<usize, Failure<Fault>>
     requires { at ≤ length line.now }
     ensures { IsSpaced line.now at result }
@@ -63,7 +63,7 @@ pub fn first_argument(alloc: Global, line: &[u8], at: usize) -> Result<usize, Fa
     Ok(at + 1)
 }
 
-/// A list of arguments after one space, and the byte after them.
+/// Reads a list of arguments after one space: the arguments, and the byte after them.
 #[inline(always)]
 pub fn some<T: Item>(
     alloc: Global,
@@ -81,7 +81,7 @@ pub fn some<T: Item>(
     Ok((items, next))
 }
 
-/// The same, or no arguments.
+/// Reads a list of arguments after one space, or none: the arguments, and the byte after them.
 #[inline(always)]
 pub fn perhaps<T: Item>(
     alloc: Global,

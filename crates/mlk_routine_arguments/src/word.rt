@@ -14,14 +14,14 @@ use mlk_text::lexeme::word_at;
 use mlk_text::{Code, Failure, Fault, Value};
 use std::alloc::{AllocError, Global};
 
-/// A command but FOR, by its word.
+/// A command other than FOR, by its word.
 #[derive(Clone, Copy, Debug, Drop, PartialEq, Eq)]
 pub enum Word {
     Do,
     Else,
     Halt,
     Hang,
-    /// `H`, which is HALT without an argument, and HANG with one
+    /// `H`: HALT without arguments, HANG with them
     HaltOrHang,
     If,
     Job,
@@ -36,7 +36,7 @@ pub enum Word {
 }
 
 impl Word {
-    /// Whether a postconditional may stand after it.
+    /// Whether the command may have a postconditional.
     pub fn has_condition(self) -> bool
         ensures { result ≡ has_condition self }
     {
@@ -44,7 +44,7 @@ impl Word {
     }
 }
 
-// This command, where the word is its own, short or whole.
+// `found`, if `word` is `short` or `whole`.
 fn if_either(found: Word, short: &[u8], whole: &[u8], word: &[u8]) -> Option<Word>
     ensures { result ≡ (if is_either short.now whole.now word.now then Some found else None) }
 {
@@ -70,7 +70,7 @@ fn halting(word: &[u8]) -> Option<Word>
     }
 }
 
-// The commands begin with different letters, but those of HALT and HANG.
+// The command that `word` names, or `None`. Only HALT and HANG begin with the same letter.
 #[tactic(auto, unfolding(crate::specs::Kinds::word_of, crate::specs::Kinds::is_written))]
 fn word_of(word: &[u8]) -> Option<Word>
     ensures { result ≡ word_of word.now }
@@ -96,7 +96,7 @@ fn word_of(word: &[u8]) -> Option<Word>
     }
 }
 
-/// Whether a word is that of FOR.
+/// Whether `word` is that of FOR.
 #[tactic(auto, unfolding(crate::specs::CommandWords::is_for))]
 pub fn is_for(word: &[u8]) -> bool
     ensures { result ≡ is_for word.now }
@@ -107,7 +107,7 @@ pub fn is_for(word: &[u8]) -> bool
     }
 }
 
-// The commands that are left out, short and whole.
+// The commands that are not read, short and whole.
 const LEFT_OUT: [(&[u8], &[u8]); 18] = [
     (b"B", b"BREAK"),
     (b"C", b"CLOSE"),
@@ -129,7 +129,7 @@ const LEFT_OUT: [(&[u8], &[u8]); 18] = [
     (b"ETRIGGER", b"ETRIGGER"),
 ];
 
-// The full word of a command that is left out; all words that begin with Z are.
+// The full word of a command that is not read, or `None`; all words that begin with Z are such.
 fn left_out(word: &[u8]) -> Option<&[u8]> {
     for (short, whole) in LEFT_OUT.iter() {
         if is_either(short, whole, word) {
@@ -148,7 +148,7 @@ fn in_upper_case(alloc: Global, word: &[u8]) -> Result<Value, AllocError> {
     Ok(Value::new(shown))
 }
 
-// Why a word that begins here is no command that is read.
+// Why `word` is not a command that is read.
 fn no_word(alloc: Global, word: &[u8], at: usize) -> Failure<Fault>
     ensures { (line : List ℕ) → at ≤ length line → IsFaulty line result }
 {
@@ -161,7 +161,7 @@ fn no_word(alloc: Global, word: &[u8], at: usize) -> Failure<Fault>
     }
 }
 
-/// The command whose word stands here, and the byte after the word.
+/// Reads the word of a command: the command, and the byte after the word.
 pub fn command_word(alloc: Global, line: &[u8], at: usize) -> Result<(Word, usize), Failure<Fault>>
     requires { at ≤ length line.now }
     ensures { Told (λ w. w) IsNamed WordEnds line.now at result }

@@ -1,5 +1,5 @@
--- Routines that were read have names and labels that are written as such, levels as their lines are nested, values of QUIT
--- where they end calls, formals that differ, and READ into locals alone.
+-- Routines that were read: their names and labels are spelled as such, their levels are those at which their lines are nested,
+-- QUIT has a value only where it ends a call, formals differ, and READ is into locals only.
 use Rattle.std.proofs.Common.{◌≡◌, ap, refl, sym, subst, ℕ, zero, suc, ◌<◌, Bool, true, false, List, [], ◌∷◌, ◌++◌, Option, Some, None, inl, inr, arith}
 use Rattle.std.specs.Prelude.{Contains, ◌==◌, ◌&&◌}
 use Rattle.std.specs.List.{list_all}
@@ -29,7 +29,7 @@ labelled None formals s l h is = cc is
 labelled (Some label) None s l h is = subst IsLabel (one label l is) h.1
 labelled (Some label) (Some formals) s l h is = subst IsLabel (one label l is) h.2
 
--- what is so of each line that is written, is so of each line of a routine
+-- what holds of each line that is written holds of each line of a routine
 each_line : (P : HeadTree → Type 0) → ((n : ℕ) (head : HeadTree) (s : List ℕ) → IsLine n head s → P head)
     → (n : ℕ) (heads : List HeadTree) (texts : List (List ℕ)) → AreLines n heads texts → (head : HeadTree) → Contains heads head → P head
 each_line P written n [] texts h head c = let low = c.1 in absurd (omega (arith, low))
@@ -63,7 +63,7 @@ unfolding IsRoutine
 routines-spelled stem text (Named_routine name lines) (texts, stemmed, named, small, cut, few, good, nested, distinct) =
     (named, λ l label c own. each_line (λ head. (l : List ℕ) → label_of head ≡ Some l → IsLabel l) line_labelled 1 (heads_of lines) texts good l.0 (among lines l c) label own)
 
--- QUIT has a value only where it may have one
+-- QUIT has a value only where it may
 no : {A : Type 0} → false ≡ true → A
 no h = absurd (cc h)
 
@@ -84,7 +84,7 @@ quits may at (Does column condition (Read reads)) s is h = no h
 quits may at (Does column condition (Set sets)) s is h = no h
 quits may at (Does column condition (Write writes)) s is h = no h
 
--- and behind a FOR none may
+-- and none behind a FOR
 answer_at_end : (level loops at : ℕ) (cs : CommandTrees) (s : List ℕ) → AreCommands level loops at cs s → AnswersAtEnd ((level == 1) && (loops == 0)) cs
 answer_at_end level loops at finished s h = tt
 answer_at_end level loops at (then_command c rest) s (text, gap, following, joined, is, gapped, more) =
@@ -114,7 +114,7 @@ line_answers : (n : ℕ) (head : HeadTree) (s : List ℕ) → IsLine n head s �
 line_answers n (LineHead number level end label formals commands) s (front, body, joined, counted, ended, labelled, leveled, is) =
     body_answers level _ commands body is
 
--- the lines of a block, and those behind it, are among all
+-- the lines of a block, and those after it, are among all lines
 later : {A : Type 0} (first a : A) (others : List A) → Contains others a → Contains (first ∷ others) a
 later first a others (k, below, same) = (suc k, omega (arith, below), same)
 
@@ -124,7 +124,7 @@ in_block head h block rest c = later head h (heads_of block ++ heads_of rest) (C
 in_rest : (head h : HeadTree) (block rest : LineTrees) → Contains (heads_of rest) h → Contains (heads_of (line head block rest)) h
 in_rest head h block rest c = later head h (heads_of block ++ heads_of rest) (Contains-append_right (heads_of block) (heads_of rest) h c)
 
--- lines that are nested bear the levels at which they stand
+-- nested lines have the levels at which they are nested
 leveled : (level : ℕ) (lines : LineTrees) → 0 < level → AreNested level lines → ((head : HeadTree) → Contains (heads_of lines) head → AnswersRight head)
     → AreLeveled level (level == 1) lines
 leveled level no_lines low nested each = tt
@@ -141,7 +141,7 @@ leveled level (line head block rest) low (at, reached, below, more) each = (
     deeper : (level : ℕ) → 0 < level → (suc level == 1) ≡ false
     deeper level low = grind (arith, nat_tests, low)
 
--- READ is into locals alone
+-- READ is into locals only
 local : (v : VariableTree) → grammar.is_local v ≡ true → is_local v ≡ true
 local (Named column (LocalName name subs)) h = refl
 local (Named column other) h = no h

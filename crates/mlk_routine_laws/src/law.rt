@@ -1,14 +1,14 @@
-// What routines that were read keep to.
+// Laws of routines that were read.
 
 ghost use Rattle.mlk_routine_laws.specs.Laws.{RoutinesSpelled, WellFormed};
 
-/// A routine that was read has a name, and labels, that are written as such.
+/// The name and the labels of a routine that was read have the right form.
 pub fn routines_spelled()
     ensures { RoutinesSpelled }
 {}
 
-/// In a routine that was read each line bears its own level, QUIT has a value only on lines of the first level and behind
-/// no FOR, no formal list has a name twice, and READ is into locals: what the laws on runs ask of trees.
+/// In a routine that was read, each line has its own level, QUIT has a value only on lines of level 1 and outside of FORs, no
+/// formal list has a name twice, and READ is into locals: the premises of the laws on runs about trees.
 pub fn well_formed()
     ensures { WellFormed }
 {}

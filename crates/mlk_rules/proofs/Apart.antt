@@ -1,5 +1,5 @@
--- Covered references one of which writes overlap only where their jobs hold names that conflict, or are one, or where one of
--- them reads freely.
+-- Covered references one of which writes overlap only if their jobs hold names that conflict, or are the same job, or if one of
+-- the references reads freely.
 use Rattle.std.proofs.Common.{◌≡◌, ◌⊎◌, inl, inr, ℕ, Bool, true, false, List, [], ◌∷◌, Some, arith, refl, sym, ap, ◌∙◌, subst}
 use Rattle.std.specs.Prelude.{Contains, slice_get}
 use Rattle.std.specs.List.{list_all}
@@ -28,7 +28,7 @@ use Rattle.mlk_rules.proofs.Places.{zip_at, begins_at}
 use Rattle.mlk_rules.proofs.Instances.{lock_of_node, reach_begins}
 use Rattle.mlk_rules.proofs.Meetings.{share_pattern}
 
--- where `$JOB` stands at a place of a reference, each node that it reaches has the job's number there
+-- if `$JOB` is at an index of a reference, each node that it reaches has the job's number there
 own_number : (a : Assignment) (r : Reference) (t : Touch) (n : GlobalNode) (k : ℕ) → Touches a r t → InRegion t.region n → slice_get r.subs k ≡ Some Job → slice_get n.subs k ≡ Some a.job
 own_number a r t n k h i e =
     let w = zip_at (StandsFor a) r.subs t.region.node.subs k Job h.subs e in
@@ -52,21 +52,21 @@ module _ (rules : RuleLists) (a b : Assignment) (held kept : List LockTerm) (r s
     conflict = λ x y d e. (lock_of_node lock n).conflict a b r s t u h k x y first i p d second j q e;
   }
 
-  -- a write holds each lock of the rule, whatever else is done holds one of them
+  -- a write holds each lock of the rule, and any other access holds one of them
   by_locks : (c : Cover) (n : GlobalNode) (x y : Access) → (x ≡ Writes) ⊎ (y ≡ Writes) → HoldLocks x held r (locks_of c) → HoldLocks y kept s (locks_of c) → InRegion t.region n → InRegion u.region n → HoldConflict a held b kept
   by_locks c n Writes Writes w h k i j = let at = in_front c.lock (second_of c.also) in by_lock c.lock n (h c.lock at) (k c.lock at) i j
   by_locks c n Writes Reads w h (lock, is, k) i j = by_lock lock n (h lock is) k i j
   by_locks c n Reads Writes w (lock, is, h) k i j = by_lock lock n h (k lock is) i j
   by_locks c n Reads Reads w h k i j = absurd (elim w [ inl e ↦ let d : Reads ≡ Writes = e in cc | inr e ↦ let d : Reads ≡ Writes = e in cc ])
 
-  -- what both reach in a pattern, each may meet there
+  -- each of two references may meet a pattern at what both reach in it
   meets_first : (p : Pattern) → MeetIn p t u → MayMeet p r
   meets_first p (n, i, j, l) = (t.region, n, may_touch a r t first, i, l)
 
   meets_second : (p : Pattern) → MeetIn p t u → MayMeet p s
   meets_second p (n, i, j, l) = (u.region, n, may_touch b s u second, j, l)
 
-  -- each satisfies the rule: by its locks, or it reads what the rule frees
+  -- each satisfies the rule: by its locks, or because it reads what the rule frees
   by_rule : (c : Cover) (n : GlobalNode) → (r.access ≡ Writes) ⊎ (s.access ≡ Writes) → Satisfies held r c → Satisfies kept s c → InRegion t.region n → InRegion u.region n
       → HoldConflict a held b kept ⊎ ((c.reads ≡ Free) × ((t.access ≡ Reads) ⊎ (u.access ≡ Reads)))
   by_rule c n w (inl f) y i j = inr (f.0, inl (first.access ∙ f.1))
@@ -120,7 +120,7 @@ locked_by_test (d ∷ ds) h c is =
       | inr there ↦ locked_by_test ds both.1 c there
     ]
 
--- where no rule frees reads, none is read freely
+-- if no rule frees reads, none is a free read
 pub none_freely : (rules : RuleLists) (t u : Touch) → FreesNoReads rules → OneReadsFreely rules t u → ⊥
 none_freely rules t u locked f = let e : Locked ≡ Free = sym (locked f.cover f.is_rule) ∙ f.frees f.cover f.is_rule f.meet in cc
 

@@ -1,4 +1,4 @@
--- What loops over rules have seen, and what follows of it.
+-- What loops over rules have checked, and what follows from it.
 use Rattle.std.proofs.Common.{◌≡◌, ◌↔◌, ◌⊎◌, inl, inr, ℕ, zero, suc, add-one, ◌+◌, ◌<◌, ◌≤◌, Bool, true, false, not, List, [], ◌∷◌, ◌++◌, Some, None, Result, Ok, Err, length, drop, arith, refl, sym, ap, ◌∙◌, subst, append_assoc}
 use Rattle.std.specs.Prelude.{Contains, IsTrue, OnOk, slice_index_or}
 use Rattle.std.proofs.lemmas.Bool.{cases_order}
@@ -17,7 +17,7 @@ use Rattle.mlk_rules.specs.Coverage.{OfCover, OfPrivate, IsRuled, KeepsReadonly,
 use Rattle.mlk_rules.specs.Fronts.{Gained}
 use Rattle.mlk_rules.proofs.Computing.{in_front, in_rest, in_list}
 
--- P of each element before a place
+-- `P` holds of each element before an index
 abbrev pub AllBefore : {X : Type 0} → (X → Type 0) → List X → ℕ → Type 0
 AllBefore {X} P xs i = (k : ℕ) (d : X) → k < i → P (slice_index_or xs k d)
 
@@ -92,7 +92,7 @@ module _ (held : List LockTerm) (r : Reference) where
     ],
   )
 
-  -- the locks that are held of a rule with one, and of one with two
+  -- the held locks of a rule with one, and of one with two
   module _ (c : Cover) where
     pub by_one : c.also ≡ None → HoldsLock held c.lock r ↔ HoldLocks r.access held r (locks_of c)
     by_one e =
@@ -110,7 +110,7 @@ module _ (held : List LockTerm) (r : Reference) where
         subst (λ o. (HoldsLock held c.lock r ⊎ HoldsLock held also r) ↔ HoldLocks r.access held r (c.lock ∷ second_of o)) (sym e)
         (subst P (sym w) (two_read c.lock also))
 
-    -- what is asked of a rule with one lock, and with two
+    -- what is required of a rule with one lock, and with two
     pub asks_one : c.also ≡ None → asked r.access c ≡ c.lock ∷ []
     asks_one e = by r.access
       where
@@ -148,12 +148,12 @@ module _ (held : List LockTerm) (r : Reference) where
   pub lacking_none : (c : Cover) (old : List LockTerm) → (Lacks held r c → ⊥) → Gained (AreLackingOf held r c) old old
   lacking_none c old n = ([], sym (append-nil old), inr (n, refl))
 
--- what follows where something was answered
+-- what follows if the result is `Ok`
 pub where_ok : {A E P Q : Type 0} (o : Result A E) → (P → Q) → OnOk o P → OnOk o Q
 where_ok (Ok x) f h = f h
 where_ok (Err e) f h = tt
 
--- along the rules: what is lacking of one more is put after what was found
+-- along the rules: what one more rule is missing is added to what was found
 pub lacking_more : (held : List LockTerm) (r : Reference) (all rest : List Cover) (c : Cover) (after : List Cover) (found front : List LockTerm) → rest ≡ c ∷ after → AreLackingOf held r c front → ((ts : List LockTerm) → AreLacking held r rest ts → AreLacking held r all (found ++ ts)) → (ts : List LockTerm) → AreLacking held r after ts → AreLacking held r all ((found ++ front) ++ ts)
 lacking_more held r all rest c after found front e is f ts h =
     let P : List Cover → Type 0 = λ cs. AreLacking held r cs (front ++ ts) in

@@ -1,4 +1,4 @@
--- That what is computed place by place is the answer.
+-- What is computed element by element is the answer.
 use Rattle.std.proofs.Common.{◌≡◌, ◌⊎◌, inl, inr, ℕ, zero, suc, Bool, true, false, not, ◌&&◌, ◌||◌, List, [], ◌∷◌, Option, Some, None, arith, refl, sym, ap, ◌∙◌, subst, ⊎_elim}
 use Rattle.std.specs.Prelude.{if◌then◌else◌, Contains, Decides, bytes_eq, map, slice_get}
 use Rattle.std.specs.List.{list_any, list_all}
@@ -45,7 +45,7 @@ yes p = (λ e. p, λ h. refl)
 no : {P : Type 0} → (P → ⊥) → Decides false P
 no f = (λ e. absurd (cc), λ h. absurd (f h))
 
--- what is in a list after its first is in the list, and what is in the list is the first or after it
+-- the elements of a list are its first and those after it
 pub in_front : {X : Type 0} (x : X) (xs : List X) → Contains (x ∷ xs) x
 in_front x xs = (0, omega arith, refl)
 
@@ -80,7 +80,7 @@ module _ {X : Type 0} (f : X → Bool) (P : X → Type 0) (each : (x : X) → De
       to : ((y : X) → Contains (x ∷ xs) y → P y) → P x × ((y : X) → Contains xs y → P y)
       to h = (h x (in_front x xs), λ y c. h y (in_rest x y xs c))
 
--- if the first, then the second
+-- if the first test passes, so does the second
 if_decides : {P Q : Type 0} (a b : Bool) → Decides a P → Decides b Q → Decides (not a || b) (P → Q)
 if_decides true b d k = (λ e p. k.0 e, λ f. k.1 (f (d.0 refl)))
 if_decides false b d k = (λ e p. let h : false ≡ true = d.1 p in absurd (cc), λ f. refl)
@@ -210,7 +210,7 @@ readonly_decides rules r =
     all_decides (λ p. not (may_meet p r) || only_reads r.access) (λ p. MayMeet p r → r.access ≡ Reads)
     (λ p. if_decides (may_meet p r) (only_reads r.access) (meet_decides r p) (reads_decides r.access)) rules.readonly
 
--- whether `$JOB` stands at each place of `$J`
+-- whether `$JOB` is at each index of `$J`
 job_decides : (o : Option Sym) → Decides (is_job o) (o ≡ Some Job)
 job_decides None = no (λ e. cc)
 job_decides (Some (Const constant)) = no (λ e. cc)
@@ -302,7 +302,7 @@ covers_decide rules held r =
     all_decides (λ (c : Cover). not (may_meet c.pattern r) || satisfies held r c) (λ (c : Cover). MayMeet c.pattern r → Satisfies held r c)
     (λ (c : Cover). if_decides (may_meet c.pattern r) (satisfies held r c) (meet_decides r c.pattern) (satisfied_decides held r c)) rules.covers
 
--- the answer that four tests give
+-- the answer of four tests
 abbrev pub by_tests : Bool → Bool → Bool → Bool → Option Code
 by_tests a b c d =
     if a then (if b then (if c then (if d then None else Some code.Uncovered) else Some code.NotPrivate) else Some code.ReadOnly) else Some code.Unruled

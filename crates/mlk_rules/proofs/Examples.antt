@@ -1,5 +1,5 @@
 -- Worked examples, with answers from outside the program: the rules `^ACCT(id,...)` by `^ACCT(id)` with rank 10 of
--- `^ACCT`, and `^CONF(...)` read alone.
+-- `^ACCT`, and `^CONF(...)` read only.
 use Rattle.std.proofs.Common.{◌≡◌, List, [], ◌∷◌, ◌++◌, inl, inr, refl, sym, subst, arith}
 use Rattle.std.specs.Prelude.{Some, None, codes, Contains}
 use Rattle.std.specs.List.{AllZip}
@@ -79,7 +79,7 @@ no_front (s ∷ front) rest z e = cc
 pub whole_does_not_lie : SurelyLies below_an_account (written []) → ⊥
 whole_does_not_lie h = no_front h.front h.rest h.suits h.subs
 
--- covers of accounts, which free reads or not
+-- covers of accounts, with free reads and without
 abbrev accounts : ReadPolicy → Cover
 accounts policy = record { pattern = below_an_account; lock = by_account; also = None; reads = policy }
 
@@ -98,7 +98,7 @@ pub no_free_write : answer (covered_by (accounts Free ∷ [])) [] (written (Loca
 unfolding answer
 no_free_write = refl
 
--- beside a cover that asks for a lock, it is no use that another one frees reads
+-- if another cover requires a lock, a cover that frees reads does not help
 pub locked_beside_free : answer (covered_by (accounts Free ∷ accounts Locked ∷ [])) [] (read (Local (codes "ID") ∷ [])) ≡ Some Uncovered
 unfolding answer
 locked_beside_free = refl

@@ -75,7 +75,7 @@ first_one fs j k m n =
       ]
     ]
 
--- none is told where all are apart
+-- none is found if all are apart
 pub none_met : (found : Option ℕ) (b : Bool) (fs : List Family) → MatchOption found (FamiliesApart fs) (IsFirstMeeting fs) → is_some found ≡ not b
     → IsTrue b ↔ FamiliesApart fs
 none_met None true fs h e = (λ is. h, λ apart. refl)

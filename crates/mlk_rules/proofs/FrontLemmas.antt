@@ -1,4 +1,4 @@
--- Elements and subscripts from the front on.
+-- Elements and subscripts, from the first on.
 use Rattle.std.proofs.Common.{◌≡◌, ◌↔◌, ℕ, List, [], ◌∷◌, ◌++◌, Option, Some, None, length, arith, refl, ap, subst}
 use Rattle.std.specs.Prelude.{map}
 use Rattle.std.specs.List.{AllZip}
@@ -27,14 +27,14 @@ pub no_symbols : (es : List Element) → length es ≡ 0 → length (map symbol_
 no_symbols [] h = refl
 no_symbols (e ∷ es) h = absurd (omega arith)
 
--- where no element is left, some symbols are, and the pattern does not go on, nothing is met
+-- if no element is left, some symbols are, and the pattern is a node, nothing is met
 pub meet_ends : (es : List Element) (wide : Extent) (ss : List Sym) (far : Extent) → length es ≡ 0 → (length ss ≡ 0 → ⊥) → (wide ≡ Tree → ⊥) → SubsMayMeet (map symbol_of es) wide ss far → ⊥
 meet_ends [] wide [] far h some node m = some refl
 meet_ends [] Tree (s ∷ ss) far h some node m = node refl
 meet_ends [] Node (s ∷ ss) far h some node m = subs_meet_not_below far s ss m
 meet_ends (e ∷ es) wide ss far h some node m = absurd (omega arith)
 
--- what an element takes is what its symbol may be
+-- an element takes the values that its symbol may be
 pub takes_may_be : (es : List Element) (vs : List (List ℕ)) → AllZip Takes es vs → AllZip MayBe (map symbol_of es) vs
 takes_may_be [] [] h = tt
 takes_may_be [] (v ∷ vs) h = absurd h
@@ -51,7 +51,7 @@ may_be_takes (element.Literal value ∷ es) (v ∷ vs) h = (h.0, may_be_takes es
 may_be_takes (element.Variable ∷ es) (v ∷ vs) h = (tt, may_be_takes es vs h.1)
 may_be_takes (element.Job ∷ es) (v ∷ vs) h = (tt, may_be_takes es vs h.1)
 
--- a front that no element asks for is none
+-- if no element is left, neither is a symbol that suits one
 stays_after : (wide far : Extent) (subs front rest : List Sym) → AllZip Suits [] front → front ++ rest ≡ subs → StaysIn wide far rest → StaysIn wide far subs
 stays_after wide far subs [] rest z e h =
     let P : List Sym → Type 0 = λ xs. StaysIn wide far xs in subst P e h

@@ -84,7 +84,7 @@ gains_put rules name n g old new is group put =
     let R : RuleLists → Type 0 = λ r. Gains rules name old (old ++ (name, r) ∷ []) in
     subst P (sym put) (subst Q (sym is) (subst R (sym group) (gains_new rules name old)))
 
--- what is found is the group, or there is none
+-- the group is what is found, or there is none
 pub is_group : (rules : RuleLists) (groups : Table) (name : List ℕ) → AreKept rules groups → (o : Option RuleLists) → group_of name groups ≡ o → IsGroup rules name o
 is_group rules groups name kept None is = record {
   covers = λ c in' e. lacks c.pattern.global e (kept.complete.covers c in');

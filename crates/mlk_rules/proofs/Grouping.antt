@@ -17,7 +17,7 @@ use Rattle.mlk_rules.specs.Groups.{covers_of, of_global, HasNoRule}
 use Rattle.mlk_rules.proofs.MeetLemmas.{meet_root}
 use Rattle.mlk_rules.proofs.Computing.{in_front, in_rest, in_list}
 
--- what a filter leaves: what passes the test, and nothing else
+-- a filter keeps exactly the elements that pass the test
 module _ {X : Type 0} (f : X → Bool) where
   left : (xs : List X) (x : X) → Contains (filter f xs) x → Contains xs x
   left [] x h = h
@@ -116,7 +116,7 @@ module _ (rules : RuleLists) (r : Reference) where
   unruled none (p, OfPrivate is, h) = none.private p is (sym ((bytes_eq-Decides r.root p.global).0 (for_named p r h)))
   unruled none (p, OfReadonly is, h) = none.readonly p is (sym ((bytes_eq-Decides r.root p.global).0 (for_named p r h)))
 
-  -- what is lacking by the group's covers is all that is lacking
+  -- what is missing by the group's covers is all that is missing
   pub lacking_out : (held : List LockTerm) (covers : List Cover) (ts : List LockTerm) → AreLacking held r (covers_of r.root covers) ts → AreLacking held r covers ts
   lacking_out held [] ts h = h
   lacking_out held (c ∷ cs) ts h =
@@ -136,7 +136,7 @@ module _ (rules : RuleLists) (r : Reference) where
   none_lacking held (c ∷ cs) none =
       ([], [], refl, inr (λ l. none c (in_front c cs) (meet_root c.pattern r l.0), refl), none_lacking held cs (λ d is. none d (in_rest c d cs is)))
 
--- what is answered, in the words of all rules
+-- the answer, stated for all rules
 pub answer_ok : (rules : RuleLists) (held : List LockTerm) (r : Reference) (g : RuleLists) (found : Result (Unit {0}) Code) → g ≡ of_global rules r.root → OnOk found (IsAnswer g held r None) → OnOk found (IsAnswer rules held r None)
 answer_ok rules held r g (Ok x) e h =
     let P : RuleLists → Type 0 = λ l. IsAnswer l held r None in answer_out rules r held None (subst P e h)
@@ -147,7 +147,7 @@ answer_err rules held r g (Ok x) e h = tt
 answer_err rules held r g (Err y) e h =
     let P : RuleLists → Type 0 = λ l. IsAnswer l held r (Some y) in answer_out rules r held (Some y) (subst P e h)
 
--- what is lacking, in the words of all rules
+-- the missing locks, stated for all rules
 pub lacking_ok : {E A : Type 0} (rules : RuleLists) (held : List LockTerm) (r : Reference) (cs : List Cover) (found : Result (Vec LockTerm A) E) → cs ≡ (of_global rules r.root).covers → IfOk found (λ v. AreLacking held r cs v.items) → IfOk found (λ v. AreLacking held r rules.covers v.items)
 lacking_ok rules held r cs (Ok v) e h =
     let P : List Cover → Type 0 = λ l. AreLacking held r l v.items in lacking_out rules r held rules.covers v.items (subst P e h)

@@ -1,4 +1,4 @@
--- Held terms that begin a rule's lock stand for names at or above the lock of a node.
+-- Held terms that begin a rule's lock denote names at or above the lock of a node.
 use Rattle.std.proofs.Common.{◌≡◌, ℕ, List, [], ◌∷◌, Option, Some, None, refl, sym, ◌∙◌, subst}
 use Rattle.std.specs.Prelude.{map, slice_get}
 use Rattle.std.specs.Option.{option_and_then}
@@ -46,7 +46,7 @@ known_is Job k e =
 known_is Unknown k e = cc
 
 module _ (a : Assignment) (symbols : List Sym) (values all : List (List ℕ)) (stand : AllZip (StandsFor a) symbols values) (begin : Begins values all) where
-  -- a part that is known at the reference is there at the node, and the symbol stands for it
+  -- a part that is known at the reference is in the node, and the symbol denotes it
   at_place : (k : ℕ) (s : KnownSym) (o : Option Sym) → slice_get symbols k ≡ o → option_and_then known_of o ≡ Some s → (v : List ℕ) × (slice_get all k ≡ Some v) × StandsFor a (sym_of s) v
   at_place k s None e f = cc
   at_place k s (Some x) e f =
@@ -81,7 +81,7 @@ module _ (a : Assignment) (symbols : List Sym) (values all : List (List ℕ)) (s
           let at : value_at all p ≡ Some w.0 = w.1 in
           rw (at) (begins_cons v w.0 vs (before_missing (map (value_at all) ps)) i j)
 
--- a term that begins the rule's lock at a reference stands for a name at or above the lock of a node that it reaches
+-- a term that begins the rule's lock at a reference denotes a name at or above the lock of a node that it reaches
 cut_above : (lock : Template) (n : GlobalNode) (a : Assignment) (r : Reference) (t : Touch) (h : LockTerm) (x : LockName) → Touches a r t → InRegion t.region n → IsPrefix h (cut_template lock r) → Names a h x → IsAbove x (lock_at lock n)
 cut_above lock n a r t h x touches i p names = record {
   root = names.root ∙ p.root;

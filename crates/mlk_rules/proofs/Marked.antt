@@ -1,4 +1,4 @@
--- A local that no held term mentions may become unknown in a reference: its answer stays.
+-- A local that no held term mentions may become unknown in a reference: the answer for it stays the same.
 use Rattle.std.proofs.Common.{◌≡◌, ◌⊎◌, inl, inr, ℕ, zero, suc, Bool, false, not, ◌&&◌, ◌||◌, List, [], ◌∷◌, map, Option, Some, None, refl, sym, ap, ◌∙◌, subst}
 use Rattle.std.specs.Prelude.{Contains, bytes_eq, slice_get}
 use Rattle.std.specs.Option.{option_and_then}
@@ -104,7 +104,7 @@ module _ (n : List ℕ) where
       ap (own_subs es) (rest_same ss) ∙ own_same es (after_first ss) in
       ap (λ b. b && own_subs es (after_first (map (mark n) ss))) (first_same ss) ∙ ap (λ b. is_job (first_of ss) && b) others
 
-  -- a subscript of a rule's lock is as it was, or was this local and is missing
+  -- a subscript of a rule's lock is unchanged, or was this local and is missing
   got : (ss : List Sym) (k : ℕ) → (option_and_then known_of (slice_get (map (mark n) ss) k) ≡ option_and_then known_of (slice_get ss k))
       ⊎ ((option_and_then known_of (slice_get (map (mark n) ss) k) ≡ None) × (option_and_then known_of (slice_get ss k) ≡ Some (known.Local n)))
   got [] k = inl refl

@@ -19,14 +19,14 @@ use Rattle.mlk_rules.specs.Coverage.{IsPattern, IsRuled}
 use Rattle.mlk_rules.specs.Laws.{SurelyLiesWhole, SharesPattern, SharePattern}
 use Rattle.mlk_rules.proofs.Places.{zip_split, zip_append, zip_through, begins_trans, begins_more}
 
--- an element takes each value that a symbol may be that suits it
+-- an element takes each value of a symbol that suits it
 takes : (e : Element) (s : Sym) (v : List ℕ) → Suits e s → MayBe s v → Takes e v
 takes (element.Literal value) s v suits may =
     let P : Sym → Type 0 = λ x. MayBe x v in subst P suits may
 takes element.Variable s v suits may = tt
 takes element.Job s v suits may = tt
 
--- what goes no further than the pattern reaches what the pattern does
+-- what reaches no further than the pattern reaches only what the pattern does
 stays : (near far : Extent) (rest : List Sym) (own more ws : List (List ℕ)) → StaysIn near far rest → AllZip MayBe rest more → Reaches far (own ++ more) ws → Reaches near own ws
 stays Tree Node rest own more ws s z h = record { tail = more; is = sym h }
 stays Tree Tree rest own more ws s z h = begins_trans own (own ++ more) ws (begins_more own more) h
@@ -77,7 +77,7 @@ below_above p s u l m =
       );
     }
 
--- two trees that are surely above patterns, of which the first begins the second: the second's pattern is met below
+-- two trees that are surely above patterns, the first of which begins the second: the second's pattern is met below
 meets_below : (rules : RuleLists) (r s : Reference) (t u : Region) (q : Pattern) → IsPattern rules q → SurelyAbove q s → MayReach r t → MayReach s u → r.extent ≡ Tree → t.node.root ≡ u.node.root → Begins t.node.subs u.node.subs → SharesPattern rules r s t u
 meets_below rules r s t u q is above m k tree root b =
     let w = below_above q s u above k in
@@ -113,7 +113,7 @@ turned rules r s t u h = record {
   meets_second = h.meets_first;
 }
 
--- the shared node itself, where the first reference surely lies in a pattern
+-- the shared node itself, if the first reference surely lies in a pattern
 meets_here : (rules : RuleLists) (r s : Reference) (t u : Region) (p : Pattern) (n : GlobalNode) → IsPattern rules p → SurelyLies p r → MayReach r t → MayReach s u → InRegion t n → InRegion u n → SharesPattern rules r s t u
 meets_here rules r s t u p n is lies m k i j =
     let l = surely_lies p r t n lies m i in

@@ -1,11 +1,11 @@
--- Lists place by place.
+-- Lists element by element.
 use Rattle.std.proofs.Common.{◌≡◌, ℕ, zero, suc, List, [], ◌∷◌, ◌++◌, Some, refl, sym, ap, ◌∙◌, subst, append_assoc}
 use Rattle.std.specs.Prelude.{slice_get}
 use Rattle.std.specs.List.{AllZip}
 use Rattle.mlk_names.specs.Lists.{Begins}
 use Rattle.mlk_names.proofs.ListLemmas.{begins_past, begins_head, begins_tail}
 
--- what a relation along an appended list makes of the other list
+-- a relation along an appended list splits the other list
 pub record Split {X Y : Type 0} (R : X → Y → Type 0) (xs xs' : List X) (ys : List Y) : Type 0 where
   pub front : List Y
   pub rest : List Y
@@ -26,7 +26,7 @@ zip_append R [] xs' (y ∷ ys) ys' h k = absurd h
 zip_append R (x ∷ xs) xs' [] ys' h k = absurd h
 zip_append R (x ∷ xs) xs' (y ∷ ys) ys' h k = (h.0, zip_append R xs xs' ys ys' h.1 k)
 
--- two relations along one list make a third one along the other two
+-- two relations along one list compose to a third along the other two
 pub zip_through : {X Y Z : Type 0} (R : X → Y → Type 0) (S : Y → Z → Type 0) (Q : X → Z → Type 0) → ((x : X) (y : Y) (z : Z) → R x y → S y z → Q x z) → (xs : List X) (ys : List Y) (zs : List Z) → AllZip R xs ys → AllZip S ys zs → AllZip Q xs zs
 zip_through R S Q f [] [] [] h k = tt
 zip_through R S Q f [] [] (z ∷ zs) h k = absurd k
@@ -35,7 +35,7 @@ zip_through R S Q f (x ∷ xs) [] zs h k = absurd h
 zip_through R S Q f (x ∷ xs) (y ∷ ys) [] h k = absurd k
 zip_through R S Q f (x ∷ xs) (y ∷ ys) (z ∷ zs) h k = (f x y z h.0 k.0, zip_through R S Q f xs ys zs h.1 k.1)
 
--- the second list has at a place what the relation ties to the first one's
+-- the second list has at an index what is related to the first one's element there
 pub zip_at : {X Y : Type 0} (R : X → Y → Type 0) (xs : List X) (ys : List Y) (k : ℕ) (x : X) → AllZip R xs ys → slice_get xs k ≡ Some x → (y : Y) × (slice_get ys k ≡ Some y) × R x y
 zip_at R [] ys k x h e = cc
 zip_at R (x' ∷ xs) [] k x h e = absurd h

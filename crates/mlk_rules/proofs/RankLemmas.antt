@@ -1,4 +1,4 @@
--- Where no two families meet, ranks are one.
+-- If no two families meet, each name has one rank.
 use Rattle.std.proofs.Common.{◌≡◌, ◌↔◌, ◌⊎◌, inl, inr, ℕ, ◌<◌, List, [], ◌∷◌, Some, length, arith, refl, sym, ap, ◌∙◌, subst}
 use Rattle.std.specs.Prelude.{map, Contains, slice_index_or}
 use Rattle.std.specs.List.{AllZip}
@@ -23,7 +23,7 @@ use Rattle.mlk_rules.proofs.Places.{begins_trans}
 above_trans : (m n o : LockName) → IsAbove m n → IsAbove n o → IsAbove m o
 above_trans m n o h k = record { root = h.root ∙ k.root; subs = begins_trans m.subs n.subs o.subs h.subs k.subs }
 
--- constants stand for themselves
+-- constants denote themselves
 constants_stand : (a : Assignment) (vs : List (List ℕ)) → AllZip (λ s v. StandsFor a (sym_of s) v) (map Const vs) vs
 constants_stand a [] = tt
 constants_stand a (v ∷ vs) = (refl, constants_stand a vs)

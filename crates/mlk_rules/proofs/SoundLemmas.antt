@@ -1,4 +1,4 @@
--- What lists of rules keep, from the front on.
+-- What lists of rules keep, from the first on.
 use Rattle.std.proofs.Common.{◌≡◌, ◌↔◌, ℕ, zero, suc, Bool, true, List, ◌∷◌, Some, [], length, arith, refl, subst}
 use Rattle.std.specs.Prelude.{◌==◌, ◌&&◌, Contains, slice_get}
 use Rattle.std.specs.List.{list_all, count_by}
@@ -15,7 +15,7 @@ use Rattle.mlk_rules.specs.Sound.{is_job, is_family, is_sound_pattern, is_cover,
 use Rattle.mlk_rules.specs.Laws.{PrivateByJob}
 use Rattle.mlk_rules.proofs.Computing.{in_front, in_rest, all_decides}
 
--- each element of the list, at its place
+-- each element of the list, at its index
 abbrev pub Each : {X : Type 0} → (X → Type 0) → List X → Type 0
 Each {X} P xs = (k : ℕ) (x : X) → slice_get xs k ≡ Some x → P x
 
@@ -36,14 +36,14 @@ Meets f fs = (g : Family) × Contains fs g × Conflict f.name g.name
 pub apart_none : (fs : List Family) → length fs ≡ 0 → FamiliesApart fs
 apart_none fs h i j d below within = absurd (omega arith)
 
--- the test holds of all, where it holds of each
+-- the test passes for all, if it passes for each
 pub all_each : {X : Type 0} (f : X → Bool) (xs : List X) → Each (λ x. f x ≡ true) xs → list_all f xs ≡ true
 all_each f [] h = refl
 all_each f (x ∷ xs) h =
     let first : f x ≡ true = h 0 x refl in
     rw first (all_each f xs (λ k y i. h (suc k) y i))
 
--- where `$J` is counted, it stands
+-- if `$J` is counted, it occurs
 job_in : (es : List Element) (n : ℕ) → count_by is_job es ≡ suc n → Contains es element.Job
 job_in [] n h = cc h
 job_in (element.Literal value ∷ es) n h = in_rest (element.Literal value) element.Job es (job_in es n h)

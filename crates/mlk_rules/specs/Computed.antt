@@ -1,5 +1,5 @@
--- The answer of `Coverage`, computed place by place, for those who have to name it; that it is the answer is a law.
--- This project's own choice.
+-- The answer of `Coverage`, computed subscript by subscript, for definitions that have to name it; a law says that it is the
+-- answer. This project's own choice.
 use Rattle.std.specs.Prelude.{Bool, true, false, not, ◌&&◌, ◌||◌, if◌then◌else◌, List, [], ◌∷◌, Option, Some, None, bytes_eq}
 use Rattle.std.specs.List.{list_any, list_all}
 use Rattle.mlk_text.specs.declared.code.Code.{Code}
@@ -26,7 +26,7 @@ use Rattle.mlk_rules.specs.declared.cover.ReadPolicy.TheVariants.{Locked, Free}
 use Rattle.mlk_rules.specs.declared.rules.RuleLists.{RuleLists}
 use Rattle.mlk_rules.specs.Coverage.{cut_template, locks_of}
 
--- a tree goes on below its node
+-- a tree continues below its node
 abbrev pub goes_on : Extent → Bool
 goes_on Node = false
 goes_on Tree = true
@@ -49,7 +49,7 @@ subs_may_meet (e ∷ es) wide (s ∷ ss) far = may_be_same e s && subs_may_meet 
 abbrev pub may_meet : Pattern → Reference → Bool
 may_meet p r = bytes_eq p.global r.root && subs_may_meet p.elements p.extent r.subs r.extent
 
--- the symbol surely is what the element asks for
+-- the symbol surely is a value that the element takes
 abbrev pub suits : Element → Sym → Bool
 suits (element.Literal value) (Const constant) = bytes_eq constant value
 suits (element.Literal value) (Local name) = false
@@ -98,7 +98,7 @@ only_reads Writes = false
 abbrev pub keeps_readonly : RuleLists → Reference → Bool
 keeps_readonly rules r = list_all (λ p. not (may_meet p r) || only_reads r.access) rules.readonly
 
--- `$JOB` stands at each place of `$J`
+-- `$JOB` is wherever `$J` is
 abbrev pub is_job : Option Sym → Bool
 is_job None = false
 is_job (Some (Const constant)) = false
@@ -156,7 +156,7 @@ abbrev pub hold_locks : Access → List LockTerm → Reference → List Template
 hold_locks Writes held r locks = list_all (holds_lock held r) locks
 hold_locks Reads held r locks = list_any (holds_lock held r) locks
 
--- a rule that frees reads asks for nothing of a read
+-- a rule that makes reads free requires nothing of a read
 abbrev pub is_free : ReadPolicy → Access → Bool
 is_free Free Reads = true
 is_free Free Writes = false

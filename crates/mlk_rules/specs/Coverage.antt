@@ -25,7 +25,7 @@ use Rattle.mlk_rules.specs.declared.cover.ReadPolicy.TheVariants.{Free}
 use Rattle.mlk_rules.specs.declared.rules.RuleLists.{RuleLists}
 use Rattle.mlk_rules.specs.Patterns.{MayMeet, SurelyLies, SurelyAbove}
 
--- what stands before the first that is missing
+-- what precedes the first missing one
 abbrev pub before_missing : {X : Type 0} → List (Option X) → List X
 before_missing [] = []
 before_missing (None ∷ xs) = []
@@ -36,16 +36,16 @@ abbrev pub value_at : List (List ℕ) → TemplatePart → Option (List ℕ)
 value_at subs (Literal value) = Some value
 value_at subs (Place k) = slice_get subs k
 
--- the rule's lock at a node: each variable is the node's subscript, up to the first that it lacks
+-- the rule's lock at a node: each variable is the node's subscript, up to the first that the node does not have
 abbrev pub lock_at : Template → GlobalNode → LockName
 lock_at lock n = record { root = lock.root; subs = before_missing (map (value_at n.subs) lock.parts) }
 
--- a part of a rule's lock at a reference, whose subscript at its place may be absent or unknown
+-- a part of a rule's lock at a reference, whose subscript at its place may be missing or unknown
 abbrev pub symbol_at : List Sym → TemplatePart → Option KnownSym
 symbol_at subs (Literal value) = Some (known.Const value)
 symbol_at subs (Place k) = option_and_then known_of (slice_get subs k)
 
--- the cut template: each variable is the reference's subscript, up to the first that is absent or unknown
+-- the cut template: each variable is the reference's subscript, up to the first that is missing or unknown
 abbrev pub cut_template : Template → Reference → LockTerm
 cut_template lock r = record { root = lock.root; subs = before_missing (map (symbol_at r.subs) lock.parts) }
 
@@ -53,7 +53,7 @@ cut_template lock r = record { root = lock.root; subs = before_missing (map (sym
 abbrev pub HoldsLock : List LockTerm → Template → Reference → Type 0
 HoldsLock held lock r = (h : LockTerm) × Contains held h × IsPrefix h (cut_template lock r)
 
--- the second lock of a rule, where it has two
+-- the second lock of a rule, if it has two
 abbrev pub second_of : Option Template → List Template
 second_of None = []
 second_of (Some lock) = lock ∷ []
@@ -67,7 +67,7 @@ abbrev pub HoldLocks : Access → List LockTerm → Reference → List Template 
 HoldLocks Writes held r locks = (lock : Template) → Contains locks lock → HoldsLock held lock r
 HoldLocks Reads held r locks = (lock : Template) × Contains locks lock × HoldsLock held lock r
 
--- the rule frees reads, and the reference reads
+-- the rule makes reads free, and the reference is a read
 abbrev pub IsFreeRead : Cover → Reference → Type 0
 IsFreeRead c r = (c.reads ≡ Free) × (r.access ≡ Reads)
 
@@ -75,7 +75,7 @@ IsFreeRead c r = (c.reads ≡ Free) × (r.access ≡ Reads)
 abbrev pub Satisfies : List LockTerm → Reference → Cover → Type 0
 Satisfies held r c = IsFreeRead c r ⊎ HoldLocks r.access held r (locks_of c)
 
--- the job's own number stands at each place of `$J`
+-- the job's own number is wherever `$J` is
 abbrev pub IsOwn : Pattern → Reference → Type 0
 IsOwn p r = (k : ℕ) → slice_get p.elements k ≡ Some element.Job → slice_get r.subs k ≡ Some Job
 
@@ -85,7 +85,7 @@ pub data IsPattern (rules : RuleLists) (p : Pattern) : Type 0 where
   OfPrivate : Contains rules.private p → IsPattern rules p
   OfReadonly : Contains rules.readonly p → IsPattern rules p
 
--- the pattern is a rule for all of the reference, which surely lies in it, or is a tree surely above it
+-- the pattern is a rule for all of the reference: it surely lies in it, or is a tree that surely lies above it
 abbrev pub IsFor : Reference → Pattern → Type 0
 IsFor r p = SurelyLies p r ⊎ SurelyAbove p r
 
@@ -93,7 +93,7 @@ IsFor r p = SurelyLies p r ⊎ SurelyAbove p r
 abbrev pub IsRuled : RuleLists → Reference → Type 0
 IsRuled rules r = (p : Pattern) × IsPattern rules p × IsFor r p
 
--- it writes nothing that is never written
+-- it does not write what is never written
 abbrev pub KeepsReadonly : RuleLists → Reference → Type 0
 KeepsReadonly rules r = (p : Pattern) → Contains rules.readonly p → MayMeet p r → r.access ≡ Reads
 
@@ -101,7 +101,7 @@ KeepsReadonly rules r = (p : Pattern) → Contains rules.readonly p → MayMeet 
 abbrev pub EachIsOwn : List Pattern → Reference → Type 0
 EachIsOwn patterns r = (p : Pattern) → Contains patterns p → MayMeet p r → IsOwn p r
 
--- it meets what jobs have to themselves by its own number alone
+-- it meets what is private to jobs only by its own number
 abbrev pub KeepsPrivate : RuleLists → Reference → Type 0
 KeepsPrivate rules r = EachIsOwn rules.private r
 
@@ -120,8 +120,8 @@ pub record IsCovered (rules : RuleLists) (held : List LockTerm) (r : Reference) 
   pub private : KeepsPrivate rules r
   pub covers : KeepsCovers rules held r
 
--- What is wrong with a reference, the first of these: it is in no rule, writes what is never written, is not surely
--- the job's own, or lacks a lock.
+-- What is wrong with a reference, the first of these: it is in no rule, it writes what is never written, it is not surely the
+-- job's own, or a lock is missing.
 abbrev pub IsAnswer : RuleLists → List LockTerm → Reference → Option Code → Type 0
 IsAnswer rules held r None = IsCovered rules held r
 IsAnswer rules held r (Some Unruled) = ¬ IsRuled rules r
@@ -135,7 +135,7 @@ IsAnswer rules held r (Some _) = ⊥
 abbrev pub Lacks : List LockTerm → Reference → Cover → Type 0
 Lacks held r c = MayMeet c.pattern r × ¬ Satisfies held r c
 
--- the locks that would satisfy a rule: of a write all of them, of a read the first
+-- the locks that would satisfy a rule: all of them for a write, the first for a read
 abbrev pub asked : Access → Cover → List Template
 asked Writes c = locks_of c
 asked Reads c = c.lock ∷ []
@@ -148,12 +148,12 @@ AreMissing held r (lock ∷ locks) ts =
     ⊎ (¬ HoldsLock held lock r
     × ((rest : List LockTerm) × (ts ≡ cut_template lock r ∷ rest) × AreMissing held r locks rest))
 
--- what is lacking of a rule
+-- the missing locks of a rule
 abbrev pub AreLackingOf : List LockTerm → Reference → Cover → List LockTerm → Type 0
 AreLackingOf held r c ts =
     (Lacks held r c × AreMissing held r (asked r.access c) ts) ⊎ (¬ Lacks held r c × (ts ≡ []))
 
--- what is lacking of each rule, in their order
+-- the missing locks of each rule, in the order of the rules
 abbrev pub AreLacking : List LockTerm → Reference → List Cover → List LockTerm → Type 0
 AreLacking held r [] ts = ts ≡ []
 AreLacking held r (c ∷ cs) ts =

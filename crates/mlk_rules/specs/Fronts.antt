@@ -1,5 +1,5 @@
--- Elements and subscripts from the front on, apart from the names of the globals. For private clauses alone: what public
--- calls promise stands in `Patterns` and `Coverage`. This project's own choice.
+-- Elements and subscripts from the front on, without the names of the globals. For private clauses only: the contracts of
+-- public calls use `Patterns` and `Coverage`. This project's own choice.
 use Rattle.std.specs.Prelude.{◌≡◌, ℕ, List, ◌++◌, Some, map, slice_get}
 use Rattle.std.specs.List.{AllZip}
 use Rattle.mlk_names.specs.declared.symbol.Sym.{Sym}
@@ -14,7 +14,7 @@ use Rattle.mlk_rules.specs.declared.template.TemplatePart.{TemplatePart}
 use Rattle.mlk_rules.specs.Patterns.{Suits, StaysIn}
 use Rattle.mlk_rules.specs.Coverage.{before_missing, symbol_at}
 
--- an element as a symbol that may be what it takes: all but a literal may be any value
+-- an element as a symbol with the values that it takes: any value, unless it is a literal
 abbrev pub symbol_of : Element → Sym
 symbol_of (element.Literal value) = Const value
 symbol_of element.Variable = Unknown
@@ -35,11 +35,11 @@ pub record SubsAbove (es : List Element) (subs : List Sym) : Type 0 where
   pub is : front ++ rest ≡ es
   pub suits : AllZip Suits front subs
 
--- `$JOB` stands at each place of `$J`
+-- `$JOB` is wherever `$J` is
 abbrev pub OwnSubs : List Element → List Sym → Type 0
 OwnSubs es subs = (k : ℕ) → slice_get es k ≡ Some element.Job → slice_get subs k ≡ Some Job
 
--- to these terms some were added, of which this holds
+-- some terms were added to these, with a given property
 abbrev pub Gained : (List LockTerm → Type 0) → List LockTerm → List LockTerm → Type 0
 Gained P old new = (ts : List LockTerm) × (new ≡ old ++ ts) × P ts
 

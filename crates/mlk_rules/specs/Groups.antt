@@ -1,5 +1,5 @@
--- Rules by the global that their patterns name, so that a reference asks those of its own global alone. For private
--- clauses alone: no public call speaks of groups. This project's own choice.
+-- Rules grouped by the global of their patterns, so that a reference looks only at those of its own global. For private
+-- clauses only: no public contract mentions groups. This project's own choice.
 use Rattle.std.specs.Prelude.{◌≡◌, ◌≢◌, ℕ, true, if◌then◌else◌, List, [], ◌∷◌, Option, Some, None, Contains, bytes_eq, is_some}
 use Rattle.std.specs.List.{filter}
 use Rattle.mlk_rules.specs.declared.pattern.Pattern.{Pattern}
@@ -13,7 +13,7 @@ covers_of name covers = filter (λ (c : Cover). bytes_eq name c.pattern.global) 
 abbrev pub patterns_of : List ℕ → List Pattern → List Pattern
 patterns_of name patterns = filter (λ (p : Pattern). bytes_eq name p.global) patterns
 
--- the rules for one global, in their order; families and entries are of none
+-- the rules for one global, in order, without families and entries
 abbrev pub of_global : RuleLists → List ℕ → RuleLists
 of_global rules name =
     record {
@@ -40,7 +40,7 @@ AreGroups rules groups = (name : List ℕ) (g : RuleLists) → group_of name gro
 abbrev pub HasGroup : Table → List ℕ → Type 0
 HasGroup groups name = is_some (group_of name groups) ≡ true
 
--- each global that a rule names has one
+-- each global in a rule has one
 pub record AreComplete (rules : RuleLists) (groups : Table) : Type 0 where
   pub covers : (c : Cover) → Contains rules.covers c → HasGroup groups c.pattern.global
   pub private : (p : Pattern) → Contains rules.private p → HasGroup groups p.global
@@ -52,7 +52,7 @@ pub record Gains (rules : RuleLists) (name : List ℕ) (old new : Table) : Type 
   pub has : HasGroup new name
   pub keeps : (other : List ℕ) → HasGroup old other → HasGroup new other
 
--- the global is named by one of the patterns, or by that of one of the covers
+-- the global is that of one of the patterns, or of the pattern of one of the covers
 abbrev pub NamedByPatterns : List Pattern → List ℕ → Type 0
 NamedByPatterns patterns name = (p : Pattern) × Contains patterns p × (p.global ≡ name)
 
@@ -65,19 +65,19 @@ pub record GainsAll (rules : RuleLists) (these : List ℕ → Type 0) (old new :
   pub has : (name : List ℕ) → these name → HasGroup new name
   pub keeps : (other : List ℕ) → HasGroup old other → HasGroup new other
 
--- what a set of rules keeps with its groups
+-- the invariant of a set of rules with its groups
 pub record AreKept (rules : RuleLists) (groups : Table) : Type 0 where
   pub sound : IsSound rules
   pub are : AreGroups rules groups
   pub complete : AreComplete rules groups
 
--- no pattern names the global
+-- no pattern is of the global
 pub record HasNoRule (rules : RuleLists) (name : List ℕ) : Type 0 where
   pub covers : (c : Cover) → Contains rules.covers c → c.pattern.global ≢ name
   pub private : (p : Pattern) → Contains rules.private p → p.global ≢ name
   pub readonly : (p : Pattern) → Contains rules.readonly p → p.global ≢ name
 
--- the rules of a global, where a pattern names it
+-- the rules of a global, if a pattern is of it
 abbrev pub IsGroup : RuleLists → List ℕ → Option RuleLists → Type 0
 IsGroup rules name None = HasNoRule rules name
 IsGroup rules name (Some g) = g ≡ of_global rules name

@@ -1,4 +1,4 @@
--- What rules are good for: two jobs never touch one node, of which one writes, unless the other reads it freely; and claims have
+-- The purpose of rules: two jobs never touch the same node, one of them writing, unless the other is a free read; and claims have
 -- an order.
 use Rattle.std.specs.Prelude.{◌≡◌, ◌≢◌, ◌⊎◌, ◌↔◌, if◌then◌else◌, ℕ, List, Option, Contains, bytes_eq, map}
 use Rattle.mlk_text.specs.declared.code.Code.{Code}
@@ -24,7 +24,7 @@ use Rattle.mlk_rules.specs.Coverage.{lock_at, cut_template, IsPattern, IsRuled, 
 use Rattle.mlk_rules.specs.Computed.{answer}
 use Rattle.mlk_rules.specs.Ranks.{HasRank, NameHasRank, FamiliesApart}
 
--- some node that both reach lies in the pattern of a rule, which both may meet
+-- a node that both reach lies in the pattern of a rule, which both may meet
 pub record SharesPattern (rules : RuleLists) (r s : Reference) (g h : Region) : Type 0 where
   pub pattern : Pattern
   pub is_rule : IsPattern rules pattern
@@ -35,23 +35,21 @@ pub record SharesPattern (rules : RuleLists) (r s : Reference) (g h : Region) : 
   pub meets_first : MayMeet pattern r
   pub meets_second : MayMeet pattern s
 
--- Two ruled references that overlap, each as it stands in a job of its own, share a node of a rule's pattern, which
--- both may meet.
+-- Two ruled references that overlap, each in a job of its own, have a common node in a rule's pattern, which both may meet.
 abbrev pub SharePattern : Type 0
 SharePattern =
     (rules : RuleLists) (a b : Assignment) (r s : Reference) (t u : Touch)
     → IsRuled rules r → IsRuled rules s → Touches a r t → Touches b s u → Overlap t.region u.region
     → SharesPattern rules r s t.region u.region
 
--- All that a reference may reach lies in each pattern in which it surely lies.
+-- Everything that a reference may reach lies in each pattern in which it surely lies.
 abbrev pub SurelyLiesWhole : Type 0
 SurelyLiesWhole =
     (p : Pattern) (r : Reference) (g : Region) (n : GlobalNode)
     → SurelyLies p r → MayReach r g → InRegion g n → LiesIn p n
 
--- A term that begins a rule's lock as a reference has it stands for a name at or above the rule's lock at each node
--- that the reference reaches; so two such terms, each of a job of its own, stand for names that conflict where both
--- references reach one node.
+-- A term that begins a rule's lock for a reference denotes a name at or above the rule's lock at each node that the reference
+-- reaches; so two such terms, each of a job of its own, denote conflicting names if both references reach a common node.
 pub record LockOfNode (lock : Template) (n : GlobalNode) : Type 0 where
   pub above : (a : Assignment) (r : Reference) (t : Touch) (h : LockTerm) (x : LockName)
       → Touches a r t → InRegion t.region n → IsPrefix h (cut_template lock r) → Names a h x → IsAbove x (lock_at lock n)
@@ -66,7 +64,7 @@ LocksOfNodes = (lock : Template) (n : GlobalNode) → LockOfNode lock n
 abbrev pub PrivateByJob : RuleLists → Type 0
 PrivateByJob rules = (p : Pattern) → Contains rules.private p → Contains p.elements element.Job
 
--- both lists have a term each that stand for names that conflict
+-- both lists have a term that denote conflicting names
 pub record HoldConflict (a : Assignment) (held : List LockTerm) (b : Assignment) (kept : List LockTerm) : Type 0 where
   pub first : LockTerm
   pub second : LockTerm
@@ -78,8 +76,8 @@ pub record HoldConflict (a : Assignment) (held : List LockTerm) (b : Assignment)
 abbrev pub MeetIn : Pattern → Touch → Touch → Type 0
 MeetIn p t u = (n : GlobalNode) × InRegion t.region n × InRegion u.region n × LiesIn p n
 
--- One of two touches reads, and needs no lock against the other: they meet in a cover rule, and each cover rule in which they
--- meet frees reads.
+-- One of two touches is a read, and needs no lock against the other: they meet in a cover rule, and each cover rule in which
+-- they meet makes reads free.
 pub record OneReadsFreely (rules : RuleLists) (t u : Touch) : Type 0 where
   pub reads : (t.access ≡ Reads) ⊎ (u.access ≡ Reads)
   pub cover : Cover
@@ -87,12 +85,12 @@ pub record OneReadsFreely (rules : RuleLists) (t u : Touch) : Type 0 where
   pub meet : MeetIn cover.pattern t u
   pub frees : (c : Cover) → Contains rules.covers c → MeetIn c.pattern t u → c.reads ≡ Free
 
--- no rule frees reads
+-- no rule makes reads free
 abbrev pub FreesNoReads : RuleLists → Type 0
 FreesNoReads rules = (c : Cover) → Contains rules.covers c → c.reads ≡ Locked
 
--- Of two covered references that overlap, each as it is in a job of its own and one of which writes, one reads freely, unless the
--- jobs have one number, or hold names that conflict.
+-- If two covered references of different jobs overlap, one of which is a write, then one is a free read, unless the jobs have the
+-- same number, or hold conflicting names.
 abbrev pub CoveredApart : Type 0
 CoveredApart =
     (rules : RuleLists) (a b : Assignment) (held kept : List LockTerm) (r s : Reference) (t u : Touch)
@@ -101,8 +99,8 @@ CoveredApart =
     → (t.access ≡ Writes) ⊎ (u.access ≡ Writes)
     → a.job ≢ b.job → ¬ HoldConflict a held b kept → OneReadsFreely rules t u
 
--- Where no two families meet: a term has one rank at most, the names that it stands for have it, and names that
--- conflict have one rank.
+-- If no two families meet: a term has at most one rank, the names that it denotes have the same rank, and conflicting names have
+-- one rank.
 pub record RankedOnce (families : List Family) : Type 0 where
   pub once : (t : LockTerm) (j k : ℕ) → HasRank families t j → HasRank families t k → j ≡ k
   pub names : (a : Assignment) (t : LockTerm) (n : LockName) (k : ℕ)
@@ -112,7 +110,7 @@ pub record RankedOnce (families : List Family) : Type 0 where
 abbrev pub OneRank : Type 0
 OneRank = (families : List Family) → FamiliesApart families → RankedOnce families
 
--- Of each reference, whatever is held, there is one answer: the computed one.
+-- For each reference and each list of held terms there is one answer: the computed one.
 pub record HasOneAnswer (rules : RuleLists) (held : List LockTerm) (r : Reference) : Type 0 where
   pub is : IsAnswer rules held r (answer rules held r)
   pub only : (found : Option Code) → IsAnswer rules held r found → found ≡ answer rules held r
@@ -120,19 +118,19 @@ pub record HasOneAnswer (rules : RuleLists) (held : List LockTerm) (r : Referenc
 abbrev pub ComputedAnswers : Type 0
 ComputedAnswers = (rules : RuleLists) (held : List LockTerm) (r : Reference) → HasOneAnswer rules held r
 
--- unknown in place of this local
+-- unknown in place of the given local
 abbrev pub mark : List ℕ → Sym → Sym
 mark name (Const value) = Const value
 mark name (Local other) = if bytes_eq name other then Unknown else Local other
 mark name Job = Job
 mark name Unknown = Unknown
 
--- a reference whose subscripts that are this local are unknown
+-- a reference in which subscripts that are the given local are unknown
 abbrev pub marked : List ℕ → Reference → Reference
 marked name r = record { root = r.root; subs = map (mark name) r.subs; extent = r.extent; access = r.access }
 
--- Where no held term mentions a local, the answer of a reference is the same when its subscripts that are this local
--- become unknown: what was wrong stays wrong, and what was covered stays covered.
+-- If no held term mentions a local, the answer for a reference stays the same when its subscripts that are this local become
+-- unknown: what was wrong stays wrong, and what was covered stays covered.
 abbrev pub MarkedAlike : Type 0
 MarkedAlike =
     (rules : RuleLists) (held : List LockTerm) (r : Reference) (name : List ℕ)

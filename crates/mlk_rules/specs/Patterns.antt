@@ -1,4 +1,4 @@
--- What patterns mean, and how references stand to them. This project's own choice.
+-- The meaning of patterns, and their relation to references. This project's own choice.
 use Rattle.std.specs.Prelude.{◌≡◌, ℕ, List, [], ◌++◌}
 use Rattle.std.specs.List.{AllZip}
 use Rattle.mlk_names.specs.declared.symbol.Sym.{Sym}
@@ -11,13 +11,13 @@ use Rattle.mlk_rules.specs.declared.pattern.Element.{Element}
 use Rattle.mlk_rules.specs.declared.pattern.Element.TheVariants as element
 use Rattle.mlk_rules.specs.declared.pattern.Pattern.{Pattern}
 
--- a literal takes its own value alone, and all else takes any value
+-- a literal takes only its own value, and all others take any value
 abbrev pub Takes : Element → List ℕ → Type 0
 Takes (element.Literal value) v = v ≡ value
 Takes element.Variable v = Unit {0}
 Takes element.Job v = Unit {0}
 
--- the pattern names this one, each place by itself
+-- the region is an instance of the pattern, each subscript considered separately
 pub record IsInstance (p : Pattern) (g : Region) : Type 0 where
   pub root : g.node.root ≡ p.global
   pub extent : g.extent ≡ p.extent
@@ -27,17 +27,17 @@ pub record IsInstance (p : Pattern) (g : Region) : Type 0 where
 abbrev pub LiesIn : Pattern → GlobalNode → Type 0
 LiesIn p n = (g : Region) × IsInstance p g × InRegion g n
 
--- some node of what the reference may be lies in the pattern
+-- some node that the reference may reach lies in the pattern
 abbrev pub MayMeet : Pattern → Reference → Type 0
 MayMeet p r = (g : Region) × (n : GlobalNode) × MayReach r g × InRegion g n × LiesIn p n
 
--- the symbol surely is what the element asks for
+-- the symbol surely is a value that the element takes
 abbrev pub Suits : Element → Sym → Type 0
 Suits (element.Literal value) s = s ≡ Const value
 Suits element.Variable s = Unit {0}
 Suits element.Job s = s ≡ Job
 
--- a reference of this extent, with these subscripts after those that suit, goes no further than the pattern
+-- a reference of this extent, with these subscripts left after those that suit, reaches no further than the pattern
 abbrev pub StaysIn : Extent → Extent → List Sym → Type 0
 StaysIn Tree far rest = Unit {0}
 StaysIn Node Node rest = rest ≡ []
@@ -52,7 +52,7 @@ pub record SurelyLies (p : Pattern) (r : Reference) : Type 0 where
   pub suits : AllZip Suits p.elements front
   pub stays : StaysIn p.extent r.extent rest
 
--- a tree each of whose subscripts suits the element at its place, while the pattern may go on
+-- a tree each of whose subscripts suits the element at its place, while the pattern may have more elements
 pub record SurelyAbove (p : Pattern) (r : Reference) : Type 0 where
   pub root : r.root ≡ p.global
   pub tree : r.extent ≡ Tree

@@ -23,7 +23,7 @@ NameHasRank families n rank = (f : Family) × Contains families f × IsAbove f.n
 abbrev pub FamiliesApart : List Family → Type 0
 FamiliesApart families = AllPairs (λ f g. ¬ Conflict f.name g.name) families
 
--- The family with this index, counted from 1, is the first that is an earlier one, above it or below it.
+-- The family with this index, counted from 1, is the first that conflicts with an earlier one.
 pub record IsFirstMeeting (families : List Family) (index : ℕ) : Type 0 where
   pub before : List Family
   pub family : Family

@@ -1,4 +1,4 @@
--- What the lists of rules have to keep. This project's own choice.
+-- The soundness of lists of rules. This project's own choice.
 use Rattle.std.specs.Prelude.{◌≡◌, ◌==◌, ◌&&◌, nat_le, ℕ, Bool, true, false, Option, Some, None}
 use Rattle.std.specs.List.{list_all, count_by}
 use Rattle.mlk_text.specs.Spellings.{is_name}
@@ -26,20 +26,20 @@ is_job element.Job = true
 abbrev pub is_family : Family → Bool
 is_family f = is_root f.name.root && nat_le f.rank 999999
 
--- a name, and `$J` so often
+-- a name, and the given number of `$J`
 abbrev pub is_sound_pattern : ℕ → Pattern → Bool
 is_sound_pattern jobs p = is_name p.global && (count_by is_job p.elements == jobs)
 
--- a second lock, where there is one, of a name
+-- the root of a second lock, if there is one, is a name
 abbrev pub has_root : Option Template → Bool
 has_root None = true
 has_root (Some lock) = is_root lock.root
 
--- no `$J`, and locks of names
+-- no `$J`, and the roots of the locks are names
 abbrev pub is_cover : Cover → Bool
 is_cover c = is_sound_pattern 0 c.pattern && (is_root c.lock.root && has_root c.also)
 
--- `$J` stands once in each private pattern, and in no other
+-- each private pattern has `$J` once, and no other pattern has it
 abbrev pub are_formed : RuleLists → Bool
 are_formed rules =
     list_all is_family rules.families

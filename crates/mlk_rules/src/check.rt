@@ -1,4 +1,4 @@
-// Whether a reference is covered by what is held.
+// Whether a reference is covered by the held locks.
 
 ghost use Rattle.std.specs.Prelude.{◌≡◌, ◌↔◌, IsTrue, OnOk, IfErr, None, Some, Contains};
 ghost use Rattle.mlk_rules.specs.declared.cover.Cover.{Cover as cover_rule};
@@ -17,7 +17,7 @@ use crate::rules::{RuleLists, Rules};
 use mlk_names::{Access, LockTerm, Reference, Sym};
 use mlk_text::Code;
 
-// Whether the pattern of some of the rules is a rule for all of the reference.
+// Whether the pattern of some cover is a rule for all of `reference`.
 fn some_cover_rules(covers: &[Cover], reference: &Lent<'_>) -> bool
     ensures { IsTrue result ↔ ((c : cover_rule) × Contains covers.now c × IsFor reference.now c.pattern) }
 {
@@ -68,7 +68,7 @@ fn keeps_readonly(rules: &RuleLists, reference: &Lent<'_>) -> bool
     }
 }
 
-// Whether `$JOB` stands at each place of `$J`.
+// Whether `symbols` have `$JOB` wherever `elements` have `$J`.
 fn has_own_subs(elements: &[Element], symbols: &[Sym]) -> bool
     ensures { IsTrue result ↔ OwnSubs elements.now symbols.now }
 {
@@ -123,7 +123,7 @@ fn covered_by(rules: &RuleLists, reference: &Lent<'_>, held: &[LockTerm]) -> Res
     Ok(())
 }
 
-/// The same as `covered`, of a reference whose parts are lent.
+/// `covered`, for a reference whose parts are borrowed.
 pub fn covered_lent(rules: &Rules, reference: &Lent<'_>, held: &[LockTerm]) -> Result<(), Code>
     ensures ok { OnOk result (IsAnswer rules.now held.now reference.now None) }
     ensures err { IfErr result (λ code. IsAnswer rules.now held.now reference.now (Some code)) }
@@ -134,8 +134,8 @@ pub fn covered_lent(rules: &Rules, reference: &Lent<'_>, held: &[LockTerm]) -> R
     }
 }
 
-/// Whether each rule that the reference may meet is satisfied by what is held, and some rule is for all of it; else
-/// the first code of what is wrong. It takes no memory, and asks the rules of the reference's global alone.
+/// Checks `reference`: each rule that it may meet must be satisfied by `held`, and some rule must hold for all of it.
+/// Otherwise the first code of what is wrong. Looks only at the rules of the reference's global, and allocates nothing.
 pub fn covered(rules: &Rules, reference: &Reference, held: &[LockTerm]) -> Result<(), Code>
     ensures ok { OnOk result (IsAnswer rules.now held.now reference.now None) }
     ensures err { IfErr result (λ code. IsAnswer rules.now held.now reference.now (Some code)) }

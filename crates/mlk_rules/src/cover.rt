@@ -1,4 +1,4 @@
-// Rules that cover patterns by locks.
+// Rules that protect patterns by locks.
 
 use crate::pattern::Pattern;
 use crate::template::Template;
@@ -12,13 +12,13 @@ pub enum ReadPolicy {
     Free,
 }
 
-/// A rule that covers the nodes of a pattern by a lock, or by two: a write needs each of them, and a read one of them, or none
-/// if reads are free.
+/// A rule that protects the nodes of a pattern by one or two locks: a write needs each of them, and a read one of them, or
+/// none if reads are free.
 #[derive(Clone, Drop, Debug)]
 pub struct Cover {
     pub pattern: Pattern,
     pub lock: Template,
-    /// The second lock, where the rule has two.
+    /// The second lock, if the rule has two.
     pub also: Option<Template>,
     pub reads: ReadPolicy,
 }

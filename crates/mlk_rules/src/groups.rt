@@ -1,4 +1,4 @@
-// Rules by the global that their patterns name.
+// Rules grouped by the global of their patterns.
 
 ghost use Rattle.std.specs.Prelude.{◌≡◌, ◌∷◌, ◌++◌, [], IfOk, OnOk, None, option_copied};
 ghost use Rattle.mlk_rules.specs.Groups.{covers_of, patterns_of, of_global, group_of, AreGroups, AreComplete, Gains, GainsAll, NamedByCovers, NamedByPatterns};
@@ -75,7 +75,7 @@ impl Groups {
         }
     }
 
-    /// The rules of a global, where a pattern names it.
+    /// The rules of the global `name`, or `None` if no pattern names it.
     #[inline(always)]
     pub fn group(&self, name: &Name) -> Option<&RuleLists>
         ensures { option_copied result ≡ group_of name.now self.now }
@@ -83,7 +83,7 @@ impl Groups {
         self.by_global.get(name)
     }
 
-    // Adds the rules of a global that has none yet.
+    // Adds the rules of a global that has no group yet.
     fn put(&mut self, name: Name, rules: RuleLists) -> Result<(), AllocError>
         requires { group_of name self.old ≡ None }
         ensures { OnOk result (self.new ≡ self.old ++ (name, rules) ∷ []) }
@@ -92,7 +92,7 @@ impl Groups {
         Ok(())
     }
 
-    // Adds the rules of a global, where they are not there.
+    // Adds the rules of the global `name`, unless it has a group.
     fn add(&mut self, alloc: Global, rules: &RuleLists, name: &Name) -> Result<(), AllocError>
         ensures { OnOk result (Gains rules.now name.now self.old self.new) }
     {
@@ -133,7 +133,7 @@ fn add_patterns(
     Ok(())
 }
 
-/// The groups of rules.
+/// The groups of `rules`.
 pub(crate) fn groups_of(alloc: Global, rules: &RuleLists) -> Result<Groups, AllocError>
     ensures are { IfOk result (AreGroups rules.now) }
     ensures complete { IfOk result (AreComplete rules.now) }

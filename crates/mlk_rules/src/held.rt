@@ -1,4 +1,4 @@
-// Whether a rule's lock is held where a reference touches.
+// Whether a rule's lock is held where a reference is.
 
 ghost use Rattle.std.specs.Prelude.{◌≡◌, ◌↔◌, IsTrue, Some};
 ghost use Rattle.mlk_names.specs.Symbols.{known_of};
@@ -11,7 +11,7 @@ use crate::lent::Lent;
 use crate::template::{Template, TemplatePart};
 use mlk_names::{Access, KnownSym, LockTerm, Sym};
 
-// Whether the symbol is this known one.
+// Whether `symbol` is `known`.
 #[inline(always)]
 fn is_known_as(symbol: &Sym, known: &KnownSym) -> bool
     ensures { IsTrue result ↔ (known_of symbol.now ≡ Some known.now) }
@@ -24,7 +24,7 @@ fn is_known_as(symbol: &Sym, known: &KnownSym) -> bool
     }
 }
 
-// Whether the part of a rule's lock at the subscripts is this symbol.
+// Whether `part` of a rule's lock is `known` for the subscripts `symbols`.
 fn stands_at(known: &KnownSym, part: &TemplatePart, symbols: &[Sym]) -> bool
     ensures { IsTrue result ↔ (symbol_at symbols.now part.now ≡ Some known.now) }
 {
@@ -39,7 +39,7 @@ fn stands_at(known: &KnownSym, part: &TemplatePart, symbols: &[Sym]) -> bool
     }
 }
 
-// Whether the symbols begin the subscripts of a rule's lock, up to the first that is absent or unknown.
+// Whether `known` begin the subscripts of a rule's lock, up to the first that is missing or unknown.
 fn begins_cut(known: &[KnownSym], parts: &[TemplatePart], symbols: &[Sym]) -> bool
     ensures { IsTrue result ↔ BeginsCut known.now parts.now symbols.now }
 {
@@ -58,7 +58,7 @@ fn begins_cut(known: &[KnownSym], parts: &[TemplatePart], symbols: &[Sym]) -> bo
     true
 }
 
-// Whether the term is the rule's lock, or above it.
+// Whether `term` is the rule's lock for `reference`, or above it.
 fn is_lock(term: &LockTerm, lock: &Template, reference: &Lent<'_>) -> bool
     ensures { IsTrue result ↔ IsPrefix term.now (cut_template lock.now reference.now) }
 {
@@ -70,7 +70,7 @@ fn is_lock(term: &LockTerm, lock: &Template, reference: &Lent<'_>) -> bool
         )
 }
 
-// Whether some held term is the rule's lock, or above it.
+// Whether some held term is the rule's lock for `reference`, or above it.
 pub(crate) fn holds_lock(held: &[LockTerm], lock: &Template, reference: &Lent<'_>) -> bool
     ensures { IsTrue result ↔ HoldsLock held.now lock.now reference.now }
 {
@@ -82,7 +82,7 @@ pub(crate) fn holds_lock(held: &[LockTerm], lock: &Template, reference: &Lent<'_
     false
 }
 
-// Whether the rule lets the reference read without a lock.
+// Whether `cover` lets `reference` read without a lock.
 #[inline(always)]
 fn is_free_read(cover: &Cover, reference: &Lent<'_>) -> bool
     ensures { IsTrue result ↔ IsFreeRead cover.now reference.now }
@@ -93,7 +93,7 @@ fn is_free_read(cover: &Cover, reference: &Lent<'_>) -> bool
     }
 }
 
-// Whether the locks of the rule are held that the reference needs: each for a write, one for a read.
+// Whether `held` has the locks of `cover` that `reference` needs: each for a write, one for a read.
 fn holds_locks(cover: &Cover, reference: &Lent<'_>, held: &[LockTerm]) -> bool
     ensures { IsTrue result ↔ HoldLocks reference.now.access held.now reference.now (locks_of cover.now) }
 {
@@ -107,7 +107,7 @@ fn holds_locks(cover: &Cover, reference: &Lent<'_>, held: &[LockTerm]) -> bool
     }
 }
 
-/// Whether the rule is satisfied: a write needs each of its locks, a read one of them, or none if reads are free.
+/// Whether `cover` is satisfied: a write needs each of its locks, a read one of them, or none if reads are free.
 pub(crate) fn is_satisfied(cover: &Cover, reference: &Lent<'_>, held: &[LockTerm]) -> bool
     ensures { IsTrue result ↔ Satisfies held.now reference.now cover.now }
 {

@@ -1,4 +1,4 @@
-// The locks that a reference lacks.
+// The locks that a reference needs and that are not held.
 
 ghost use Rattle.std.specs.Prelude.{◌≡◌, ◌↔◌, ◌∷◌, [], IsTrue, IfOk, OnOk, map};
 ghost use Rattle.mlk_rules.specs.Coverage.{before_missing, symbol_at, cut_template, asked, Lacks, AreMissing, AreLackingOf, AreLacking};
@@ -14,7 +14,7 @@ use mlk_names::{Access, KnownSym, LockTerm, Reference, Sym, TermSubs};
 use mlk_text::{Subscripts, copy_of};
 use std::alloc::{AllocError, Global};
 
-// The part of a rule's lock at the subscripts, where it is there and known.
+// A subscript of a rule's lock for the subscripts `symbols`, or `None` if it is missing or unknown.
 fn part_at(part: &TemplatePart, symbols: &[Sym]) -> Result<Option<KnownSym>, AllocError>
     ensures { IfOk result (λ found. found ≡ symbol_at symbols.now part.now) }
 {
@@ -40,7 +40,7 @@ fn cut_subs(alloc: Global, parts: &[TemplatePart], symbols: &[Sym]) -> Result<Te
     Ok(Subscripts::of(items))
 }
 
-// The rule's lock at the reference, up to the first subscript that is absent or unknown.
+// The rule's lock for `reference`, up to the first subscript that is missing or unknown.
 fn cut(alloc: Global, lock: &Template, reference: &Reference) -> Result<LockTerm, AllocError>
     ensures { IfOk result (λ t. t ≡ cut_template lock.now reference.now) }
 {
@@ -50,14 +50,14 @@ fn cut(alloc: Global, lock: &Template, reference: &Reference) -> Result<LockTerm
     })
 }
 
-// Whether the rule may be met while what is held does not satisfy it.
+// Whether `cover` may be met and is not satisfied by `held`.
 fn lacks(cover: &Cover, reference: &Reference, held: &[LockTerm]) -> bool
     ensures { IsTrue result ↔ Lacks held.now reference.now cover.now }
 {
     may_meet(&cover.pattern, reference) && !is_satisfied(cover, &Lent::of(reference), held)
 }
 
-// Adds the rule's lock at the reference, where it is not held.
+// Adds the rule's lock for `reference`, unless it is held.
 fn add_missing(
     alloc: Global,
     found: &mut Vec<LockTerm>,
@@ -73,7 +73,7 @@ fn add_missing(
     Ok(())
 }
 
-// Adds the locks that would satisfy the rule, as far as they are not held.
+// Adds the locks that would satisfy `cover`, unless they are held.
 fn add_asked(
     alloc: Global,
     found: &mut Vec<LockTerm>,
@@ -94,7 +94,7 @@ fn add_asked(
     }
 }
 
-// Adds what is lacking of the rule.
+// Adds the missing locks of `cover`.
 fn add_lacking(
     alloc: Global,
     found: &mut Vec<LockTerm>,
@@ -125,8 +125,8 @@ fn lacking(
     Ok(found)
 }
 
-/// The locks that the reference lacks: in the order of the rules, of each cover rule that it may meet and that what is
-/// held does not satisfy, the cut template of each lock that a write misses, and of the first lock for a read.
+/// The locks that `reference` needs and that are not held, in the order of the rules. For each cover rule that it may meet
+/// and that `held` does not satisfy: the cut template of each missing lock for a write, and that of the first lock for a read.
 pub fn templates(
     alloc: Global,
     rules: &Rules,

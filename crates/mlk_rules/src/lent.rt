@@ -1,4 +1,4 @@
-// References whose parts are lent.
+// References whose parts are borrowed.
 
 ghost use Rattle.std.specs.Prelude.{◌≡◌};
 
@@ -6,8 +6,8 @@ use mlk_names::{Access, Extent, Reference, Sym};
 use mlk_text::Name;
 use std::marker::Model;
 
-/// A reference whose name and subscripts are lent: of a touch nothing is copied to ask the rules. A contract sees the
-/// reference.
+/// A reference with a borrowed name and borrowed subscripts, so that nothing of a touch is copied to look up its rules. A
+/// contract sees the reference.
 #[derive(Drop)]
 pub struct Lent<'a> {
     root: &'a Name,
@@ -25,7 +25,7 @@ impl<'a> Model for Lent<'a> {
 }
 
 impl<'a> Lent<'a> {
-    /// A reference to a node, or to it and all below it, by the global's name, without its `^`, and its subscripts.
+    /// The reference to `root`, without its `^`, with the subscripts `subs`.
     #[inline(always)]
     pub fn new(root: &'a Name, subs: &'a [Sym], extent: Extent, access: Access) -> Lent<'a>
         ensures { result ≡ record { root = root.now; subs = subs.now; extent = extent; access = access } }
@@ -38,7 +38,7 @@ impl<'a> Lent<'a> {
         }
     }
 
-    /// The parts of a reference.
+    /// Borrows the parts of `reference`.
     pub fn of(reference: &'a Reference) -> Lent<'a>
         ensures { result ≡ reference.now }
     {
@@ -66,7 +66,7 @@ impl<'a> Lent<'a> {
         self.subs
     }
 
-    /// How far it goes.
+    /// How far it reaches.
     #[inline(always)]
     pub fn extent(&self) -> Extent
         ensures { result ≡ self.now.extent }
@@ -74,7 +74,7 @@ impl<'a> Lent<'a> {
         self.extent
     }
 
-    /// What it does.
+    /// Whether it reads or writes.
     #[inline(always)]
     pub fn access(&self) -> Access
         ensures { result ≡ self.now.access }

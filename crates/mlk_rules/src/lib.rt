@@ -1,4 +1,4 @@
-//! What rules mean: which locks are to be held where a global is touched, and in which order they are claimed.
+//! The meaning of rules: which locks a reference to a global needs, and in which order locks are claimed.
 #![tactic(auto)]
 
 mod check;

@@ -1,4 +1,4 @@
-// Which references surely lie in a pattern, or are trees surely above one.
+// Which references surely lie in a pattern, or are trees that surely lie above one.
 
 ghost use Rattle.std.specs.Prelude.{◌≡◌, ◌⊎◌, ◌↔◌, IsTrue};
 ghost use Rattle.mlk_rules.specs.Patterns.{Suits, StaysIn, SurelyLies, SurelyAbove};
@@ -8,7 +8,7 @@ use crate::lent::Lent;
 use crate::pattern::{Element, Pattern};
 use mlk_names::{Extent, Sym};
 
-// Whether the symbol surely is what the element asks for.
+// Whether `symbol` surely is a value that `element` takes.
 #[inline(always)]
 fn suits(element: &Element, symbol: &Sym) -> bool
     ensures { IsTrue result ↔ Suits element.now symbol.now }
@@ -20,7 +20,7 @@ fn suits(element: &Element, symbol: &Sym) -> bool
     }
 }
 
-// Whether a reference with these subscripts after those that suit goes no further than the pattern.
+// Whether a reference with `symbols` left after the elements of the pattern reaches no further than the pattern.
 fn stays_in(wide: Extent, far: Extent, symbols: &[Sym]) -> bool
     ensures { IsTrue result ↔ StaysIn wide far symbols.now }
 {
@@ -67,7 +67,7 @@ fn subs_above(elements: &[Element], symbols: &[Sym]) -> bool
     true
 }
 
-// Whether all that the reference may reach lies in the pattern.
+// Whether everything that `reference` may reach lies in `pattern`.
 fn surely_lies(pattern: &Pattern, reference: &Lent<'_>) -> bool
     ensures { IsTrue result ↔ SurelyLies pattern.now reference.now }
 {
@@ -80,7 +80,7 @@ fn surely_lies(pattern: &Pattern, reference: &Lent<'_>) -> bool
         )
 }
 
-// Whether the reference is a tree that surely has nodes of the pattern.
+// Whether `reference` is a tree that surely has nodes of `pattern`.
 fn surely_above(pattern: &Pattern, reference: &Lent<'_>) -> bool
     ensures { IsTrue result ↔ SurelyAbove pattern.now reference.now }
 {
@@ -89,7 +89,7 @@ fn surely_above(pattern: &Pattern, reference: &Lent<'_>) -> bool
         && subs_above(pattern.elements.as_slice(), reference.subs())
 }
 
-// Whether the pattern is a rule for all of the reference.
+// Whether `pattern` is a rule for all of `reference`.
 pub(crate) fn is_ruled_by(pattern: &Pattern, reference: &Lent<'_>) -> bool
     ensures { IsTrue result ↔ SurelyLies pattern.now reference.now ⊎ SurelyAbove pattern.now reference.now }
 {

@@ -9,7 +9,7 @@ use crate::lent::Lent;
 use crate::pattern::{Element, Pattern};
 use mlk_names::{Extent, Reference, Sym};
 
-// Whether some value may be that of both.
+// Whether `element` takes some value that `symbol` may have.
 #[inline(always)]
 fn element_may_meet(element: &Element, symbol: &Sym) -> bool
     ensures { IsTrue result ↔ SymsMayMeet (symbol_of element.now) symbol.now }
@@ -23,7 +23,7 @@ fn element_may_meet(element: &Element, symbol: &Sym) -> bool
     value == constant
 }
 
-// Whether subscripts that the elements take reach subscripts that the symbols may reach too.
+// Whether subscripts that the elements take reach a node that the symbols may reach too.
 fn elements_may_meet(elements: &[Element], wide: Extent, symbols: &[Sym], far: Extent) -> bool
     ensures { IsTrue result ↔ SubsMayMeet (map symbol_of elements.now) wide symbols.now far }
 {
@@ -42,7 +42,7 @@ fn elements_may_meet(elements: &[Element], wide: Extent, symbols: &[Sym], far: E
     symbols.is_empty() || matches!(wide, Extent::Tree)
 }
 
-// The same as `may_meet`, of a reference whose parts are lent.
+// `may_meet`, for a reference whose parts are borrowed.
 pub(crate) fn meets(pattern: &Pattern, reference: &Lent<'_>) -> bool
     ensures { IsTrue result ↔ MayMeet pattern.now reference.now }
 {
@@ -55,8 +55,8 @@ pub(crate) fn meets(pattern: &Pattern, reference: &Lent<'_>) -> bool
         )
 }
 
-/// Whether some node of the pattern may be one that the reference reaches, each subscript that is no constant being
-/// any value. It takes no memory.
+/// Whether `reference` may reach some node of `pattern`, if each subscript that is not a constant may have any value.
+/// Allocates nothing.
 pub fn may_meet(pattern: &Pattern, reference: &Reference) -> bool
     ensures { IsTrue result ↔ MayMeet pattern.now reference.now }
 {

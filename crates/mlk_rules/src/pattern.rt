@@ -6,15 +6,15 @@ use mlk_text::{List, Name, Value};
 /// An element of a pattern.
 #[derive(Clone, Drop, Debug)]
 pub enum Element {
-    /// this value
+    /// one value
     Literal(Value),
     /// any value
     Variable,
-    /// `$J`: any value, which is to be known as the job's own number
+    /// `$J`: a value that must be known to be the job's own number
     Job,
 }
 
-/// A pattern of nodes of a global: the nodes with such subscripts, and as a tree all below these too.
+/// A pattern of nodes of a global: the nodes with such subscripts, and everything below them if it is a tree.
 #[derive(Clone, Drop, Debug)]
 pub struct Pattern {
     /// The global's name, without its `^`.

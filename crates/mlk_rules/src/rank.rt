@@ -11,7 +11,7 @@ use crate::rules::Rules;
 use mlk_names::{KnownSym, LockName, LockTerm};
 use mlk_text::Value;
 
-// Whether the symbols begin with these constants.
+// Whether `symbols` begin with the constants `values`.
 fn begin_with(values: &[Value], symbols: &[KnownSym]) -> bool
     ensures { IsTrue result ↔ Begins (map Const values.now) symbols.now }
 {
@@ -30,7 +30,7 @@ fn begin_with(values: &[Value], symbols: &[KnownSym]) -> bool
     true
 }
 
-// Whether the name is the term or above it, by equal constants.
+// Whether `name` is `term` or above it, by equal constants.
 fn is_above(name: &LockName, term: &LockTerm) -> bool
     ensures { IsTrue result ↔ IsPrefix (constant_term name.now) term.now }
 {
@@ -49,8 +49,7 @@ fn rank_among(families: &[Family], term: &LockTerm) -> Option<u32>
     None
 }
 
-/// The rank of the one family that is the term or above it by equal constants, where there is one. It takes no
-/// memory.
+/// The rank of the one family that is `term` or above it, by equal constants; `None` if there is none. Allocates nothing.
 pub fn rank_of(rules: &Rules, term: &LockTerm) -> Option<u32>
     ensures { (k : ℕ) → (result ≡ Some k) ↔ HasRank rules.now.families term.now k }
 {

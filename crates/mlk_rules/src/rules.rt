@@ -1,4 +1,4 @@
-// The rules that routines keep.
+// The rules that routines must follow.
 
 ghost use Rattle.std.specs.Prelude.{◌≡◌, IfOk, MatchOption, option_copied};
 ghost use Rattle.mlk_rules.specs.Groups.{IsGroup};
@@ -14,12 +14,12 @@ use mlk_text::{List, Name, Value};
 use std::alloc::{AllocError, Global};
 use std::marker::Model;
 
-/// The rules of a file, list by list.
+/// The rules of a file, as lists.
 #[derive(Drop, Debug)]
 pub struct RuleLists {
     pub families: List<Family>,
     pub covers: List<Cover>,
-    /// Patterns of which each job has its own part, by its number at the place of `$J`.
+    /// Patterns in which each job has its own part, with its number where the pattern has `$J`.
     pub private: List<Pattern>,
     /// Patterns that are never written.
     pub readonly: List<Pattern>,
@@ -27,10 +27,10 @@ pub struct RuleLists {
     pub entries: List<Value>,
 }
 
-/// What routines keep to: lists of rules in which no two families meet, ranks are from 0 to 999,999, each root is a
-/// name, and `$J` stands once in each private pattern and nowhere else.
+/// Sound rules: no two families meet, ranks are from 0 to 999,999, each root is a name, and each private pattern has `$J`
+/// once and nothing else has it.
 ///
-/// Beside the lists stand the rules of each global, so that a reference asks no others; they take as much memory again.
+/// Besides the lists, the rules are grouped by global, so that a reference looks only at its own. This doubles their memory.
 #[derive(Drop, Debug)]
 pub struct Rules {
     lists: RuleLists,
@@ -49,7 +49,7 @@ impl Model for Rules {
 }
 
 impl Rules {
-    /// The rules of these lists; none where they lack what rules keep.
+    /// The rules of `lists`, or `None` if they are not sound.
     pub fn new(alloc: Global, lists: RuleLists) -> Result<Option<Rules>, AllocError>
         ensures { IfOk result (λ found. MatchOption found (¬ IsSound lists) (λ r. (r ≡ lists) × IsSound lists)) }
     {
@@ -59,7 +59,7 @@ impl Rules {
         Ok(Some(Rules::sound(alloc, lists)?))
     }
 
-    /// The rules of lists that are known to be sound.
+    /// The rules of `lists`, which are known to be sound.
     pub fn sound(alloc: Global, lists: RuleLists) -> Result<Rules, AllocError>
         requires { IsSound lists }
         ensures { IfOk result (λ r. r ≡ lists) }
@@ -68,7 +68,7 @@ impl Rules {
         Ok(Rules { lists, groups })
     }
 
-    /// The lists of these rules.
+    /// The rules as lists.
     pub fn lists(&self) -> &RuleLists
         ensures value { result.now ≡ self.now }
         ensures sound { IsSound self.now }
@@ -76,7 +76,7 @@ impl Rules {
         &self.lists
     }
 
-    // The rules of a global, in order, where a pattern names it.
+    // The rules of `global`, in order, or `None` if no pattern names it.
     #[inline(always)]
     pub(crate) fn group(&self, global: &Name) -> Option<&RuleLists>
         ensures { IsGroup self.now global.now (option_copied result) }
@@ -84,7 +84,7 @@ impl Rules {
         self.groups.group(global)
     }
 
-    /// The families, in order, of which no two meet.
+    /// The families, in order, no two of which meet.
     pub fn families(&self) -> &[Family]
         ensures value { result.now ≡ self.now.families }
         ensures apart { FamiliesApart result.now }

@@ -1,4 +1,4 @@
-// Whether lists of rules keep what they have to.
+// Whether lists of rules are sound.
 
 ghost use Rattle.std.specs.Prelude.{◌≡◌, ◌↔◌, IsTrue, Contains, MatchOption};
 ghost use Rattle.std.specs.List.{count_by, list_all};
@@ -32,7 +32,7 @@ fn is_family(family: &Family) -> bool
     is_root(&family.name.root) && family.rank <= GREATEST_RANK
 }
 
-// How often `$J` stands among the elements.
+// How often `$J` occurs among `elements`.
 fn jobs_in(elements: &[Element]) -> usize
     ensures { result ≡ count_by is_job elements.now }
 {
@@ -48,7 +48,7 @@ fn is_pattern(jobs: usize, pattern: &Pattern) -> bool
     is_name(pattern.global.as_bytes()) && jobs_in(pattern.elements.as_slice()) == jobs
 }
 
-// Whether a second lock, where there is one, is of a name.
+// Whether the root of a second lock, if there is one, is a name.
 fn has_root(second: &Option<Template>) -> bool
     ensures { result ≡ has_root second.now }
 {
@@ -91,7 +91,7 @@ fn are_formed(rules: &RuleLists) -> bool
                 && are_patterns(0, rules.readonly.as_slice())))
 }
 
-// Whether one of the families conflicts with the name.
+// Whether one of `families` conflicts with `name`.
 fn some_conflicts(families: &[Family], name: &LockName) -> bool
     ensures { IsTrue result ↔ ((f : family) × Contains families.now f × Conflict name.now f.name) }
 {
@@ -103,7 +103,7 @@ fn some_conflicts(families: &[Family], name: &LockName) -> bool
     false
 }
 
-/// The index, from 1, of the first family that meets an earlier one.
+/// The index, from 1, of the first family that meets an earlier one, or `None`.
 pub fn first_meeting(families: &[Family]) -> Option<usize>
     ensures { MatchOption result (FamiliesApart families.now) (IsFirstMeeting families.now) }
 {
@@ -122,7 +122,7 @@ fn families_apart(families: &[Family]) -> bool
     first_meeting(families).is_none()
 }
 
-/// Whether the lists keep what rules have to.
+/// Whether the lists are sound.
 pub(crate) fn is_sound(rules: &RuleLists) -> bool
     ensures { IsTrue result ↔ IsSound rules.now }
 {

@@ -6,13 +6,13 @@ use mlk_text::{List, Value};
 /// A subscript of a rule's lock.
 #[derive(Clone, Drop, Debug)]
 pub enum TemplatePart {
-    /// this value
+    /// one value
     Literal(Value),
-    /// the subscript at this place of a node, counted from 0
+    /// the subscript of a node at this index, from 0
     Place(usize),
 }
 
-/// The lock of a rule, for all nodes of its pattern.
+/// The lock of a rule, for all nodes of the rule's pattern.
 #[derive(Clone, Drop, Debug)]
 pub struct Template {
     pub root: Root,

@@ -1,4 +1,4 @@
--- What the elements of a section are, one by one.
+-- The elements of a section, one by one.
 use Rattle.std.proofs.Common.{◌≡◌, ℕ, suc, add-one, ◌+◌, ◌<◌, List, [], ◌∷◌, ◌++◌, length, drop, refl, sym, ap, ◌∙◌, append_assoc}
 use Rattle.std.specs.Prelude.{slice_index_or, Ok, Err}
 use Rattle.toml.specs.Data.{Data, Items, no_items, item}
@@ -35,7 +35,7 @@ map_read : {A B : Type 0} (f : A → B) (o : Answer A) (y : B) → answer_map f 
 map_read f (Ok x) y h = (x, refl, same_Ok (f x) y h)
 map_read f (Err e) y h = cc h
 
--- what holds of all that a reader gives holds of all that it gave
+-- what holds of each result of a reader holds of all that were read
 pub each_have : {A : Type 0} (read : ℕ → Data → Answer A) (P : A → Type 0) → ((k : ℕ) (d : Data) (x : A) → read k d ≡ Ok x → P x)
     → (k : ℕ) (ds : Items) (xs : List A) → each read k ds ≡ Ok xs → Each P xs
 each_have {A} read P h k no_items xs is = let e : [] ≡ xs = same_Ok [] xs is in rw (← e) (λ j x at. cc at)

@@ -93,7 +93,7 @@ job_in_readonly : lists_of (section_with (codes "readonly") (codes "global") (co
 unfolding lists_of section_of rule_pattern_of is_pattern spelling_of root_at parts_of list_of item_at many name_at section_with
 job_in_readonly = refl
 
--- covers: a second lock, one with a variable that the pattern lacks, and one that is no text
+-- covers: a second lock, one with a variable that is not in the pattern, and one that is no text
 cover_with : Members → Data
 cover_with more = table (member (codes "global") (string (codes "^G(i)")) (member (codes "lock") (string (codes "^A")) more))
 
@@ -114,7 +114,7 @@ a_second_lock_of_another_type : cover_of 1 (cover_with (member (codes "also") (i
 unfolding cover_of cover_with
 a_second_lock_of_another_type = refl
 
--- reads without a lock, and a word that is none
+-- reads without a lock, and a word that is none of the policies
 free_reads : cover_of 1 (cover_with (member (codes "reads") (string (codes "free")) no_members)) ≡ Ok (record {
   pattern = record { global = codes "G"; elements = element.Variable ∷ []; extent = Node };
   lock = record { root = root.Global (codes "A"); parts = [] };

@@ -1,4 +1,4 @@
--- Bytes say one thing at most.
+-- Bytes say at most one thing.
 use Rattle.std.specs.Prelude.{Ok, Err}
 use Rattle.std.proofs.Common.{◌≡◌, inl, inr, sym, ap, ◌∙◌, subst}
 use Rattle.std.proofs.lemmas.Option.{same_Some}

@@ -1,4 +1,4 @@
--- The lists of a rule file are sound: ranks are in range, roots are names, `$J` stands where it has to.
+-- The lists of a rule file are sound: ranks are in range, roots are names, `$J` occurs where it must.
 use Rattle.std.proofs.Common.{◌≡◌, ℕ, ℤ, ◌+◌, Bool, cond, List, [], ◌∷◌, Some, None, true, inl, inr, refl, sym, ◌∙◌, ap, subst}
 use Rattle.std.specs.Prelude.{Option, option_map, ◌==◌, ◌&&◌, ◌||◌, nat_le, codes, pos, negsuc, Ok, Err}
 use Rattle.std.specs.List.{list_all, count_by}
@@ -58,7 +58,7 @@ patterned_root : (text : List ℕ) (s : Spelling) → pattern_of text ≡ Some s
 patterned_root text s h =
     let c = then_some (byte_at 94 text) _ s h in name_is s.root (spelled_root text s c.2)
 
--- how often `$J` stands
+-- how often `$J` occurs
 no_job : (items : List SpelledItem) → is_jobless items ≡ true → count_by sound.is_job (elements_of items) ≡ 0
 no_job [] h = refl
 no_job (Literal v ∷ items) h = no_job items h
@@ -80,7 +80,7 @@ never items h = rw (no_job items h) refl
 once : (items : List SpelledItem) → has_one_job items ≡ true → (count_by sound.is_job (elements_of items) == 1) ≡ true
 once items h = ap (λ n. n == 1) (same_count items) ∙ h
 
--- a pattern of its parts, with `$J` so often
+-- a pattern from its parts, with `n` occurrences of `$J`
 formed_pattern : (n : ℕ) (s : Spelling) → is_name (name_of s.root) ≡ true → (count_by sound.is_job (elements_of s.items) == n) ≡ true → sound.is_sound_pattern n (pattern s) ≡ true
 formed_pattern n s name jobs = rw (name, jobs) refl
 
@@ -183,7 +183,7 @@ cover_formed k d c h = at (cover_keys (as_table d)) h
       | inr e ↦ all keys.3 keys.0 keys.1 (pattern_of keys.0) (spelling_of keys.1) (option_map spelling_of keys.2) refl refl (second_root keys.2) (rw e at i)
     ]
 
--- patterns by themselves, whose section asks for `$J` so often
+-- patterns by themselves, whose section requires `n` occurrences of `$J`
 pattern_formed : (section : Section) (n : ℕ) → ((items : List SpelledItem) → has_its_job section items ≡ true → (count_by sound.is_job (elements_of items) == n) ≡ true)
     → (k : ℕ) (d : Data) (p : Pattern) → rule_pattern_of section k d ≡ Ok p → sound.is_sound_pattern n p ≡ true
 unfolding rule_pattern_of is_pattern
@@ -206,7 +206,7 @@ pattern_formed section n jobs k d p h = at (text_key section (codes "global") (a
       | inr e ↦ of_kind text (pattern_of text) refl (rw e at i)
     ]
 
--- where all five lists were read, the first four were
+-- if all five lists were read, so were the first four
 four_read : (a : Answer (List Family)) (b : Answer (List Cover)) (c d : Answer (List Pattern)) (e : Answer (List (List ℕ))) (r : RuleLists)
     → next a (λ x. next b (λ y. next c (λ z. next d (λ u. next e (λ v. lists x y z u v))))) ≡ Ok r
     → (a ≡ Ok r.families) × (b ≡ Ok r.covers) × (c ≡ Ok r.private) × (d ≡ Ok r.readonly)
@@ -219,7 +219,7 @@ four_read (Ok x) (Ok y) (Err o) d e r h = cc h
 four_read (Ok x) (Ok y) (Ok z) (Err o) e r h = cc h
 four_read (Ok x) (Ok y) (Ok z) (Ok u) (Err o) r h = cc h
 
--- each of a section is formed
+-- each element of a section is well formed
 section_formed : {A : Type 0} (read : ℕ → Data → Answer A) (s : Section) (ms : Members) (f : A → Bool) → ((k : ℕ) (d : Data) (x : A) → read k d ≡ Ok x → f x ≡ true)
     → (xs : List A) → all_of read s ms ≡ Ok xs → list_all f xs ≡ true
 section_formed read s ms f each_is xs h =

@@ -66,6 +66,6 @@ commas-shorten c xs ys h = elim (cases_Bool (bytes_eq xs (codes ",...)"))) [
   | inr e ↦ (byte-takes 44 c xs ys (rw e at h)).1
 ]
 
--- what the reader of items rests on
+-- needed by the reader of items
 pub items-leave : Leaves item_at
 items-leave i xs ys h = item-length i xs ys h

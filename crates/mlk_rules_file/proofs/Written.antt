@@ -1,4 +1,4 @@
--- The texts of rule files are read exactly: what is read is written so, and what is written so is read.
+-- The texts of rule files are read exactly: what is read is spelled there, and what is spelled is read.
 use Rattle.std.proofs.Common.{◌≡◌, ◌⊎◌, ◌+◌, ℕ, suc, Bool, true, false, List, [], ◌∷◌, ◌++◌, length, take, drop, Some, None, arith, inl, inr, refl, sym, ap, ◌∙◌, subst, append_assoc, length-append, take-append-drop}
 use Rattle.std.specs.Prelude.{Option, is_some, ◌==◌, ◌||◌, codes, bytes_eq}
 use Rattle.std.proofs.Math.Seq.{take-append_seam, drop-append_seam}
@@ -203,7 +203,7 @@ no_item_there i xs ys h = elim (cases_Bool (bytes_eq xs (codes "...)"))) [
   | inr e ↦ e
 ]
 
--- an item as it is read, with what it leaves
+-- an item as it is read, with the rest
 abbrev Reads : SpelledItem → List ℕ → List ℕ → Type 0
 Reads i xs ys = item_at xs ≡ Some (i, ys)
 

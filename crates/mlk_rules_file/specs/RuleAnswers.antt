@@ -1,4 +1,4 @@
--- What the definition of a rule file answers. This project's own.
+-- Results of the definition of a rule file. This project's own.
 use Rattle.std.specs.Prelude.{ℕ, List, codes, Result, Ok, Err}
 use Rattle.mlk_text.specs.declared.code.Code.{Code}
 use Rattle.mlk_rules_file.specs.declared.read.fault.Section.{Section}
@@ -18,16 +18,16 @@ section_word Entry = codes "entry"
 abbrev pub Answer : Type 0 → Type 0
 Answer A = Result A RulesFault
 
--- a refusal with this code at a place of the file
+-- a refusal with the given code at a place of the file
 abbrev pub refused : {A : Type 0} → Code → Section → ℕ → Answer A
 refused c s k = Err (record { code = c; section = s; index = k })
 
--- and then
+-- sequencing
 abbrev pub next : {A B : Type 0} → Answer A → (A → Answer B) → Answer B
 next (Ok x) f = f x
 next (Err e) f = Err e
 
--- a function of what was read
+-- applies a function to what was read
 abbrev pub answer_map : {A B : Type 0} → (A → B) → Answer A → Answer B
 answer_map f (Ok x) = Ok (f x)
 answer_map f (Err e) = Err e

@@ -1,6 +1,5 @@
--- As which texts lock names, patterns and entries are written in a rule file, part joined to part. Names, numbers and
--- texts in quotes restate ISO/IEC 11756 (name, numlit without an exponent, strlit); the rest is this project's own
--- choice.
+-- The texts of lock names, patterns and entries in a rule file, as joined parts. Names, numbers and quoted texts restate ISO/IEC
+-- 11756 (name, numlit without an exponent, strlit); the rest is this project's own choice.
 use Rattle.std.specs.Prelude.{◌≡◌, ◌⊎◌, ◌↔◌, ℕ, true, List, [], ◌∷◌, ◌++◌, Some, codes}
 use Rattle.mlk_text.specs.Lexemes.{doubled}
 use Rattle.mlk_text.specs.Spellings.{IsName, IsRoot, IsEntry}
@@ -14,7 +13,7 @@ use Rattle.mlk_rules_file.specs.declared.read.kinds.Spelling.{Spelling}
 use Rattle.mlk_rules_file.specs.RuleNumbers.{negative}
 use Rattle.mlk_rules_file.specs.RuleTexts.{spelling_of, pattern_of, is_entry}
 
--- a text in quotes, in which each quote stands twice
+-- a quoted text, in which each quote is doubled
 abbrev pub IsQuotedText : List ℕ → List ℕ → Type 0
 IsQuotedText value text = text ≡ 34 ∷ (doubled value ++ 34 ∷ [])
 
@@ -34,12 +33,12 @@ abbrev pub IsMore : List SpelledItem → List ℕ → Type 0
 IsMore [] text = text ≡ []
 IsMore (i ∷ items) text = (one more : List ℕ) × IsItem i one × IsMore items more × (text ≡ 44 ∷ (one ++ more))
 
--- how a list ends: a tree's by `...`
+-- the end of a list: that of a tree has `...`
 abbrev pub closing : Extent → List ℕ
 closing Node = codes ")"
 closing Tree = codes ",...)"
 
--- what stands after a root: nothing, or items in parentheses
+-- what follows a root: nothing, or items in parentheses
 abbrev pub IsParts : List SpelledItem → Extent → List ℕ → Type 0
 IsParts [] Node text = text ≡ []
 IsParts [] Tree text = text ≡ codes "(...)"
@@ -54,11 +53,11 @@ IsSpelled s text = (front rest : List ℕ) × IsRoot s.root front × IsParts s.i
 abbrev pub IsSpelledPattern : Spelling → List ℕ → Type 0
 IsSpelledPattern s text = IsSpelled s text × ((name : List ℕ) × (s.root ≡ root.Global name))
 
--- An entry has a label, which may be missing, and a routine.
+-- An entry has an optional label, and a routine.
 abbrev pub IsEntryText : List ℕ → Type 0
 IsEntryText text = (label routine : List ℕ) × IsEntry label routine text
 
--- What is read is written so, and what is written so is read.
+-- The readers read exactly what this grammar spells.
 pub record AreWritten : Type 0 where
   pub names : (text : List ℕ) (s : Spelling) → (spelling_of text ≡ Some s) ↔ IsSpelled s text
   pub patterns : (text : List ℕ) (s : Spelling) → (pattern_of text ≡ Some s) ↔ IsSpelledPattern s text

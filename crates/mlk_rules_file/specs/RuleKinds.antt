@@ -1,4 +1,4 @@
--- Which items may stand where in a rule file, and what is made of them. This project's own choice.
+-- Which items are allowed where in a rule file, and their values. This project's own choice.
 use Rattle.std.specs.Prelude.{ℕ, ◌&&◌, ◌==◌, not, nat_lt, Bool, true, false, List, [], ◌∷◌, ◌++◌, length, Option, Some, None, option_map, bytes_eq}
 use Rattle.std.specs.List.{list_all, list_any, count_by, position}
 use Rattle.mlk_names.specs.declared.lock_name.LockName.{LockName}
@@ -18,17 +18,17 @@ use Rattle.mlk_rules_file.specs.declared.read.kinds.SpelledItem.{SpelledItem}
 use Rattle.mlk_rules_file.specs.declared.read.kinds.SpelledItem.TheVariants.{Literal, Variable, Job}
 use Rattle.mlk_rules_file.specs.declared.read.kinds.Spelling.{Spelling}
 
--- more than 8 items; `...` is none
+-- more than 8 items, not counting `...`
 abbrev pub is_long : Option Spelling → Bool
 is_long None = false
 is_long (Some s) = nat_lt 8 (length s.items)
 
--- just the node, and not all below it
+-- the node only, not everything below it
 abbrev pub is_node : Extent → Bool
 is_node Node = true
 is_node Tree = false
 
--- literals alone
+-- literals only
 abbrev pub is_literal : SpelledItem → Bool
 is_literal (Literal v) = true
 is_literal (Variable n) = false
@@ -37,7 +37,7 @@ is_literal Job = false
 abbrev pub is_literals : List SpelledItem → Bool
 is_literals items = list_all is_literal items
 
--- their values
+-- the values of literals
 abbrev pub values_of : List SpelledItem → List (List ℕ)
 values_of [] = []
 values_of (Literal v ∷ items) = v ∷ values_of items
@@ -65,7 +65,7 @@ is_jobless items = list_all (λ i. not (is_own i)) items
 abbrev pub has_one_job : List SpelledItem → Bool
 has_one_job items = count_by is_own items == 1
 
--- the variable of this name is among the items
+-- the variable with this name is among the items
 abbrev pub is_item : List ℕ → SpelledItem → Bool
 is_item name (Literal v) = false
 is_item name (Variable n) = bytes_eq name n
@@ -74,18 +74,18 @@ is_item name Job = false
 abbrev pub has_variable : List ℕ → List SpelledItem → Bool
 has_variable name items = list_any (is_item name) items
 
--- the item is no variable of the others
+-- the item is not one of the variables of the others
 abbrev pub is_new : SpelledItem → List SpelledItem → Bool
 is_new (Literal v) items = true
 is_new (Variable n) items = not (has_variable n items)
 is_new Job items = true
 
--- no variable stands twice
+-- no variable occurs twice
 abbrev pub is_distinct : List SpelledItem → Bool
 is_distinct [] = true
 is_distinct (i ∷ items) = is_new i items && is_distinct items
 
--- `$J` stands once in a private pattern, and in no other
+-- a private pattern has `$J` once, and no other pattern has it
 abbrev pub has_its_job : Section → List SpelledItem → Bool
 has_its_job Private items = has_one_job items
 has_its_job File items = is_jobless items
@@ -94,11 +94,11 @@ has_its_job Cover items = is_jobless items
 has_its_job Readonly items = is_jobless items
 has_its_job Entry items = is_jobless items
 
--- a pattern of a section: its `$J`, and each variable once
+-- a pattern of a section: it has its `$J`, and each variable once
 unfoldable pub is_pattern : Section → Spelling → Bool
 is_pattern section s = has_its_job section s.items && is_distinct s.items
 
--- its elements
+-- the elements of items
 abbrev pub elements_of : List SpelledItem → List Element
 elements_of [] = []
 elements_of (Literal v ∷ items) = element.Literal v ∷ elements_of items
@@ -117,11 +117,11 @@ pattern s = record { global = name_of s.root; elements = elements_of s.items; ex
 unfoldable pub is_template : Spelling → Bool
 is_template s = is_jobless s.items && is_node s.extent
 
--- the place of a variable in a pattern, counted from 0
+-- the index of a variable in a pattern
 abbrev pub place_of : List ℕ → List SpelledItem → Option ℕ
 place_of name items = position (is_item name) items
 
--- the part that an item of a lock is, beside a pattern
+-- the part for an item of a lock, given a pattern
 abbrev pub placed : Option ℕ → Option TemplatePart
 placed None = None
 placed (Some k) = Some (part.Place k)
@@ -140,7 +140,7 @@ abbrev pub part_before : Option TemplatePart → Option (List TemplatePart) → 
 part_before None parts = None
 part_before (Some p) parts = before (p ∷ []) parts
 
--- the parts of a lock, where the pattern has all its variables
+-- the parts of a lock, if the pattern has all its variables
 abbrev pub parts_of : List SpelledItem → List SpelledItem → Option (List TemplatePart)
 parts_of items [] = Some []
 parts_of items (i ∷ others) = part_before (part_of items i) (parts_of items others)
@@ -148,11 +148,11 @@ parts_of items (i ∷ others) = part_before (part_of items i) (parts_of items ot
 abbrev pub template : Spelling → List TemplatePart → Template
 template s parts = record { root = s.root; parts = parts }
 
--- a lock beside a pattern of these items
+-- the lock, given a pattern with these items
 abbrev pub template_of : List SpelledItem → Spelling → Option Template
 template_of items s = option_map (template s) (parts_of items s.items)
 
--- the same of a second lock, which a cover may lack
+-- `is_template` of a second lock, which is optional in a cover
 abbrev pub is_second_template : Option Spelling → Bool
 is_second_template None = true
 is_second_template (Some s) = is_template s

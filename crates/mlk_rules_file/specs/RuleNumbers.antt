@@ -1,11 +1,11 @@
--- The numbers of a rule file. Restates ISO/IEC 11756, numeric literals without an exponent; that a number has to be
--- exact on every system is this project's own choice.
+-- The numbers of a rule file. Restates ISO/IEC 11756, numeric literals without an exponent; that a number must be exact on every
+-- system is this project's own choice.
 use Rattle.std.specs.Prelude.{ℕ, suc, ◌+◌, ◌==◌, if◌then◌else◌, List, [], ◌∷◌, Option, Some, None, take, drop, bytes_eq}
 use Rattle.mlk_text.specs.Reading.{with}
 use Rattle.mlk_text.specs.Lexemes.{digits}
 use Rattle.mlk_numbers.specs.Canonical.{canonical_text}
 
--- how far a literal goes: digits, and a point with the digits after it
+-- the length of a literal: digits, and a point with the digits after it
 abbrev pub fraction_len : List ℕ → ℕ
 fraction_len [] = 0
 fraction_len (b ∷ xs) = if b == 46 then suc (digits xs) else 0
@@ -13,7 +13,7 @@ fraction_len (b ∷ xs) = if b == 46 then suc (digits xs) else 0
 unfoldable pub numeral_len : List ℕ → ℕ
 numeral_len xs = digits xs + fraction_len (drop (digits xs) xs)
 
--- what stands after a value
+-- the rest after a value
 abbrev pub valued : List ℕ → Option (List ℕ) → Option (List ℕ × List ℕ)
 valued ys None = None
 valued ys (Some value) = Some (value, ys)

@@ -1,5 +1,5 @@
--- What a rule file says, or why it is refused: a text that is written as `RuleGrammar` says is read so, and one that is
--- not is refused with 403. This project's own choice.
+-- The meaning of a rule file, or why it is refused: a text that `RuleGrammar` spells is read accordingly, and any other is
+-- refused with 403. This project's own choice.
 use Rattle.std.specs.Prelude.{ℕ, suc, ℤ, pos, negsuc, ◌≡◌, ◌&&◌, ◌||◌, ◌⊎◌, if◌then◌else◌, nat_lt, nat_le, Bool, true, List, [], ◌∷◌, ◌++◌, Option, Some, None, option_and_then, option_map, codes, bytes_eq, is_some, IsUtf8, Ok, Err}
 use Rattle.toml.specs.Data.{Data, array, Items, no_items, item, Members, no_members, member, as_str, as_integer, as_table, get_member}
 use Rattle.toml.specs.Parse.{parse_document}
@@ -34,7 +34,7 @@ is_key Private key = bytes_eq key (codes "global")
 is_key Readonly key = bytes_eq key (codes "global")
 is_key Entry key = bytes_eq key (codes "label")
 
--- no key but these
+-- no other keys
 abbrev pub has_only : Section → Members → Bool
 has_only s no_members = true
 has_only s (member key d ms) = is_key s key && has_only s ms
@@ -46,7 +46,7 @@ text_at key ms = option_and_then as_str (get_member key ms)
 abbrev pub integer_at : List ℕ → Members → Option ℤ
 integer_at key ms = option_and_then as_integer (get_member key ms)
 
--- the text at a key that may be missing
+-- the text at an optional key
 abbrev pub as_text : Option Data → Option (Option (List ℕ))
 as_text None = Some None
 as_text (Some d) = option_map Some (as_str d)
@@ -74,17 +74,17 @@ all_four (Some x) (Some y) None d = None
 all_four (Some x) (Some y) (Some z) None = None
 all_four (Some x) (Some y) (Some z) (Some w) = Some (x, y, z, w)
 
--- what a cover asks of reads: `locked`, as if nothing were written, or `free`
+-- the read policy of a cover: `locked`, which is the default, or `free`
 abbrev pub policy_of : Option (List ℕ) → Option ReadPolicy
 policy_of None = Some Locked
 policy_of (Some text) =
     if bytes_eq text (codes "locked") then Some Locked else if bytes_eq text (codes "free") then Some Free else None
 
--- the same of the text at a key that may be missing
+-- the read policy at an optional key
 abbrev pub policy_at : List ℕ → Members → Option ReadPolicy
 policy_at key ms = option_and_then policy_of (text_if key ms)
 
--- the pattern, the lock, the second lock of a cover, which may be missing, and what it asks of reads
+-- the pattern, the lock, the optional second lock and the read policy of a cover
 abbrev pub cover_keys : Option Members → Option (List ℕ × List ℕ × Option (List ℕ) × ReadPolicy)
 cover_keys None = None
 cover_keys (Some ms) =
@@ -92,7 +92,7 @@ cover_keys (Some ms) =
     all_four (text_at (codes "global") ms) (text_at (codes "lock") ms) (text_if (codes "also") ms) (policy_at (codes "reads") ms)
     else None
 
--- the one text of an element with one key
+-- the text of an element with a single key
 abbrev pub text_key : Section → List ℕ → Option Members → Option (List ℕ)
 text_key s key None = None
 text_key s key (Some ms) = if has_only s ms then text_at key ms else None
@@ -102,7 +102,7 @@ abbrev pub rank_of : ℤ → Option ℕ
 rank_of (pos n) = if nat_le n 999999 then Some n else None
 rank_of (negsuc n) = None
 
--- a family of its parts
+-- a family, from its parts
 abbrev pub family_with : ℕ → Option Spelling → ℕ → Answer Family
 family_with k None r = refused code.Pattern Lock k
 family_with k (Some s) r =
@@ -119,11 +119,11 @@ abbrev pub family_at : ℕ → Option (List ℕ × ℤ) → Answer Family
 family_at k None = refused code.Key Lock k
 family_at k (Some keys) = family_by k (spelling_of keys.0) keys.1
 
--- the family of the element with this index
+-- the family of the element with the given index
 unfoldable pub family_of : ℕ → Data → Answer Family
 family_of k d = family_at k (family_keys (as_table d))
 
--- a cover of its locks, each of which may have a variable that the pattern lacks
+-- a cover, from its locks, each of which may have a variable that the pattern does not have
 abbrev pub cover_of_locks : ℕ → Spelling → Option Template → Option (Option Template) → ReadPolicy → Answer Cover
 cover_of_locks k p None also reads = refused code.TemplateVariable CoverSection k
 cover_of_locks k p (Some lock) None reads = refused code.TemplateVariable CoverSection k
@@ -132,7 +132,7 @@ cover_of_locks k p (Some lock) (Some also) reads = Ok (record { pattern = patter
 abbrev pub cover_placed : ℕ → Spelling → Spelling → Option Spelling → ReadPolicy → Answer Cover
 cover_placed k p l a reads = cover_of_locks k p (template_of p.items l) (second_template p.items a) reads
 
--- a cover of what is spelled well
+-- a cover, from parts that are spelled correctly
 abbrev pub cover_kinds : ℕ → Spelling → Spelling → Option Spelling → ReadPolicy → Answer Cover
 cover_kinds k p l a reads =
     if is_pattern CoverSection p && (is_template l && is_second_template a) then cover_placed k p l a reads
@@ -154,11 +154,11 @@ abbrev pub cover_at : ℕ → Option (List ℕ × List ℕ × Option (List ℕ) 
 cover_at k None = refused code.Key CoverSection k
 cover_at k (Some keys) = cover_by k (pattern_of keys.0) (spelling_of keys.1) (option_map spelling_of keys.2) keys.3
 
--- the cover of the element with this index
+-- the cover of the element with the given index
 unfoldable pub cover_of : ℕ → Data → Answer Cover
 cover_of k d = cover_at k (cover_keys (as_table d))
 
--- a pattern of a section by itself
+-- a pattern of a section
 abbrev pub pattern_with : Section → ℕ → Option Spelling → Answer Pattern
 pattern_with s k None = refused code.Pattern s k
 pattern_with s k (Some p) = if is_pattern s p then Ok (pattern p) else refused code.Pattern s k
@@ -170,7 +170,7 @@ abbrev pub pattern_at : Section → ℕ → Option (List ℕ) → Answer Pattern
 pattern_at s k None = refused code.Key s k
 pattern_at s k (Some text) = pattern_by s k (pattern_of text)
 
--- the private or readonly pattern of the element with this index
+-- the private or readonly pattern of the element with the given index
 unfoldable pub rule_pattern_of : Section → ℕ → Data → Answer Pattern
 rule_pattern_of s k d = pattern_at s k (text_key s (codes "global") (as_table d))
 
@@ -178,25 +178,25 @@ abbrev pub entry_at : ℕ → Option (List ℕ) → Answer (List ℕ)
 entry_at k None = refused code.Key Entry k
 entry_at k (Some label) = if is_entry label then Ok label else refused code.Pattern Entry k
 
--- the entry of the element with this index
+-- the entry of the element with the given index
 unfoldable pub entry_of : ℕ → Data → Answer (List ℕ)
 entry_of k d = entry_at k (text_key Entry (codes "label") (as_table d))
 
--- what stands before others
+-- puts items before others
 abbrev pub put_first : {A : Type 0} → List A → Answer (List A) → Answer (List A)
 put_first front others = answer_map (λ xs. front ++ xs) others
 
--- what each element is, of which the first has this index
+-- reads each element, the first of which has the given index
 abbrev pub each : {A : Type 0} → (ℕ → Data → Answer A) → ℕ → Items → Answer (List A)
 each read k no_items = Ok []
 each read k (item d ds) = next (read k d) (λ x. put_first (x ∷ []) (each read (suc k) ds))
 
--- how many
+-- the number of items
 abbrev pub count : Items → ℕ
 count no_items = 0
 count (item d ds) = suc (count ds)
 
--- tables alone
+-- only tables
 abbrev pub is_tables : Items → Bool
 is_tables no_items = true
 is_tables (item d ds) = is_some (as_table d) && is_tables ds
@@ -210,7 +210,7 @@ abbrev pub elements_in : Option Data → Option Items
 elements_in None = Some no_items
 elements_in (Some d) = tables_in d
 
--- at most 1,024 of them
+-- at most 1,024 elements
 abbrev pub limited : Section → Option Items → Answer Items
 limited s None = refused code.Key s 0
 limited s (Some ds) = if nat_lt 1024 (count ds) then refused code.RulesLimit s 0 else Ok ds
@@ -218,7 +218,7 @@ limited s (Some ds) = if nat_lt 1024 (count ds) then refused code.RulesLimit s 0
 unfoldable pub section_of : Section → Members → Answer Items
 section_of s ms = limited s (elements_in (get_member (section_word s) ms))
 
--- what the elements of a section are
+-- the items of a section's elements
 abbrev pub all_of : {A : Type 0} → (ℕ → Data → Answer A) → Section → Members → Answer (List A)
 all_of read s ms = next (section_of s ms) (each read 1)
 
@@ -226,7 +226,7 @@ abbrev pub lists : List Family → List Cover → List Pattern → List Pattern 
 lists families covers private readonly entries =
     Ok (record { families = families; covers = covers; private = private; readonly = readonly; entries = entries })
 
--- What the sections of a top table say: the first refusal counts, in the order of the sections.
+-- The lists of a top table; if it has several faults, the first one is returned, in the order of the sections.
 unfoldable pub lists_of : Members → Answer RuleLists
 lists_of ms =
     if has_only File ms then
@@ -238,7 +238,7 @@ lists_of ms =
     lists families covers private readonly entries))))))
     else refused code.Key File 0
 
--- 405: what the sections say is well, but for two families that meet
+-- 405: the sections are right, except that two families meet
 pub record SomeMeet (ms : Members) (f : RulesFault) : Type 0 where
   pub rules : RuleLists
   pub index : ℕ
@@ -246,7 +246,7 @@ pub record SomeMeet (ms : Members) (f : RulesFault) : Type 0 where
   pub first : IsFirstMeeting rules.families index
   pub fault : f ≡ record { code = code.FamiliesMeet; section = Lock; index = index }
 
--- What a top table says: the rules of its sections, if no two families meet.
+-- The meaning of a top table: the rules of its sections, if no two families meet.
 abbrev pub TableSays : Members → Answer RuleLists → Type 0
 TableSays ms (Ok r) = (lists_of ms ≡ Ok r) × FamiliesApart r.families
 TableSays ms (Err f) = (lists_of ms ≡ Err f) ⊎ SomeMeet ms f
@@ -255,29 +255,29 @@ TableSays ms (Err f) = (lists_of ms ≡ Err f) ⊎ SomeMeet ms f
 abbrev pub IsDocument : List ℕ → Members → Type 0
 IsDocument bytes ms = IsUtf8 bytes × (parse_document bytes ≡ Some ms)
 
--- The bytes are text that TOML reads, and their top table says this.
+-- The bytes are text that is valid TOML, and their top table has this meaning.
 abbrev pub Says : List ℕ → Answer RuleLists → Type 0
 Says bytes answer = (ms : Members) × IsDocument bytes ms × TableSays ms answer
 
--- 401: the bytes are no text, or TOML does not read them
+-- 401: the bytes are not text, or not valid TOML
 abbrev pub IsNoToml : List ℕ → RulesFault → Type 0
 IsNoToml bytes f =
     (f ≡ record { code = code.Toml; section = File; index = 0 }) × (IsUtf8 bytes → parse_document bytes ≡ None)
 
--- the same without a table, as far as memory goes
+-- `IsNoToml`, unless memory ran out
 abbrev pub NoTable : List ℕ → Failure RulesFault → Type 0
 NoTable bytes OutOfMemory = Unit {0}
 NoTable bytes (Refused f) = IsNoToml bytes f
 
--- The bytes say these rules.
+-- The bytes have these rules.
 abbrev pub SaysRules : List ℕ → RuleLists → Type 0
 SaysRules bytes r = Says bytes (Ok r)
 
--- Why the bytes are refused. Want of memory says nothing.
+-- Why the bytes are refused. Out of memory says nothing.
 abbrev pub RefusesRules : List ℕ → Failure RulesFault → Type 0
 RefusesRules bytes OutOfMemory = Unit {0}
 RefusesRules bytes (Refused f) = IsNoToml bytes f ⊎ Says bytes (Err f)
 
--- Bytes say one thing at most.
+-- Bytes have at most one meaning.
 abbrev pub OneAnswer : Type 0
 OneAnswer = (bytes : List ℕ) (a b : Answer RuleLists) → Says bytes a → Says bytes b → a ≡ b

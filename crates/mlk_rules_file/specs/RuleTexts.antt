@@ -1,5 +1,5 @@
--- The texts of a rule file as functions that read them: patterns, lock names and entries. What they find is what
--- `RuleGrammar` says, and nothing else: the law `AreWritten`. This project's own choice.
+-- The readers of texts of a rule file, as functions: patterns, lock names and entries. The law `AreWritten` says that they
+-- read what `RuleGrammar` spells, and nothing else. This project's own choice.
 use Rattle.std.specs.Prelude.{ℕ, ◌==◌, ◌||◌, if◌then◌else◌, Bool, List, [], ◌∷◌, Option, Some, None, is_some, codes, bytes_eq}
 use Rattle.mlk_text.specs.Reading.{◌>>=◌, with, put, separated}
 use Rattle.mlk_text.specs.Lexemes.{is_digit, byte_at, name_at, root_at, entry_of}
@@ -11,7 +11,7 @@ use Rattle.mlk_rules_file.specs.declared.read.kinds.SpelledItem.TheVariants.{Lit
 use Rattle.mlk_rules_file.specs.declared.read.kinds.Spelling.{Spelling}
 use Rattle.mlk_rules_file.specs.RuleNumbers.{literal_value_at, negative_at}
 
--- A text in quotes, which may have any byte; a quote inside stands twice.
+-- A quoted text, which may contain any byte; a quote inside is doubled.
 unfoldable mutual
   -- after the opening quote
   pub quoted : List ℕ → Option (List ℕ × List ℕ)
@@ -23,7 +23,7 @@ unfoldable mutual
   closed [] = Some ([], [])
   closed (b ∷ xs) = if b == 34 then put (34 ∷ []) (quoted xs) else Some ([], b ∷ xs)
 
--- The item at the front: `$J`, a number after a minus, a text in quotes, a number, or a variable.
+-- The item at the front: `$J`, a number after a minus, a quoted text, a number, or a variable.
 abbrev pub job : ℕ → SpelledItem
 job j = Job
 
@@ -40,7 +40,7 @@ item_at (b ∷ xs) =
 abbrev pub comma_at : List ℕ → Option (ℕ × List ℕ)
 comma_at xs = if bytes_eq xs (codes ",...)") then None else byte_at 44 xs
 
--- the end of a list: by `...` it means all below too
+-- the end of a list: with `...` everything below is included
 abbrev pub end_of : List ℕ → Option Extent
 end_of xs = if bytes_eq xs (codes ")") then Some Node else if bytes_eq xs (codes ",...)") then Some Tree else None
 
@@ -48,18 +48,18 @@ end_of xs = if bytes_eq xs (codes ")") then Some Node else if bytes_eq xs (codes
 abbrev pub ended : List SpelledItem × List ℕ → Option (List SpelledItem × Extent)
 ended r = end_of r.1 >>= λ extent. Some (r.0, extent)
 
--- one or more items, of which `...` may be the last, up to the closing parenthesis, which ends the text
+-- one or more items, the last of which may be `...`, up to the closing parenthesis, which ends the text
 unfoldable pub list_of : List ℕ → Option (List SpelledItem × Extent)
 list_of xs =
     if bytes_eq xs (codes "...)") then Some ([], Tree)
     else (separated comma_at item_at xs >>= ended)
 
--- what is after a root: nothing, or a list in parentheses
+-- what follows a root: nothing, or a list in parentheses
 unfoldable pub parts_of : List ℕ → Option (List SpelledItem × Extent)
 parts_of [] = Some ([], Node)
 parts_of (b ∷ xs) = if b == 40 then list_of xs else None
 
--- a spelling of its parts
+-- a spelling, from its parts
 abbrev pub spelling : Root → List SpelledItem × Extent → Spelling
 spelling r p = record { root = r; items = p.0; extent = p.1 }
 

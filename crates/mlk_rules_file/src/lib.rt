@@ -1,5 +1,4 @@
-//! Rules: which locks are to be held where a global is touched, and in which order they are claimed. The reader of rule
-//! files stands here; what rules mean, and what is asked of them, is `mlk_rules`.
+//! The reader of rule files. `mlk_rules` has the meaning of the rules.
 #![tactic(auto)]
 
 mod law;

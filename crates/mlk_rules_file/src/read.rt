@@ -1,4 +1,4 @@
-// Reading rule files.
+// The reader of rule files.
 
 mod cover;
 mod document;

@@ -1,4 +1,4 @@
--- A call: the callee's begin is described, in a world of its own.
+-- A call: the callee's begin is described, in its own world.
 use Rattle.std.proofs.Common.{◌≡◌, ℕ, suc, ◌+◌, ◌<◌, ◌≤◌, Bool, true, false, List, [], ◌∷◌, ◌++◌, map, Option, Some, None, refl, sym, ap, ◌∙◌, subst, arith, ⊎_elim}
 use Rattle.std.specs.Prelude.{◌||◌, ◌&&◌, ◌⊎◌, ◌==◌, nat_lt, length, not, bytes_eq, flat_map}
 use Rattle.mlk_cert_lexemes.specs.Lists.{Each}
@@ -86,7 +86,7 @@ own_of level (o ∷ own) n h =
     (λ u. or_right (has o.names n) (is_own own n) (own_of level own n u))
     (or_cases ((o.level == level) && has o.names n) (own_at level own n) h)
 
--- what is said of ranks where no fault is found
+-- ranks, if no fault is found
 pub none_held : (terms : List LockTerm) → holds_some terms ≡ false → terms ≡ []
 none_held [] h = refl
 none_held (t ∷ terms) h = let e : nat_lt 0 (suc (length terms)) ≡ true = grind (arith, nat_tests) in differs (nat_lt 0 (suc (length terms))) e h
@@ -115,7 +115,7 @@ ranks_are sc summary aside h =
     not_not true e = refl
     not_not false e = differs true refl e
 
--- the caller, once the values of the actuals are used
+-- the caller, after the values of the actuals were used
 module _ (sc callee : Scope) (w : World) (b : Level) (s : State) (j : Job) (d : Stands sc w b s.case (bare j)) (k : IsWorld sc w)
     (sole : (x : List ℕ) → some_local x s.captured ≡ true → is_lent j.bindings (look j.bindings x) ≡ false)
     (formals : List (List ℕ)) (dist : AreDistinct formals) (given : List ActualTree) (syms : List Sym) (vals : List (List ℕ)) (passed : Passed (now j) given syms vals)
@@ -166,7 +166,7 @@ module _ (sc callee : Scope) (w : World) (b : Level) (s : State) (j : Job) (d : 
   pub old_value : (x : List ℕ) → cells (look j.bindings x) ≡ j.cells (look j.bindings x)
   old_value x = actuals_before j.next formals given vals j.cells (look j.bindings x) (below_look j.next j.bindings x d.older)
 
-  -- what the caller rests on is nobody else's, and doesn't change
+  -- what the caller depends on is nobody else's, and does not change
   not_false : (x : Bool) → not x ≡ true → x ≡ false
   not_false true h = differs false h refl
   not_false false h = refl
@@ -216,7 +216,7 @@ module _ (sc callee : Scope) (w : World) (b : Level) (s : State) (j : Job) (d : 
   other_symbol : (x : List ℕ) (r : KnownSym) → is_among formals x ≡ false → known_of (put_name formals (map Some syms) x) ≡ Some r → known.Local x ≡ r
   other_symbol x r u e = let z : Some (known.Local x) ≡ Some r = sym (ap known_of (put_other formals syms x u)) ∙ e in cc z
 
-  -- a needed term stands for what it stood for in the caller
+  -- a needed term denotes what it denoted in the caller
   need_value : (x : List ℕ) (r : KnownSym) → known_of (put_name formals (map Some syms) x) ≡ Some r → value_of (now j) r ≡ cells (look (front ++ j.bindings) x)
   need_value x r e =
       ⊎_elim
@@ -310,7 +310,7 @@ module _ (sc callee : Scope) (w : World) (b : Level) (s : State) (j : Job) (d : 
       older = binders_below j.bindings j.next formals given j.bindings d.older (below_more j.next (suc j.next) (omega arith) j.bindings d.older);
     }
 
-  -- what the callee may change is none of what its callers rest on
+  -- the callee changes nothing that its callers depend on
   pub call_quiet : (n : List ℕ) → have callee.summary.mods n ≡ true → Guarded (λ e. look j.bindings n ≡ e → ⊥) (waiting ∷ w.waiting)
   call_quiet n h =
       let c : have ch n ≡ true = changed_mods callee.summary.mods (flat_map lent_set given) n h in (
@@ -318,7 +318,7 @@ module _ (sc callee : Scope) (w : World) (b : Level) (s : State) (j : Job) (d : 
         may_apart sc w b s.case (bare j) d k n (ok.may n c),
       )
 
-  -- the callee's world: what waits holds names of lower ranks, and none where all may be released
+  -- the callee's world: waiting frames hold names of lower ranks, and none if all may be released
   pub call_world : callee.rules ≡ sc.rules → FamiliesApart sc.rules.families → RankedOnce sc.rules.families → ranks_fault sc callee.summary aside ≡ None → IsWorld callee world
   call_world rules apart once fault =
       let f = ranks_are sc callee.summary aside fault in
@@ -359,7 +359,7 @@ module _ (sc callee : Scope) (w : World) (b : Level) (s : State) (j : Job) (d : 
           let le : l ≤ low = grind (arith, nat_tests, z) in
           (r.0, r.1, (let lt = r.2 in omega (arith, le, lt)))
 
-  -- The callee's end: its case describes the job, each own name that its terms mention is kept, and its terms are put in with
+  -- The callee's end: its case describes the job, each own name that its terms mention is kept, and its terms are translated by
   -- the actuals as they are then.
   module _ (c : Case) (i : Job) (e : Stands callee world level c (bare i)) (fine : (x : List ℕ) → mentions x c.held ≡ true → is_own c.own x ≡ true → is_among c.kept x ≡ true)
       (terms : List LockTerm) (out : put_terms formals (map Some (map (marked ch) syms)) c.held ≡ Some terms) (test : Test) (truth : Bool) (agrees : Agrees test truth) where
@@ -406,7 +406,7 @@ module _ (sc callee : Scope) (w : World) (b : Level) (s : State) (j : Job) (d : 
     in_marks y h = or_right (mentions y aside) (some_local y (map (marked ch) syms) || (some_local y (map (marked ch) s.captured) || (is_among (without ch s.case.kept) y && not (w.refs y))))
         (or_left (some_local y (map (marked ch) syms)) (some_local y (map (marked ch) s.captured) || (is_among (without ch s.case.kept) y && not (w.refs y))) h)
 
-    -- what a symbol of the caller is worth now, and was at the call
+    -- the value of a symbol of the caller now, and at the call
     since : (r : KnownSym) → ((y : List ℕ) → is_such (λ n. bytes_eq n y) r ≡ true → guards y ≡ true) → value_of (now returned) r ≡ value_of (now j) r
     since (known.Const v) h = refl
     since (known.Local y) h = guard_value y (h y (name_self y))

@@ -24,7 +24,7 @@ use Rattle.mlk_soundness_machine.proofs.Worlds.{change_law, drop_law}
 use Rattle.mlk_soundness_machine.proofs.Steps.{done, unasked, of_value, of_last}
 use Rattle.mlk_soundness_machine.proofs.Values.{Safe, Fits, plain_step}
 
--- what a change that is allowed says
+-- what an allowed change implies
 pub record Allowed (sc : Scope) (names : List NameSet) (s : State) : Type 0 where
   pub unheld : mention names s.case.held ≡ false
   pub may : (n : List ℕ) → have names n ≡ true → (is_own s.case.own n || have sc.summary.mods n) ≡ true

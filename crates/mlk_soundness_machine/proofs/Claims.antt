@@ -1,4 +1,4 @@
--- What is claimed next is in order.
+-- The next claim is in order.
 use Rattle.std.proofs.Common.{◌≡◌, ℕ, suc, ◌+◌, ◌<◌, ◌≤◌, true, false, List, [], ◌∷◌, Option, Some, None, refl, ap, ◌∙◌, subst, arith, ⊎_elim, inl, inr}
 use Rattle.std.specs.Prelude.{◌⊎◌, Contains}
 use Rattle.std.specs.List.{list_all}
@@ -53,7 +53,7 @@ within_one (h ∷ held) t e =
     (or_cases (is_prefix h t) (is_within held t) e)
 
 module _ (sc : Scope) (w : World) (b : Level) (c : Case) (j : Job) (d : Stands sc w b c (bare j)) (k : IsWorld sc w) (apart : FamiliesApart sc.rules.families) (once : RankedOnce sc.rules.families) where
-  -- each name that is held, here or in a frame that waits, has a rank below
+  -- each held name, here or in a waiting frame, has a rank below
   held_below : (rank : ℕ) → all_ranked_below sc.rules.families c.held rank ≡ true → is_low_enough sc.summary.low (Some rank) ≡ true → (m : LockName) → Holds (seen j) m
       → (r : ℕ) × NameHasRank sc.rules.families m r × (r < rank)
   held_below rank all low m h =
@@ -77,7 +77,7 @@ module _ (sc : Scope) (w : World) (b : Level) (c : Case) (j : Job) (d : Stands s
           let le : l ≤ rank = grind (arith, nat_tests, g) in
           (r.0, r.1, (let lt = r.2 in omega (arith, le, lt)))
 
-  -- so what is claimed is in order, where the walk finds nothing wrong with it
+  -- so what is claimed is in order, if the walk finds nothing wrong with it
   pub claims_in_order : (t : LockTerm) (n : LockName) → name_of (now j) t ≡ Some n → claim_fault sc false c.held t ≡ None → IsOwn (seen j) n ⊎ IsAboveAll sc.rules.families (seen j) n
   claims_in_order t n name h = on (rank_of sc.rules.families t) refl h
     where

@@ -1,4 +1,4 @@
--- What a job keeps to, by its first task.
+-- The invariants of a job, by its first task.
 use Rattle.std.proofs.Common.{◌≡◌, ℕ, true, false, List, [], ◌∷◌, ◌++◌, Some, None, refl, sym, ap, ◌∙◌, subst}
 use Rattle.mlk_names.specs.Lists.{Among}
 use Rattle.mlk_names.specs.References.{Touch}
@@ -80,7 +80,7 @@ plain_facts sc w b j t ts e h k = record {
   jobs = no_start_of_job sc.routines sc.declared_entries j (t ∷ ts) e (plain_jobs t ts h);
 }
 
--- where it goes on to a line, and where commands begin
+-- if it moves on to a line, and if commands begin
 pub lines_facts : (sc : Scope) (w : World) (b : Level) (j : Job) (l : LineTree) (lines : List LineTree) (ts : List Task) → j.tasks ≡ RunLines (l ∷ lines) ∷ ts
     → (c : Case) → Among c (listed sc (line_number l.0) 0) → (behind : LineTrees) → StandIn (line l.0 l.1 behind) (own_lines sc w) → (others : List LineTree) → lines ≡ as_lines behind ++ others → none_follows others ≡ true
     → Stands sc w b c (bare (idle j)) → KeepsIn sc w b j
@@ -162,7 +162,7 @@ argument_facts sc w b j action count left here ts e c comes d k =
       jobs = no_start_of_job sc.routines sc.declared_entries j (task.NextArgument action count ∷ more) e refl;
     }
 
--- where JOB starts a declared entry
+-- if JOB starts a declared entry
 pub job_facts : (sc : Scope) (w : World) (b : Level) (j : Job) (callee : Callee) (given : List ActualTree) (ts : List Task) → j.tasks ≡ task.StartJob callee given ∷ ts
     → (e : EntryId) → target_of sc.routines j.routine callee ≡ Some e → has_entry sc.declared_entries e ≡ true → KeepsIn sc w b j
 job_facts sc w b j callee given ts at e is declared k = record {

@@ -1,4 +1,4 @@
--- A job is safe where each step leads to one that is.
+-- A job is safe if each step leads to one that is.
 use Rattle.std.proofs.Common.{◌≡◌, ℕ, zero, suc, Bool, true, false, List, ◌∷◌, Ok, refl, sym, ap, ◌∙◌, subst, arith}
 use Rattle.std.proofs.lemmas.Bool.Decides.{nat_tests}
 use Rattle.std.specs.Prelude.{◌-◌, nat_lt, if◌then◌else◌, drop}
@@ -17,14 +17,14 @@ use Rattle.mlk_soundness_machine.specs.Safe.{SafeFor, SafeIn, KeepsIn, KeepsTo, 
 use Rattle.mlk_soundness_machine.proofs.Steps.{Comes}
 use Rattle.mlk_soundness_machine.proofs.Stays.{AreOpen, stays}
 
--- where as many frames are open as before, none has begun or ended
+-- if as many frames are open as before, none has begun or ended
 pub as_many : (begun : List Job) (i : Job) (k : ℕ) → open_frames i ≡ k → begun_since begun k i ≡ begun
 as_many begun i k e =
     let no_more : nat_lt k k ≡ false = grind (arith, nat_tests) in
     let none_gone : k - k ≡ 0 = omega arith in
     subst (λ n. (if nat_lt k n then i ∷ begun else drop (k - n) begun) ≡ begun) (sym e) (rw (no_more, none_gone) refl)
 
--- where one more is open, it has begun with what the step came to; where one less is open, the innermost has ended
+-- if one more is open, it has begun with the job that the step yields; if one less is open, the innermost has ended
 pub one_more : (begun : List Job) (i : Job) (k : ℕ) → open_frames i ≡ suc k → begun_since begun k i ≡ i ∷ begun
 one_more begun i k e =
     let more : nat_lt k (suc k) ≡ true = grind (arith, nat_tests) in
@@ -55,7 +55,7 @@ module _ (routines : List RoutineTree) (sc : Scope) (w : World) (b : Level) wher
   pub one_fewer : (n m : ℕ) → n ≡ suc m → (j : Job) → Safe n j → Safe m j
   one_fewer n m e j h = less m j (subst (λ z. Safe z j) e h)
 
-  -- what a job comes to that had these tasks is safe, whatever began or ended
+  -- a job that a step yields from these tasks is safe, whatever began or ended
   abbrev pub Next : List Task → ℕ → Job → Type 0
   Next ts n i = Marked sc w b (marks ts) → SafeFor routines (KeepsTo sc) n (begun_since w.begun (count_frames (marks ts)) i) i
 
@@ -78,13 +78,13 @@ module _ (routines : List RoutineTree) (sc : Scope) (w : World) (b : Level) wher
       subst (λ z. SafeFor routines (KeepsTo sc) m z i) (sym (as_many w.begun i (count_frames (marks (t ∷ ts))) o.count))
       (h i e (marked_same sc w b (marks i.tasks) (marks (t ∷ ts)) o k))
 
-  -- after which it is safe for as many steps
+  -- after which it is safe for the same number of steps
   pub step : (n : ℕ) (j : Job) (t : Task) (ts : List Task) → j.tasks ≡ t ∷ ts → is_steady t ≡ true → KeepsIn sc w b j
       → ((free : LockName → Bool) (c : Choice) → Comes (Safe n) (advance routines free c j (t ∷ ts))) → Safe n j
   step n j t ts e is f h = by_step n j (t ∷ ts) e f (λ m k free c.
       steady free c j t ts is m (advance routines free c j (t ∷ ts)) refl (λ i r. less m i (subst (λ z. Safe z i) k (h free c i r))))
 
-  -- one step, for one more
+  -- one step, from one more
   pub down : (m : ℕ) (j : Job) (t : Task) (ts : List Task) → j.tasks ≡ t ∷ ts → is_steady t ≡ true → KeepsIn sc w b j
       → ((free : LockName → Bool) (c : Choice) → Comes (Safe m) (advance routines free c j (t ∷ ts))) → Safe (suc m) j
   down m j t ts e is f h = by_step (suc m) j (t ∷ ts) e f (λ k same free c.

@@ -1,4 +1,4 @@
--- The terms that a case holds stand for names that the job holds.
+-- The terms that a case holds denote names that the job holds.
 use Rattle.std.proofs.Common.{◌≡◌, ℕ, ◌+◌, ◌<◌, true, List, [], ◌∷◌, Some, refl, sym, ap, subst, ⊎_elim, arith}
 use Rattle.std.specs.Prelude.{◌⊎◌, bytes_eq, option_map, Contains}
 use Rattle.std.specs.List.{AllZip}

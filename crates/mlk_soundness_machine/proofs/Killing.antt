@@ -36,7 +36,7 @@ use Rattle.mlk_soundness_machine.proofs.Steps.{done, unasked}
 use Rattle.mlk_soundness_machine.proofs.Values.{Safe, Fits, plain_step}
 use Rattle.mlk_soundness_machine.proofs.Worlds.{change_law, guarded_map, waiting_kept}
 
--- names that KILL takes the values of
+-- names whose values KILL removes
 pub kill_fits : (routines : List RoutineTree) (sc : Scope) (w : World) (b : Level) → IsWorld sc w → (slots : List Slot) (n : ℕ) (ts : List Task) (s : State) (names : Names) (set : NameSet)
     → ((x : List ℕ) → covers names x ≡ have (set ∷ []) x) → Allowed sc (set ∷ []) s
     → Fits routines sc w b slots n ts (changed_state (set ∷ []) s) → Fits routines sc w b slots n (task.KillNames names ∷ ts) s
@@ -53,7 +53,7 @@ kill_fits routines sc w b world slots n ts s names set same h k j d tasks =
     h.unheld h.may)
     refl)))
 
--- nothing is held where no term is, and waiting frames hold nothing
+-- nothing is held if no term is, and waiting frames hold nothing
 module _ (routines : List RoutineTree) (sc : Scope) (w : World) (b : Level) (world : IsWorld sc w) where
   nothing_held : (c : Case) (j : Job) → Stands sc w b c (bare j) → holds_some c.held ≡ false → sc.summary.drops ≡ true → (m : LockName) → count_of j.held m ≡ 0
   nothing_held c j d none drops m =

@@ -20,12 +20,12 @@ abbrev pub IsTruth : Option Bool → List ℕ → Type 0
 IsTruth None v = Unit {0}
 IsTruth (Some t) v = truth_of_text v ≡ Some t
 
--- what is known of a value by a symbol, which rests on the names that are shared
+-- what a symbol says of a value, which depends on the names that are shared
 pub record KnowsBy (sc : Scope) (s : State) (by : (List ℕ → Bool) → Sym) (a : Assignment) (v : List ℕ) : Type 0 where
   pub constant : (shared : List ℕ → Bool) → IsConstant (by shared) v
   pub stands : StandsFor a (by (sc.is_shared s.case.own)) v
 
--- and by an expression
+-- and what an expression says of it
 pub record Knows (sc : Scope) (s : State) (t : Tree) (a : Assignment) (v : List ℕ) : Type 0 where
   pub symbol : KnowsBy sc s (λ shared. symbol_of shared t) a v
   pub truth : IsTruth (truth_in sc t s) v

@@ -1,5 +1,5 @@
--- Where a listed case describes a job, and where one that the walk makes of a listed one: at the begin of a line and of a round,
--- and before each command. Elsewhere none is asked for.
+-- Where a listed case describes a job, and where one does that the walk derives from a listed one: at the begin of a line and of
+-- a round, and before each command. Elsewhere none is required.
 use Rattle.std.proofs.Common.{◌≡◌, ℕ, Bool, true, false, List, ◌∷◌, ◌++◌, refl, sym, ap, ◌∙◌, subst, ◌+◌}
 use Rattle.std.specs.List.{AllZip}
 use Rattle.mlk_names.specs.Lists.{Among}
@@ -23,9 +23,9 @@ use Rattle.mlk_soundness_machine.proofs.Worlds.{guarded_map, waiting_kept}
 use Rattle.mlk_soundness_machine.specs.Places.{line_number, entry_trees, StandIn, none_follows, OnLine, AreRoundOf}
 use Rattle.mlk_soundness_machine.specs.Listed.{IsDescribed, IsListedAt, IsAtStart, IsAtLine, IsAtRound, IsInside, StartListed, GoesListed, RoundListed, CommandWalked, ArgumentWalked, StartsDeclared}
 
--- what the open blocks and frames, and how the running frame began, add to what is said of a frame
+-- what the open blocks and frames, and the begin of the running frame, add to the description of a frame
 module _ (sc : Scope) (w : World) (b : Level) (c : Case) (j : Job) (k : AreMarked w b (marks j.tasks)) (u : Begun sc w) (d : Stands sc w b c (bare (idle j))) where
-  -- what others have set aside stands for what it stood for at the frame's begin
+  -- what others have set aside denotes what it denoted at the frame's begin
   aside_same : (m : LockName) → times_waiting j.cells j.number w.waiting m ≡ times_waiting w.saved w.number w.waiting m
   aside_same m =
       waiting_kept w.saved j.cells j.number w.waiting u.rests (guarded_map (λ e. (j.cells e ≡ w.saved e) × (is_lent j.bindings e ≡ false)) (λ e. j.cells e ≡ w.saved e) (λ e g. g.0) w.waiting d.guarded) m
@@ -46,7 +46,7 @@ module _ (sc : Scope) (w : World) (b : Level) (c : Case) (j : Job) (k : AreMarke
     kept = λ n h r. let v = u.values n (d.kept_formal n h) r in d.kept n h v.0 ∙ v.1;
   }
 
--- the entry is one of the routine that runs
+-- the entry is one of the running routine
 own_is : (sc : Scope) (w : World) (u : Begun sc w) → w.entry.routine ≡ sc.own
 own_is sc w u = sym (ap (λ (z : Scope). z.own) u.scope)
 
@@ -80,7 +80,7 @@ pub is_at_line : (sc : Scope) (w : World) (b : Level) (c : Case) (l : LineTree) 
 unfolding is_listed_at
 is_at_line sc w b c l lines i behind is others ahead none j k u d = record { at = is_listed_at sc w b c (line_number l.0) 0 i j k u d; behind = behind; is_line = is; others = others; ahead = ahead; no_more = none }
 
--- A case is listed for rounds that run these commands, on the line on which the job is.
+-- A case is listed for rounds that run these commands, on the line that the job is on.
 pub record BeginsRound (sc : Scope) (lines : LineTrees) (rest : CommandTrees) (here : LineTree) (ts : List Task) (c : Case) : Type 0 where
   pub on : OnLine lines here ts
   pub index : ℕ
@@ -99,7 +99,7 @@ is_at_round sc w b rest here ts c r j k u d = record {
   its = refl;
 }
 
--- where the walk comes to a case
+-- if the walk reaches a case
 pub is_inside : (sc : Scope) (w : World) (b : Level) (Comes : Scope → LineTrees → Case → Type 0) (c : Case) → Comes sc (own_lines sc w) c → (j : Job) → AreMarked w b (marks j.tasks) → (u : Begun sc w)
     → Stands sc w b c (bare (idle j)) → IsInside sc.routines sc.rules (sc.blocks, sc.declared_entries) Comes w.begun j
 unfolding is_described
@@ -114,14 +114,14 @@ is_inside sc w b Comes c r j k u d = record {
   began = u.began;
 }
 
--- where the frame has just begun
+-- if the frame has just begun
 pub starts_listed : (sc : Scope) (w : World) (b : Level) (j : Job) → Marked sc w b (marks j.tasks) → StartListed sc.routines sc.blocks w.begun j
 starts_listed sc w b j k others commands block ts since at =
     let z : k.begun.first ∷ k.begun.others ≡ j ∷ others = sym k.begun.since ∙ since in
     let same : k.begun.first ≡ j = cc z in
     subst (IsAtStart sc.routines sc.blocks w.begun) same k.starts
 
--- of a job that begins no commands, goes on to no line, and begins no round
+-- a job that begins no commands, moves on to no line, and begins no round
 abbrev pub begins_lines : List Task → Bool
 begins_lines (RunLines (l ∷ lines) ∷ ts) = true
 begins_lines ts = false
@@ -143,7 +143,7 @@ pub no_command : (routines : List RoutineTree) (rules : RuleLists) (entries : Li
     → CommandWalked routines rules entries begun j
 no_command routines rules entries begun j ts e h left block us at = let z : true ≡ false = sym (ap begins_commands (sym e ∙ at)) ∙ h in absurd (cc z)
 
--- of one that ends no argument, and starts no job
+-- a job that ends no argument, and starts no job
 abbrev pub ends_argument : List Task → Bool
 ends_argument (NextArgument action count ∷ ts) = true
 ends_argument ts = false

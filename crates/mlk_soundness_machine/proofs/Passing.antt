@@ -43,7 +43,7 @@ position_later p x xs e = rw (e, one-add, lt_suc (position_or_len p xs) (length 
     of true = refl
     of false = refl
 
--- the symbol that is put in for a local
+-- the symbol that is substituted for a local
 abbrev pub first_sym : List Sym → Sym
 first_sym [] = by.Unknown
 first_sym (s ∷ ss) = s
@@ -78,7 +78,7 @@ put_other (f ∷ fs) ss x h =
     flip : bytes_eq x f ≡ false → bytes_eq f x ≡ false
     flip e = ⊎_elim (λ (u : bytes_eq f x ≡ true). differs (bytes_eq x f) (subst (λ z. bytes_eq z f ≡ true) (name_is f x u) (name_self f)) e) (λ (u : bytes_eq f x ≡ false). u) (cases_Bool (bytes_eq f x))
 
--- formals that are another's by reference, and the names that are given so
+-- formals that are another's by reference, and the names that are passed so
 abbrev pub is_reference : ActualTree → Bool
 is_reference (ByRef column name) = true
 is_reference (Given t) = false
@@ -97,7 +97,7 @@ abbrev pub passes : List (List ℕ) → List ActualTree → List ℕ → Bool
 passes [] given n = false
 passes (f ∷ fs) given n = refers_to n (next_actual given) || passes fs (later_actuals given) n
 
--- what is given stands for the values
+-- the passed symbols denote the values
 abbrev pub Passed : Assignment → List ActualTree → List Sym → List (List ℕ) → Type 0
 Passed a [] [] [] = Unit {0}
 Passed a [] [] (v ∷ vs) = ⊥
@@ -208,7 +208,7 @@ module _ (g : ℕ) where
   stands_value a by.Job r v e h = let z : known.Job ≡ r = cc e in subst (λ y. value_of a y ≡ Some v) z (ap Some (sym h))
   stands_value a by.Unknown r v e h = let z : None ≡ Some r = e in absurd (cc z)
 
-  -- a formal whose symbol is known is no other's by reference, and has the symbol's value
+  -- a formal with a known symbol is no other's by reference, and has the symbol's value
   pub formal_value : (a : Assignment) (fs : List (List ℕ)) (given : List ActualTree) (ss : List Sym) (vs : List (List ℕ)) (cells : Cells) → AreDistinct fs → Passed a given ss vs
       → (x : List ℕ) → is_among fs x ≡ true → (r : KnownSym) → known_of (put_name fs (map Some ss) x) ≡ Some r
       → (refs_of fs given x ≡ false) × (value_of a r ≡ with_actuals g fs given vs cells (record { generation = g; name = x }))
@@ -287,7 +287,7 @@ changed_mods [] more n h = differs false h refl
 changed_mods (m ∷ mods) more n h =
     ⊎_elim (λ u. or_left (has m n) (have (mods ++ more) n) u) (λ u. or_right (has m n) (have (mods ++ more) n) (changed_mods mods more n u)) (or_cases (has m n) (have mods n) h)
 
--- a symbol that is known once it is marked was not marked, and is one of those that were not
+-- a symbol that is known after marking was not marked, and is one of those that were not
 later_marked : (names : List NameSet) (ss : List Sym) → later_syms (map (marked names) ss) ≡ map (marked names) (later_syms ss)
 later_marked names [] = refl
 later_marked names (s ∷ ss) = refl

@@ -44,7 +44,7 @@ module _ (a : Assignment) where
           let z : record { root = t.root; subs = vs } ≡ n = cc g in
           subst (Names a t) z (record { root = refl; subs = values_stand t.subs vs e })
 
-  -- a name that terms stand for is that of one of them
+  -- a name that terms denote is that of one of them
   pub ranked_below : (families : List Family) → FamiliesApart families → RankedOnce families → (low : ℕ) (ts : List LockTerm) → list_all (λ t. ranks_below (Some low) (rank_of families t)) ts ≡ true
       → (m : LockName) → 0 < times a ts m → (r : ℕ) × NameHasRank families m r × (r < low)
   ranked_below families apart once low [] all m h = absurd (omega (arith, h))

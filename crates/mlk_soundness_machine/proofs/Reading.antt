@@ -1,4 +1,4 @@
--- What terms stand for goes by the values of the locals that they mention.
+-- What terms denote depends on the values of the locals that they mention.
 use Rattle.std.proofs.Common.{◌≡◌, ℕ, ◌+◌, Bool, true, false, List, [], ◌∷◌, ◌++◌, Some, refl, sym, ap, ◌∙◌, subst, ⊎_elim, inl, inr, map, reverse}
 use Rattle.std.specs.Prelude.{◌⊎◌, bytes_eq}
 use Rattle.std.specs.List.{list_any}
@@ -40,7 +40,7 @@ pub mentions_later : (x : List ℕ) (t : LockTerm) (ts : List LockTerm) → ment
 unfolding mentions
 mentions_later x t ts h = or_right (of_subs x t.subs) (mention_such (λ n. bytes_eq n x) ts) h
 
--- what a list of terms does not mention, none of which such a name is
+-- a list of terms does not mention a name if none of its terms does
 such_of : (p : List ℕ → Bool) (x : List ℕ) (subs : List KnownSym) → of_subs x subs ≡ true → p x ≡ true → list_any (is_such p) subs ≡ true
 such_of p x [] h k = differs false h refl
 such_of p x (s ∷ subs) h k =

@@ -1,4 +1,4 @@
--- A job that is safe for any number of steps keeps to the facts at each moment of each run of its own.
+-- A job that is safe for any number of steps meets its invariants at each moment of each run of its own.
 use Rattle.std.proofs.Common.{◌≡◌, Bool, true, false, List, [], ◌∷◌, length, Some, None, Ok, Err, refl, sym, ap, ◌∙◌, subst}
 use Rattle.mlk_names.specs.Lists.{Among}
 use Rattle.mlk_rules.specs.declared.rules.RuleLists.{RuleLists}
@@ -26,7 +26,7 @@ module _ (routines : List RoutineTree) (declared : EntryId → Bool) (Fact : Lis
   is_stopped j k [] e = cc
   is_stopped j k (t ∷ ts) e = let z : record j { held = []; tasks = []; stopped = true } ≡ k = cc e in subst (λ (i : Job). (i.tasks ≡ []) × (i.stopped ≡ true)) z (refl, refl)
 
-  -- of what the rest of a run comes to
+  -- the rest of a run
   abbrev Since : List (Act Choice EntryId) → List Job → Job → Job → Type 0
   Since acts begun j i = Fact (begun_by (machine routines declared) acts begun j) i
 
@@ -50,7 +50,7 @@ module _ (routines : List RoutineTree) (declared : EntryId → Bool) (Fact : Lis
   moments (Abort ∷ acts) begun j i s h =
       goes_on acts begun j i (aborted j j.tasks) (λ k e g. let f = is_stopped j k j.tasks e in stays_stopped acts (begun_after begun j k) k i f.0 f.1 g) h
 
--- a job that was stopped keeps to the facts
+-- a job that was stopped meets its invariants
 pub stopped_facts : (routines : List RoutineTree) (rules : RuleLists) (entries : List (EntryId × EntryCert) × List EntryId) (begun : List Job) (j : Job) → j.tasks ≡ [] → j.stopped ≡ true → FactsSince routines rules entries begun j
 stopped_facts routines rules entries begun j e f = record {
   facts = record {

@@ -7,7 +7,7 @@ use Rattle.mlk_names.specs.declared.symbol.Sym.{Sym}
 use Rattle.mlk_names.specs.Symbols.{Assignment, StandsFor}
 use Rattle.mlk_soundness_machine.specs.Described.{Slot, Kept, Fills}
 
--- so many values whose symbols are captured
+-- `n` values whose symbols are captured
 abbrev pub kepts : ℕ → List Slot → List Slot
 kepts zero slots = slots
 kepts (suc n) slots = kepts n (Kept ∷ slots)
@@ -74,7 +74,7 @@ length_turned (x ∷ xs) =
     let g = ap length (reverse-append (x ∷ []) xs) in
     omega (arith, e, f, g)
 
--- of captured symbols, oldest first, the last ones; and the others
+-- the last captured symbols, oldest first; and the others
 module _ (captured : List Sym) (front syms : List Sym) (n : ℕ) (e : reverse captured ≡ reverse front ++ syms) (l : length front ≡ n) where
   pub whole : captured ≡ reverse syms ++ front
   whole = sym (turned_twice captured) ∙ ap reverse e ∙ reverse-append (reverse front) syms ∙ ap (λ z. reverse syms ++ z) (turned_twice front)
@@ -94,7 +94,7 @@ module _ (captured : List Sym) (front syms : List Sym) (n : ℕ) (e : reverse ca
   pub others_turned : reverse (take (length captured - n) captured) ≡ syms
   others_turned = ap reverse others_are ∙ turned_twice syms
 
--- of values, the last first
+-- values, the last one first
 module _ (values vals more : List (List ℕ)) (n : ℕ) (e : values ≡ reverse vals ++ more) (l : length vals ≡ n) where
   same : n ≡ length (reverse vals)
   same = sym l ∙ sym (length_turned vals)

@@ -1,4 +1,4 @@
--- A step that begins and ends no block and no frame leaves those that are open as they are.
+-- A step that begins and ends no block and no frame leaves the open ones unchanged.
 use Rattle.std.proofs.Common.{◌≡◌, ℕ, Bool, true, false, List, [], ◌∷◌, ◌++◌, drop, Option, Some, None, Ok, refl, ap, ◌∙◌}
 use Rattle.std.specs.Prelude.{◌&&◌}
 use Rattle.std.specs.List.{list_all}
@@ -86,7 +86,7 @@ answer_open j (task.QuitWithValue ∷ ts) = record { tests = refl; frames = refl
 answer_open j (task.HaltJob ∷ ts) = record { tests = refl; frames = refl; count = refl }
 
 module _ (us : List Task) where
-  -- what a step comes to has the blocks and frames of these tasks
+  -- the job that a step yields has the blocks and frames of these tasks
   abbrev pub Has : Job → Type 0
   Has i = AreOpen (marks i.tasks) (marks us)
 

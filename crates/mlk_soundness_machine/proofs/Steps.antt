@@ -1,4 +1,4 @@
--- What a step comes to.
+-- What a step yields.
 use Rattle.std.proofs.Common.{◌≡◌, ℕ, Bool, List, [], ◌∷◌, Option, Some, None, Ok, Err, refl, subst}
 use Rattle.mlk_machine_locks.specs.declared.refusal.Refusal.{Refusal}
 use Rattle.mlk_machine_jobs.specs.declared.choice.Choice.{Choice}
@@ -7,7 +7,7 @@ use Rattle.mlk_machine_jobs.specs.Tasks.{Job}
 use Rattle.mlk_machine_jobs.specs.Choices.{Stepped, without_choice, with_value, with_truth, with_last, truth_or_asked, given_or_asked}
 
 module _ (P : Job → Type 0) where
-  -- whatever the step comes to has P
+  -- whatever job the step yields has `P`
   abbrev pub Comes : Stepped → Type 0
   Comes s = (i : Job) → s ≡ Ok i → P i
 

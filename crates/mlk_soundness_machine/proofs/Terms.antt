@@ -1,4 +1,4 @@
--- Lists of terms: more and fewer of them, and those of a callee as the caller has them.
+-- Lists of terms: more and fewer of them, and those of a callee, translated for its caller.
 use Rattle.std.proofs.Common.{◌≡◌, ℕ, suc, ◌+◌, Bool, true, false, List, [], ◌∷◌, ◌++◌, length, take, drop, map, Option, Some, None, refl, sym, ap, ◌∙◌, subst, arith, ⊎_elim, inl, inr, one-add}
 use Rattle.std.specs.Prelude.{◌⊎◌, nat_lt, if◌then◌else◌, option_map, option_and_then, remove, bytes_eq}
 use Rattle.std.specs.List.{position_or_len}
@@ -93,7 +93,7 @@ taken_later t u us e = rw (e, one-add, lt_suc (position_or_len (same_term t) us)
     of true = refl
     of false = refl
 
--- what is left, and the term that is taken
+-- what is left, and the term that is removed
 pub record Left (a : Assignment) (t : LockTerm) (held rest : List LockTerm) : Type 0 where
   pub times_are : (m : LockName) → times a held m ≡ one_at (name_of a t) m + times a rest m
   pub rest_mentions : (x : List ℕ) → mentions x rest ≡ true → mentions x held ≡ true
@@ -146,7 +146,7 @@ all_left a (t ∷ ts) held rest h =
       term_mentions = λ x g. ⊎_elim (λ u. p.term_mentions x u) (λ u. p.rest_mentions x (q.term_mentions x u)) (mentions_cases x t ts g);
     })
 
--- a list of which each item gives something
+-- a list whose items all yield something
 pub record First {A B : Type 0} (by : A → Option B) (a : A) (items : List A) (found : List B) : Type 0 where
   pub one : B
   pub rest : List B
@@ -162,8 +162,8 @@ first_of by a items found h = on (by a) refl (all_some by items) refl h
     on (Some b) e None f h = let z : None ≡ Some found = (rw (e, f) at h) in absurd (cc z)
     on (Some b) e (Some bs) f h = let z : Some (b ∷ bs) ≡ Some found = (rw (e, f) at h) in record { one = b; rest = bs; is = cc z; by_one = e; by_rest = f }
 
--- The terms of a callee as the caller has them: each stands for what it stands for in the callee, where each local that
--- they mention has the value that is put in for it.
+-- The terms of a callee, translated for its caller: each denotes what it denotes in the callee, if each local that they mention
+-- has the value that is substituted for it.
 module _ (formals : List (List ℕ)) (given : List (Option Sym)) where
   abbrev pub put_name : List ℕ → Sym
   put_name x = put_in formals given (known.Local x)
@@ -209,7 +209,7 @@ module _ (formals : List (List ℕ)) (given : List (Option Sym)) where
         let first : one_at (name_of a c.one) m ≡ one_at (name_of b t) m = subst (λ (l : LockTerm). one_at (name_of a l) m ≡ one_at (name_of b t) m) p.is (ap (λ o. one_at o m) one) in
         subst (λ l. times a l m ≡ times b (t ∷ ts) m) c.is (omega (arith, first, more))
 
-  -- what a put term mentions
+  -- what a translated term mentions
   pub record From (y : List ℕ) (Of : List ℕ → Type 0) : Type 0 where
     pub name : List ℕ
     pub symbol : KnownSym
@@ -242,7 +242,7 @@ module _ (formals : List (List ℕ)) (given : List (Option Sym)) where
       (λ i. let r = put_from y ts c.rest c.by_rest i in record { name = r.name; symbol = r.symbol; of = mentions_later r.name t ts r.of; known = r.known; at = r.at })
       (mentions_cases y c.one c.rest (subst (λ l. mentions y l ≡ true) (sym c.is) h))
 
-  -- and what is put in for a name that a term mentions
+  -- and what is substituted for a name that a term mentions
   pub record Into (x : List ℕ) (Of : List ℕ → Type 0) : Type 0 where
     pub symbol : KnownSym
     pub known : known_of (put_name x) ≡ Some symbol

@@ -1,4 +1,4 @@
--- References: what touches next is covered.
+-- References: what is touched next is covered.
 use Rattle.std.proofs.Common.{◌≡◌, ℕ, true, List, ◌∷◌, drop, reverse, None, refl, sym, subst}
 use Rattle.std.specs.List.{AllZip}
 use Rattle.mlk_names.specs.declared.symbol.Sym.{Sym}
@@ -38,7 +38,7 @@ abbrev pub referring : Extent → Access → List ℕ → List Sym → Reference
 referring extent access name subs = record { root = name; subs = subs; extent = extent; access = access }
 
 module _ (rules : RuleLists) (sc : Scope) (w : World) (b : Level) where
-  -- what a described job touches is covered where the walk finds nothing wrong with it
+  -- what a described job touches is covered, if the walk finds nothing wrong with it
   pub is_covered : (c : Case) (j : Job) → Stands sc w b c (bare (idle j)) → (e : Extent) (a : Access) (name : List ℕ) (subs : List Sym) (vals : List (List ℕ)) → AllZip (StandsFor (now j)) subs vals
       → answer rules c.held (referring e a name subs) ≡ None → IsCoveredAt rules j (touch_at name vals e a)
   is_covered c j d e a name subs vals stand h = record {
@@ -55,14 +55,14 @@ module _ (rules : RuleLists) (sc : Scope) (w : World) (b : Level) where
     took : Taken (now j) count slots (reverse s.captured) j.values w.values
     took = taken (now j) count slots (reverse s.captured) j.values w.values d.values
 
-    -- so many captured symbols stand for as many values
+    -- the last captured symbols denote the last values
     pub last_stand : AllZip (StandsFor (now j)) (last_captured count s) (last_values count j)
     last_stand =
         let e = last_are s.captured took.front took.syms count took.symbols took.count in
         let f = taken_are j.values took.vals took.more count took.values_are took.many in
         subst (λ z. AllZip (StandsFor (now j)) z (last_values count j)) (sym e) (subst (AllZip (StandsFor (now j)) took.front) (sym f) took.stand)
 
-    -- they are used and forgotten
+    -- both are used and dropped
     pub forget_law : Describes sc w b slots (without_last count s) (dropped count j)
     forget_law = record {
       stands = d.stands;
@@ -76,7 +76,7 @@ module _ (rules : RuleLists) (sc : Scope) (w : World) (b : Level) where
     }
 
 module _ (routines : List RoutineTree) (sc : Scope) (w : World) (b : Level) (slots : List Slot) (n : ℕ) (ts : List Task) (s : State) where
-  -- each job that has one more value is safe, whatever the value is
+  -- each job with one more value, whatever it is, is safe
   abbrev pub FitsAny : Type 0
   FitsAny = (j : Job) (v : List ℕ) → Describes sc w b (Bare None ∷ slots) s (idle j) → j.values ≡ v ∷ drop 1 j.values → j.tasks ≡ ts → Safe routines sc w b n j
 
@@ -97,7 +97,7 @@ module _ (routines : List RoutineTree) (sc : Scope) (w : World) (b : Level) (slo
           (k (doing ts (pushed v j)) v (push_law sc w b slots s (idle j) d v) refl refl))
       by Writes k c = unasked (Safe routines sc w b n) c _ (done (Safe routines sc w b n) (doing ts j) (k (doing ts j) d refl))
 
--- a reference of subscripts that were captured last
+-- a reference whose subscripts were captured last
 pub form : (routines : List RoutineTree) (sc : Scope) (w : World) (b : Level) (slots : List Slot) (n : ℕ) (ts : List Task) (s : State)
     (name : List ℕ) (count : ℕ) (e : Extent) (a : Access) → answer sc.rules s.case.held (referring e a name (last_captured count s)) ≡ None
     → FitsAfter routines sc w b slots n ts (without_last count s) a

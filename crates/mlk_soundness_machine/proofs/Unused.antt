@@ -1,4 +1,4 @@
--- Values without symbols: so many are dropped, or one takes their place.
+-- Values without symbols: some are dropped, or one replaces them.
 use Rattle.std.proofs.Common.{◌≡◌, ℕ, zero, suc, ◌+◌, ◌-◌, ◌≤◌, true, false, List, [], ◌∷◌, ◌++◌, length, take, drop, reverse, None, refl, sym, ap, ◌∙◌, subst, arith, length-append, ⊎_elim}
 use Rattle.std.proofs.lemmas.List.{reverse-append}
 use Rattle.std.proofs.Math.Seq.{drop-append_seam, take-append_seam}
@@ -24,7 +24,7 @@ use Rattle.mlk_soundness_machine.proofs.Values.{Safe, Fits, plain_step}
 use Rattle.mlk_soundness_machine.proofs.Worlds.{push_law}
 use Rattle.mlk_soundness_machine.proofs.Touches.{FitsAny, form, forget_law, referring}
 
--- so many values without symbols
+-- `count` values without symbols
 abbrev pub bares : ℕ → List Slot → List Slot
 bares zero slots = slots
 bares (suc n) slots = bares n (Bare None ∷ slots)
@@ -64,7 +64,7 @@ bares_fill a (v ∷ vals) (suc n) e slots ss more below f =
     subst (λ z. Fills a (bares n (Bare None ∷ slots)) ss z below) (back_one v vals more) (bares_fill a vals n k (Bare None ∷ slots) ss (v ∷ more) below (tt, f))
 
 module _ (sc : Scope) (w : World) (b : Level) (slots : List Slot) (count : ℕ) (s : State) (j : Job) where
-  -- symbols are forgotten, and their values stay
+  -- symbols are dropped, and their values stay
   pub bared_law : Describes sc w b (kepts count slots) s j → Describes sc w b (bares count slots) (without_last count s) j
   bared_law d =
       let r = taken (now j) count slots (reverse s.captured) j.values w.values d.values in
@@ -98,7 +98,7 @@ module _ (routines : List RoutineTree) (sc : Scope) (w : World) (b : Level) (slo
   drop_fits k j d e = plain_step routines sc w b (bares count slots) n ts s (task.Drop count) refl j e (λ free c.
       unasked (Safe routines sc w b n) c _ (done (Safe routines sc w b n) (doing ts (dropped count j)) (k (doing ts (dropped count j)) (unused_law sc w b slots count s (idle j) d) refl)))
 
-  -- subscripts whose symbols are forgotten
+  -- subscripts whose symbols are dropped
   pub forgotten_fits : Fits routines sc w b (bares count slots) n ts (without_last count s) → Fits routines sc w b (kepts count slots) n ts s
   forgotten_fits k j d e = k j (bared_law sc w b slots count s (idle j) d) e
 
@@ -142,7 +142,7 @@ drop_whole : {A : Type 0} (xs : List A) → drop (length xs) xs ≡ []
 drop_whole [] = refl
 drop_whole (x ∷ xs) = drop_whole xs
 
--- nothing is forgotten, and no symbol is the last of none
+-- nothing is dropped, and of no symbols none is the last
 pub nothing_less : (s : State) → without_last 0 s ≡ s
 nothing_less s =
     let e : length s.captured - 0 ≡ length s.captured = omega arith in
@@ -153,7 +153,7 @@ none_last s =
     let e : length s.captured - 0 ≡ length s.captured = omega arith in
     ap (λ k. drop k s.captured) e ∙ drop_whole s.captured
 
--- there is a last value where a slot has one
+-- if a slot has a last value, there is one
 pub first_value : (a : Assignment) (slots : List Slot) (ss : List Sym) (values below : List (List ℕ)) → Fills a (Bare None ∷ slots) ss values below → (v : List ℕ) × (more : List (List ℕ)) × (values ≡ v ∷ more)
 first_value a slots ss [] below f = absurd f
 first_value a slots ss (v ∷ more) below f = (v, more, refl)

@@ -62,7 +62,7 @@ binary_constant op (known.Local n) t a b r h i k = tt
 binary_constant op known.Job t a b r h i k = tt
 binary_constant op known.Unknown t a b r h i k = tt
 
--- a symbol that operators make is constant or unknown
+-- a symbol that an operator yields is constant or unknown
 constant_stands : (w : Assignment) (o : Option (List ℕ)) (r : List ℕ) → IsConstant (constant_if o) r → StandsFor w (constant_if o) r
 constant_stands w None r h = tt
 constant_stands w (Some c) r h = h
@@ -136,7 +136,7 @@ module _ (routines : List RoutineTree) (sc : Scope) (w : World) (b : Level) wher
   abbrev pub Fits : List Slot → ℕ → List Task → State → Type 0
   Fits = Fit routines sc w b
 
-  -- each job that has one more value, of which so much is known, is safe
+  -- each job with one more value, about which this is known, is safe
   abbrev pub FitsBy : ((List ℕ → Bool) → Sym) → List Slot → ℕ → List Task → State → Type 0
   FitsBy by slots n ts s = (j : Job) (v : List ℕ) (more : List (List ℕ)) → Describes sc w b (Bare None ∷ slots) s (idle j) → j.values ≡ v ∷ more
       → KnowsBy sc s by (now j) v → j.tasks ≡ ts → Safe n j
@@ -197,7 +197,7 @@ module _ (routines : List RoutineTree) (sc : Scope) (w : World) (b : Level) wher
         (k (doing ts (pushed (decimal j.number) j)) (decimal j.number) j.values (push_law sc w b slots s (idle j) d (decimal j.number)) refl
         (record { symbol = record { constant = λ shared. tt; stands = refl }; truth = tt }) refl))))
 
-    -- the last value is used, and another one is there
+    -- the last value is used, and replaced by another
     pub replace_law : (j : Job) (v : List ℕ) (more : List (List ℕ)) (r : List ℕ) → Describes sc w b (Bare None ∷ slots) s (idle j) → j.values ≡ v ∷ more
         → Describes sc w b (Bare None ∷ slots) s (idle (pushed r (dropped 1 j)))
     replace_law j v more r d e =
@@ -218,7 +218,7 @@ module _ (routines : List RoutineTree) (sc : Scope) (w : World) (b : Level) wher
           truth = prefixed_truth op (before_symbol op (symbol_of (sc.is_shared s.case.own) t)) (truth_in sc t s) v r knows.truth (constant (sc.is_shared s.case.own)) from;
         }) refl))))
 
-    -- an operator between two values, of which the first is known
+    -- an operator between two values, the first of which is known
     pub binary : (op : Op) (by : (List ℕ → Bool) → Sym) (v : List ℕ) (t : Tree) → ((shared : List ℕ → Bool) → IsConstant (by shared) v)
         → FitsBy (λ shared. between_symbols op (by shared) (symbol_of shared t)) slots n ts s
         → FitsValue t (Bare (Some v) ∷ slots) n (task.ApplyBinary op ∷ ts) s
@@ -241,7 +241,7 @@ module _ (routines : List RoutineTree) (sc : Scope) (w : World) (b : Level) wher
         (record { constant = constant; stands = between_stands (now j) op (by (sc.is_shared s.case.own)) (symbol_of (sc.is_shared s.case.own) t) r (constant (sc.is_shared s.case.own)) })
         refl)))))
 
-    -- any value in place of so many
+    -- any value instead of several
     pub remember : (by : (List ℕ → Bool) → Sym) (j : Job) (v : List ℕ) (more : List (List ℕ)) → Describes sc w b (Bare None ∷ slots) s (idle j) → j.values ≡ v ∷ more
         → Describes sc w b (Bare (Some v) ∷ slots) s (idle j)
     remember by j v more d e = know_law sc w b None slots s (idle j) d v more e (Some v) refl

@@ -1,4 +1,4 @@
--- What may change is none of what waiting frames rest on.
+-- What may change is nothing that waiting frames depend on.
 use Rattle.std.proofs.Common.{◌≡◌, ℕ, ◌+◌, Bool, true, false, List, [], ◌∷◌, ◌++◌, Option, None, refl, sym, ap, ◌∙◌, subst, ⊎_elim, map, reverse, append_assoc}
 use Rattle.std.specs.Prelude.{◌||◌, ◌⊎◌, bytes_eq}
 use Rattle.std.proofs.lemmas.List.{reverse-append}
@@ -50,7 +50,7 @@ binds_append [] back n = refl
 binds_append (Fresh g names ∷ front) back n = ap (λ x. covers names n || x) (binds_append front back n) ∙ or_three (covers names n) (binds front n) (binds back n)
 binds_append (ByReference f c ∷ front) back n = ap (λ x. bytes_eq f n || x) (binds_append front back n) ∙ or_three (bytes_eq f n) (binds front n) (binds back n)
 
--- a name that is bound anew since a frame began has none of the cells that waiting frames rest on
+-- a name that was bound anew since a frame began has none of the cells that waiting frames depend on
 anew_apart : (cur : Bindings) (n : List ℕ) → Ordered cur → (front back : Bindings) → cur ≡ front ++ back → binds front n ≡ true → (ws : List Waiting) → Nested back ws
     → Guarded (λ d. is_lent cur d ≡ false) ws → Guarded (λ d. look cur n ≡ d → ⊥) ws
 anew_apart cur n o front back e h [] nested sole = tt
@@ -87,7 +87,7 @@ module _ (sc : Scope) (w : World) (b : Level) (c : Case) (j : Job) (d : Stands s
   pub all_sole : Guarded (λ e. is_lent j.bindings e ≡ false) w.waiting
   all_sole = guarded_map (λ e. (j.cells e ≡ w.saved e) × (is_lent j.bindings e ≡ false)) (λ e. is_lent j.bindings e ≡ false) (λ e h. h.1) w.waiting d.guarded
 
-  -- a name that may change here has none of the cells that waiting frames rest on
+  -- a name that may change here has none of the cells that waiting frames depend on
   pub may_apart : (n : List ℕ) → (is_own c.own n || have sc.summary.mods n) ≡ true → Guarded (λ e. look j.bindings n ≡ e → ⊥) w.waiting
   may_apart n may =
       ⊎_elim
@@ -103,7 +103,7 @@ module _ (sc : Scope) (w : World) (b : Level) (c : Case) (j : Job) (d : Stands s
   pub only_name : (n x : List ℕ) → is_lent j.bindings (look j.bindings x) ≡ false → look j.bindings n ≡ look j.bindings x → n ≡ x
   only_name n x sole e = (shares j.bindings d.ordered [] j.bindings refl n x e sole).0
 
-  -- a change of names: a cell is as it was, or is that of a changed name
+  -- a change of names: a cell is unchanged, or is that of a changed name
   module _ (names : List NameSet) (cells : Cells) (only : (e : Cell) → (cells e ≡ j.cells e) ⊎ ((n : List ℕ) × (have names n ≡ true) × (look j.bindings n ≡ e)))
       (unheld : mention names c.held ≡ false) (may : (n : List ℕ) → have names n ≡ true → (is_own c.own n || have sc.summary.mods n) ≡ true) where
     pub change_here : (x : List ℕ) → is_lent j.bindings (look j.bindings x) ≡ false → have names x ≡ false → cells (look j.bindings x) ≡ j.cells (look j.bindings x)
@@ -173,7 +173,7 @@ module _ (sc : Scope) (w : World) (b : Level) (slots : List Slot) (s : State) (j
   pub push_law : (v : List ℕ) → Describes sc w b (Bare None ∷ slots) s (record j { values = v ∷ j.values })
   push_law v = record { stands = d.stands; captured_sole = d.captured_sole; values = (tt, d.values) }
 
--- and used, known, or its symbol captured
+-- and used, or known, or its symbol is captured
 module _ (sc : Scope) (w : World) (b : Level) (known : Option (List ℕ)) (slots : List Slot) (s : State) (j : Job) (d : Describes sc w b (Bare known ∷ slots) s j)
     (v : List ℕ) (more : List (List ℕ)) (e : j.values ≡ v ∷ more) where
   first_fills : IsGiven known v × Fills (now j) slots (reverse s.captured) more w.values

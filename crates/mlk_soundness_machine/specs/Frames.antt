@@ -8,25 +8,25 @@ use Rattle.mlk_machine_jobs.specs.Bindings.{Bindings, Cells}
 use Rattle.mlk_machine_laws.specs.Sharing.{binds}
 use Rattle.mlk_soundness_machine.specs.Reads.{values_in, times}
 
--- A frame that waits for its callee: the terms that it has set aside, how names are bound in it, and the names on whose
--- values it rests.
+-- A frame that waits for its callee: the terms that it has set aside, its bindings of names, and the names whose values it
+-- depends on.
 pub record Waiting : Type 0 where
   pub terms : List LockTerm
   pub bindings : Bindings
   pub guards : List ℕ → Bool
 
--- how often terms of waiting frames denote a name, each read in its own bindings
+-- how often terms of waiting frames denote a name, each frame's read in its own bindings
 abbrev pub times_waiting : Cells → ℕ → List Waiting → LockName → ℕ
 times_waiting cells number [] m = 0
 times_waiting cells number (w ∷ ws) m = times (values_in cells w.bindings number) w.terms m + times_waiting cells number ws m
 
--- `$TEST` is as the case says, where it says something
+-- `$TEST` has the value that the case says, if it says one
 abbrev pub Agrees : Test → Bool → Type 0
 Agrees Any b = Unit {0}
 Agrees Zero b = b ≡ false
 Agrees One b = b ≡ true
 
--- these bindings have so much in front of what they had
+-- these bindings are the earlier ones with binders in front, which bind exactly the names of `is`
 pub record Binds (bindings back : Bindings) (is : List ℕ → Bool) : Type 0 where
   pub front : Bindings
   pub split : bindings ≡ front ++ back

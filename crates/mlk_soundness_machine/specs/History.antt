@@ -1,5 +1,5 @@
--- What a job was when its open frames began, and what its tasks say of the blocks and frames that are open. This project's
--- own choice.
+-- The job at the begin of each open frame, and what its tasks say of the blocks and frames that are open. This project's own
+-- choice.
 use Rattle.std.specs.Prelude.{◌≡◌, ℕ, suc, ◌-◌, nat_lt, Bool, true, false, if◌then◌else◌, List, [], ◌∷◌, ◌++◌, drop, bytes_eq}
 use Rattle.mlk_program.specs.declared.entry.EntryId.{EntryId}
 use Rattle.mlk_machine_jobs.specs.Bindings.{covers, Fresh, ByReference, Bindings}
@@ -8,7 +8,7 @@ use Rattle.mlk_machine_jobs.specs.Calling.{commands_in, lines_after}
 use Rattle.mlk_machine_jobs.specs.Tasks.{Task, Job, LineTree, RunLines, RunCommands, Mark, BlockMark, FrameMark, marks}
 use Rattle.mlk_soundness_machine.specs.Frames.{Waiting}
 
--- the values of `$TEST` that the open blocks of the running frame put back, the outermost first; and how names were bound at
+-- the values of `$TEST` that the open blocks of the running frame restore, the outermost first; and how names were bound at
 -- the begin of each open frame, the innermost first
 abbrev pub block_tests : List Mark → List Bool
 block_tests [] = []
@@ -20,7 +20,7 @@ frame_backs [] = []
 frame_backs (BlockMark back next test ∷ ms) = frame_backs ms
 frame_backs (FrameMark frame back next routine ∷ ms) = back ∷ frame_backs ms
 
--- how many frames are open
+-- the number of open frames
 abbrev pub count_frames : List Mark → ℕ
 count_frames [] = 0
 count_frames (BlockMark back next test ∷ ms) = count_frames ms
@@ -29,8 +29,8 @@ count_frames (FrameMark frame back next routine ∷ ms) = suc (count_frames ms)
 abbrev pub open_frames : Job → ℕ
 open_frames j = count_frames (marks j.tasks)
 
--- The job as it was when each of its open frames began, the innermost first: a step by which a frame begins adds what it comes
--- to, and once a frame has ended, that of its begin is gone. The number is how many frames are open before the step.
+-- The job at the begin of each open frame, the innermost first: a step by which a frame begins adds the job that it yields,
+-- and once a frame has ended, the job at its begin is dropped. `count` is the number of open frames before the step.
 abbrev pub begun_since : List Job → ℕ → Job → List Job
 begun_since begun count i = if nat_lt count (open_frames i) then i ∷ begun else drop (count - open_frames i) begun
 
@@ -48,7 +48,7 @@ is_reference [] n = false
 is_reference (Fresh g names ∷ bs) n = if covers names n then false else is_reference bs n
 is_reference (ByReference formal cell ∷ bs) n = if bytes_eq formal n then true else is_reference bs n
 
--- the frame that has begun is that of the entry: the job has the entry's lines to do
+-- the frame that has begun is one of the entry: the job has the entry's lines to run
 pub record BeganAt (routines : List RoutineTree) (e : EntryId) (first : Job) : Type 0 where
   pub head : HeadTree
   pub body : LineTrees

@@ -34,7 +34,7 @@ use Rattle.mlk_soundness_machine.specs.Reads.{now, name_of}
 use Rattle.mlk_soundness_machine.specs.Described.{World, Level, Slot, IsWorld, bare, idle, Stands, Describes}
 use Rattle.mlk_soundness_machine.specs.Safe.{SafeFor}
 
--- Where each job that begins is safe for each number of steps, the facts hold at each moment of each run of one job.
+-- If each job that begins is safe for each number of steps, the facts hold at each moment of each run of one job.
 abbrev pub SafeAtEachMoment : Type 0
 SafeAtEachMoment =
     (routines : List RoutineTree) (declared : EntryId → Bool) (rules : RuleLists) (entries : List (EntryId × EntryCert) × List EntryId)
@@ -42,8 +42,7 @@ SafeAtEachMoment =
     → (machine routines declared).begin e test values k ≡ Ok first → (n : ℕ) → SafeFor routines (FactsSince routines rules entries) n (first ∷ []) first)
     → AtEachMomentSince routines declared (FactsSince routines rules entries)
 
--- Where a case describes a job and its terms cover a reference, names that the job holds cover what the reference
--- denotes.
+-- If a case describes a job and its terms cover a reference, names that the job holds cover what the reference denotes.
 abbrev pub DescribedIsCovered : Type 0
 DescribedIsCovered =
     (rules : RuleLists) (sc : Scope) (w : World) (b : Level) (c : Case) (j : Job) → Stands sc w b c (bare (idle j))
@@ -52,8 +51,8 @@ DescribedIsCovered =
     → answer rules c.held (record { root = name; subs = subs; extent = extent; access = access }) ≡ None
     → IsCoveredAt rules j (touch_at name values extent access)
 
--- Where a case describes a job and allows the claim of a term, the name that the term denotes is at or below one that
--- the job holds, or its rank is above those of all that it holds, over all open frames.
+-- If a case describes a job and allows the claim of a term, the name that the term denotes is at or below one that the job
+-- holds, or its rank is above those of all that it holds, over all open frames.
 abbrev pub DescribedIsInOrder : Type 0
 DescribedIsInOrder =
     (sc : Scope) (w : World) (b : Level) (c : Case) (j : Job) → Stands sc w b c (bare j) → IsWorld sc w
@@ -61,7 +60,7 @@ DescribedIsInOrder =
     → (t : LockTerm) (n : LockName) → name_of (now j) t ≡ Some n → claim_fault sc false c.held t ≡ None
     → IsOwn (seen j) n ⊎ IsAboveAll sc.rules.families (seen j) n
 
--- Where a state describes a job, and names change that no held term mentions and that are own or listed by the summary, the
+-- If a state describes a job, and names change that no held term mentions and that are own or listed by the summary, the
 -- changed state describes the job with its cells changed, whatever values they have then.
 abbrev pub ChangedIsDescribed : Type 0
 ChangedIsDescribed =

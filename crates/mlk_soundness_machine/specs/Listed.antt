@@ -1,5 +1,5 @@
--- That a listed case describes a job where a frame of it begins, where it moves on to a line, and where a round of a FOR begins;
--- and inside a line, before each command and after each argument, one that the walk makes of a listed case; and that JOB starts
+-- A listed case describes a job at the begin of a frame, at each line that it moves on to, and at each round of a FOR; inside a
+-- line, before each command and after each argument, a case that the walk derives from a listed one does; and JOB starts
 -- declared entries. This project's own choice.
 use Rattle.std.specs.Prelude.{◌≡◌, ℕ, ◌+◌, true, false, List, [], ◌∷◌, ◌++◌, map, Some}
 use Rattle.std.specs.List.{AllZip}
@@ -27,9 +27,10 @@ use Rattle.mlk_soundness_machine.specs.Places.{line_number, entry_trees, StandIn
 use Rattle.mlk_soundness_machine.specs.Reads.{now, times}
 
 -- The case describes the job: with what other open frames have set aside, each read in its own bindings, its terms denote
--- exactly what the job holds; `$TEST` and the saved ones are as it says, and so are the names bound anew in the running frame;
--- names that it lists as kept have their values of the frame's begin, but for those that the frame's own call bound by reference.
--- What others have set aside is what the job held at the frame's begin, but for what the terms that the entry needs denoted.
+-- exactly what the job holds; `$TEST` and the saved values are as it says, and so are the names bound anew in the running
+-- frame; names that it lists as kept have their values of the frame's begin, except those that the frame's own call bound by
+-- reference. What other frames have set aside is what the job held at the frame's begin, less what the terms that the entry
+-- needs denoted.
 pub record IsDescribed (need : List LockTerm) (c : Case) (begun : List Job) (j : Job) : Type 0 where
   pub test : Agrees c.test j.test
   pub saved : AllZip Agrees c.saved (block_tests (marks j.tasks))
@@ -44,7 +45,7 @@ pub record IsDescribed (need : List LockTerm) (c : Case) (begun : List Job) (j :
   pub aside : (m : LockName) → count_of first.held m ≡ times (now first) need m + times_waiting j.cells j.number waiting m
   pub kept : (n : List ℕ) → is_among c.kept n ≡ true → is_reference first.bindings n ≡ false → j.cells (look j.bindings n) ≡ first.cells (look first.bindings n)
 
--- a case describes it that is listed at a place for the certified entry by which the running frame began
+-- it is described by a case that is listed at this point for the certified entry by which the running frame began
 pub record IsListedAt (routines : List RoutineTree) (blocks : List (EntryId × EntryCert)) (number round : ℕ) (begun : List Job) (j : Job) : Type 0 where
   pub entry : EntryId
   pub running : entry.routine ≡ j.routine
@@ -55,11 +56,11 @@ pub record IsListedAt (routines : List RoutineTree) (blocks : List (EntryId × E
   pub describes : IsDescribed block.summary.need case begun j
   pub began : BeganAt routines entry describes.first
 
--- one that is listed at the line of that entry
+-- such a case is listed at the line of that entry
 abbrev pub IsAtStart : List RoutineTree → List (EntryId × EntryCert) → List Job → Job → Type 0
 IsAtStart routines blocks begun j = (number : ℕ) × (at : IsListedAt routines blocks number 0 begun j) × (line_number at.began.head ≡ number)
 
--- one that is listed at this line, which is one of that entry's or of a block below them, with the lines that follow it
+-- such a case is listed at this line, which is one of that entry's or of a block below them, with the lines that follow it
 pub record IsAtLine (routines : List RoutineTree) (blocks : List (EntryId × EntryCert)) (l : LineTree) (lines : List LineTree) (begun : List Job) (j : Job) : Type 0 where
   pub at : IsListedAt routines blocks (line_number l.0) 0 begun j
   pub behind : LineTrees
@@ -68,7 +69,7 @@ pub record IsAtLine (routines : List RoutineTree) (blocks : List (EntryId × Ent
   pub ahead : lines ≡ as_lines behind ++ others
   pub no_more : none_follows others ≡ true
 
--- one that is listed for rounds of a FOR that runs these commands, on the line on which the job is
+-- such a case is listed for rounds of a FOR that runs these commands, on the line that the job is on
 pub record IsAtRound (routines : List RoutineTree) (blocks : List (EntryId × EntryCert)) (rest : CommandTrees) (here : LineTree) (ts : List Task) (begun : List Job) (j : Job) : Type 0 where
   pub entry : EntryId
   pub on : OnLine (entry_trees routines entry) here ts
@@ -77,7 +78,8 @@ pub record IsAtRound (routines : List RoutineTree) (blocks : List (EntryId × En
   pub at : IsListedAt routines blocks (line_number here.0) index begun j
   pub its : at.entry ≡ entry
 
--- a case describes it to which the walk of the line comes where the job is: Comes says which cases, in a scope and an entry's lines
+-- it is described by a case that the walk of the line reaches where the job is: `Comes` says which cases, in a scope and an
+-- entry's lines
 pub record IsInside (routines : List RoutineTree) (rules : RuleLists) (entries : List (EntryId × EntryCert) × List EntryId) (Comes : Scope → LineTrees → Case → Type 0) (begun : List Job) (j : Job) : Type 0 where
   pub entry : EntryId
   pub running : entry.routine ≡ j.routine
@@ -88,9 +90,9 @@ pub record IsInside (routines : List RoutineTree) (rules : RuleLists) (entries :
   pub describes : IsDescribed certificate.summary.need case begun j
   pub began : BeganAt routines entry describes.first
 
--- where its frame begins, a case that is listed at the entry's line does; where it moves on to a line, one that is listed at the
--- line; where a round begins, one that is listed for rounds of the FOR; before each command, and after each argument of one, one
--- that the walk has there
+-- at the begin of a frame, a case that is listed at the entry's line describes the job; when it moves on to a line, one that
+-- is listed at the line; when a round begins, one that is listed for rounds of the FOR; before each command, and after each
+-- argument of one, one that the walk has there
 abbrev pub StartListed : List RoutineTree → List (EntryId × EntryCert) → List Job → Job → Type 0
 StartListed routines blocks begun j =
     (others : List Job) (commands : CommandTrees) (here : LineTree) (ts : List Task) → begun ≡ j ∷ others → j.tasks ≡ RunCommands commands here ∷ ts → IsAtStart routines blocks begun j
@@ -114,13 +116,13 @@ ArgumentWalked routines rules entries begun j =
     → j.tasks ≡ NextArgument action count ∷ (arguments_from action count ++ RunCommands left here ∷ ts)
     → IsInside routines rules entries (λ sc lines c. ComesAfter sc lines action count left here ts c) begun j
 
--- where its next step is JOB, the entry of the job that it starts is one of these
+-- if its next step is JOB, the entry of the job that it starts is one of these
 abbrev pub StartsDeclared : List RoutineTree → List EntryId → Job → Type 0
 StartsDeclared routines declared j =
     (callee : Callee) (given : List ActualTree) (ts : List Task) → j.tasks ≡ StartJob callee given ∷ ts
     → (e : EntryId) × (target_of routines j.routine callee ≡ Some e) × (has_entry declared e ≡ true)
 
--- what one job keeps to at each moment, where the entries of the first table are certified with its blocks, and those of the
+-- the invariants of one job at each moment, if the entries of the first table are certified with its blocks, and those of the
 -- second are declared
 pub record FactsSince (routines : List RoutineTree) (rules : RuleLists) (entries : List (EntryId × EntryCert) × List EntryId) (begun : List Job) (j : Job) : Type 0 where
   pub facts : Facts rules j

@@ -1,4 +1,4 @@
--- How the world of a running frame came to be, and that the open blocks and frames are what it says. This project's own choice.
+-- How the world of a running frame arose, and that the open blocks and frames are those that it says. This project's own choice.
 use Rattle.std.specs.Prelude.{◌≡◌, ℕ, ◌+◌, true, false, List, [], ◌∷◌, ◌++◌, map, Some}
 use Rattle.mlk_names.specs.declared.lock_name.LockName.{LockName}
 use Rattle.mlk_cert_parts.specs.declared.block.EntryCert.{EntryCert}
@@ -12,8 +12,8 @@ use Rattle.mlk_soundness_machine.specs.History.{block_tests, frame_backs, first_
 use Rattle.mlk_soundness_machine.specs.Listed.{IsAtStart}
 use Rattle.mlk_soundness_machine.specs.Reads.{now, times}
 
--- The frame began as that of the world's entry, which is certified and has this scope, with the values that the world says; what
--- the job held then was what the entry needs, and what waiting frames have set aside.
+-- The frame began as one of the world's entry, which is certified and has this scope, with the values that the world says; the
+-- job then held what the entry needs, and what waiting frames have set aside.
 pub record Begun (sc : Scope) (w : World) : Type 0 where
   pub block : EntryCert
   pub certified : block_at sc.blocks w.entry ≡ Some block
@@ -27,12 +27,12 @@ pub record Begun (sc : Scope) (w : World) : Type 0 where
   pub rests : Rests w.waiting
   pub held : (m : LockName) → count_of first.held m ≡ times (now first) block.summary.need m + times_waiting w.saved w.number w.waiting m
 
--- the open blocks and frames are what the world and the level say
+-- the open blocks and frames are those that the world and the level say
 pub record AreMarked (w : World) (b : Level) (ms : List Mark) : Type 0 where
   pub tests : block_tests ms ≡ b.tests
   pub frames : frame_backs ms ≡ map (λ (v : Waiting). v.bindings) w.waiting ++ [] ∷ []
 
--- both, where the frame began in a case that is listed at the entry's line
+-- both, and the frame began in a case that is listed at the entry's line
 pub record Marked (sc : Scope) (w : World) (b : Level) (ms : List Mark) : Type 0 where
   pub marks : AreMarked w b ms
   pub begun : Begun sc w

@@ -38,12 +38,12 @@ line_level (LineHead number level end label formals commands) = level
 abbrev pub entry_trees : List RoutineTree → EntryId → LineTrees
 entry_trees routines e = lines_from (lines_of routines e)
 
--- these lines are part of those: all from one of them to the last of its level, or so in a block below one
+-- the first lines are part of the second: all from one of them to the last of its level, or such a part of a block below one
 abbrev pub StandIn : LineTrees → LineTrees → Type 0
 StandIn some no_lines = ⊥
 StandIn some (line head block rest) = (some ≡ line head block rest) ⊎ (StandIn some block ⊎ StandIn some rest)
 
--- the lines that come next by these tasks, and what it runs in the round that is open, if one is
+-- the lines that come next by these tasks, and the commands of the open round of a FOR, if there is one
 abbrev pub next_lines : List Task → List LineTree
 next_lines [] = []
 next_lines (RunLines lines ∷ ts) = lines
@@ -60,13 +60,13 @@ abbrev pub open_round : List Task → Option CommandTrees
 open_round [] = None
 open_round (t ∷ ts) = round_of t
 
--- no job runs on into these lines: there are none, or the first has a formal list
+-- execution does not continue into these lines: there are none, or the first has a formal list
 abbrev pub none_follows : List LineTree → Bool
 none_follows [] = true
 none_follows (l ∷ lines) = is_some (formals_of l.0)
 
--- A job with these tasks after commands is on this line, which is one of these lines or of a block below one: after it are
--- the job's next lines. The line has its number, so it can't be taken for another one with the same text.
+-- A job with these tasks after commands is on this line, which is one of these lines or of a block below one: the lines after
+-- it are the job's next lines. The line has its number, so it is not mistaken for another one with the same text.
 pub record OnLine (lines : LineTrees) (here : LineTree) (ts : List Task) : Type 0 where
   pub behind : LineTrees
   pub is_line : StandIn (line here.0 here.1 behind) lines
@@ -84,12 +84,12 @@ AreLastOf last (then_for column index control rest) = (last ≡ then_for column 
 abbrev pub AreRoundOf : CommandTrees → ℕ → CommandTrees → Type 0
 AreRoundOf rest index commands = (column : ℕ) × (control : Option ControlTree) × AreLastOf (then_for column index control rest) commands
 
--- With which commands the walk of a line begins, and with which number its cases are listed: with all of them and 0; or, where a
+-- With which commands the walk of a line begins, and with which number its cases are listed: with all of them and 0; or, if a
 -- round is open, with what that round runs and its FOR's index.
 abbrev pub BeginsWith : CommandTrees → ℕ → CommandTrees → List Task → Type 0
 BeginsWith first round commands ts = ((round ≡ 0) × (first ≡ commands) × (open_round ts ≡ None)) ⊎ (AreRoundOf first round commands × (open_round ts ≡ Some first))
 
--- these commands, and then those
+-- the first commands, then the second
 abbrev pub followed : List CommandTree → CommandTrees → CommandTrees
 followed [] left = left
 followed (c ∷ done) left = then_command c (followed done left)
@@ -98,8 +98,8 @@ followed (c ∷ done) left = then_command c (followed done left)
 abbrev pub spot_on : Scope → HeadTree → LineTrees → Spot
 spot_on sc head block = record { scope = sc; line = line_number head; level = line_level head; block = block_with block (walk_lines sc OfBlock block).ends; word = 1 }
 
--- The walk is in case c where a job has these commands of a line left, and these tasks after them: it comes from one case that
--- is listed where it begins, by the commands in between.
+-- The walk is in case `c` where a job has these commands of a line left, and these tasks after them: the commands in between
+-- lead to it from one case that is listed where the walk begins.
 pub record ComesTo (sc : Scope) (lines : LineTrees) (left : CommandTrees) (here : LineTree) (ts : List Task) (c : Case) : Type 0 where
   pub on : OnLine lines here ts
   pub first : CommandTrees
@@ -120,7 +120,7 @@ abbrev pub come_to : {A : Type 0} → (Spot → A → Walk → Walk) → Spot �
 come_to row p [] s u = s ≡ u
 come_to row p (x ∷ xs) s u = (t : State) × Among t (turn row p (alone s) x).going × come_to row p xs t u
 
--- what a job does for the arguments of a command that are left after the first k
+-- the tasks of a job for the arguments of a command that are left after the first `k`
 abbrev pub arguments_from : ActionTree → ℕ → List Task
 arguments_from (Do calls) k = in_turn do_parts (Do calls) k (drop k calls)
 arguments_from Else k = []
@@ -137,7 +137,7 @@ arguments_from (Read reads) k = in_turn read_parts (Read reads) k (drop k reads)
 arguments_from (Set sets) k = in_turn set_parts (Set sets) k (drop k sets)
 arguments_from (Write writes) k = in_turn write_parts (Write writes) k (drop k writes)
 
--- the first k arguments of a command take one state to another
+-- the first `k` arguments of a command take one state to another
 abbrev pub acts_to : Spot → ActionTree → ℕ → State → State → Type 0
 acts_to p (Do calls) k s u = come_to do_argument p (take k calls) s u
 acts_to p Else k s u = ⊥
@@ -159,8 +159,8 @@ abbrev pub holds_to : Spot → Option Tree → State → State → Type 0
 holds_to p None s u = s ≡ u
 holds_to p (Some t) s u = Among u (value p t (alone s)).going × (agrees true (truth_in p.scope t u) ≡ true)
 
--- The walk goes on in case c where a job has done so many arguments of a command, and has these commands of the line left: from
--- a case to which it comes before the command, by its postconditional and these arguments.
+-- The walk is in case `c` where a job has done `count` arguments of a command, and has these commands of the line left: the
+-- postconditional and these arguments lead to it from a case in which the walk is before the command.
 pub record ComesAfter (sc : Scope) (lines : LineTrees) (action : ActionTree) (count : ℕ) (left : CommandTrees) (here : LineTree) (ts : List Task) (c : Case) : Type 0 where
   pub column : ℕ
   pub condition : Option Tree

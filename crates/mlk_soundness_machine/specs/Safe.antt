@@ -1,4 +1,4 @@
--- What it means that a job is safe for a number of steps. This project's own choice.
+-- When a job is safe for a number of steps. This project's own choice.
 use Rattle.std.specs.Prelude.{◌≡◌, ℕ, zero, suc, Bool, true, false, List, ◌∷◌, Ok}
 use Rattle.mlk_names.specs.declared.lock_name.LockName.{LockName}
 use Rattle.mlk_syntax.specs.Trees.{RoutineTree}
@@ -12,8 +12,8 @@ use Rattle.mlk_soundness_machine.specs.Described.{World, Level, Slot, idle, Desc
 use Rattle.mlk_soundness_machine.specs.History.{begun_after}
 use Rattle.mlk_soundness_machine.specs.Marked.{Marked}
 
--- a task that touches and claims nothing; and one, too, by which the job moves on to no line, begins no commands, ends no
--- argument and starts no job
+-- a task that touches and claims nothing; and one that, besides, moves on to no line, begins no commands, ends no argument and
+-- starts no job
 abbrev pub is_quiet : Task → Bool
 is_quiet (DoTouch touch) = false
 is_quiet (Claim names timed) = false
@@ -36,17 +36,17 @@ is_steady (EndBlock back next test) = false
 is_steady (EndFrame frame back next routine) = false
 is_steady t = true
 
--- what a job keeps to at each moment in a frame of this scope
+-- the invariants of a job at each moment in a frame of this scope
 abbrev pub KeepsTo : Scope → List Job → Job → Type 0
 KeepsTo sc begun j = FactsSince sc.routines sc.rules (sc.blocks, sc.declared_entries) begun j
 
 module _ (routines : List RoutineTree) (Fact : List Job → Job → Type 0) where
-  -- the fact holds now, and after each step up to the number, of the job and of what it was when its open frames began
+  -- the fact holds now, and after each of up to `n` steps, of the job and of what it was when its open frames began
   abbrev pub SafeFor : ℕ → List Job → Job → Type 0
   SafeFor zero begun j = Fact begun j
   SafeFor (suc n) begun j = Fact begun j × ((free : LockName → Bool) (c : Choice) (i : Job) → go routines free c j ≡ Ok i → SafeFor n (begun_after begun j i) i)
 
--- where the blocks and frames that are open are what is fixed, the job keeps to it, and is safe
+-- if the open blocks and frames are those of the world and the level, the job meets its invariants, and is safe for `n` steps
 abbrev pub KeepsIn : Scope → World → Level → Job → Type 0
 KeepsIn sc w b j = Marked sc w b (marks j.tasks) → KeepsTo sc w.begun j
 

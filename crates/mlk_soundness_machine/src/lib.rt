@@ -1,4 +1,4 @@
-//! How a case describes a job, and what it means that a job is safe for so many steps.
+//! How a case describes a job, and when a job is safe for a number of steps.
 #![tactic(auto)]
 
 mod law;

@@ -1,4 +1,4 @@
--- Commands: what each does, from left to right.
+-- Commands: the effect of each, from left to right.
 use Rattle.std.proofs.Common.{◌≡◌, ℕ, ◌+◌, Bool, true, false, List, [], ◌∷◌, ◌++◌, reverse, map, Option, Some, None, refl, sym, ap, subst, inl, inr, suc, take, drop, ◌∙◌}
 use Rattle.std.specs.Prelude.{flat_map, if◌then◌else◌}
 use Rattle.mlk_names.specs.Lists.{Among}
@@ -44,7 +44,7 @@ use Rattle.mlk_soundness_walk.proofs.Turns.{evaluated_fits, optional_fits, leads
 use Rattle.mlk_soundness_machine.specs.Places.{alone, come_to}
 use Rattle.mlk_soundness_machine.specs.Safe.{KeepsIn}
 
--- what is skipped over
+-- what is skipped
 pub skip_ifs : (a : ActionTree) (k : ℕ) (conditions : List Tree) (ts : List Task) → skipped (made.in_turn if_parts a k conditions ++ ts) ≡ skipped ts
 skip_ifs a k [] ts = refl
 skip_ifs a k (t ∷ conditions) ts = skip_ifs a (suc k) conditions ts
@@ -79,7 +79,7 @@ module _ (routines : List RoutineTree) (p : Spot) (w : World) (b : Level) (world
   write_fits (WriteCharacter t) ours ts s A l k = evaluated_fits routines p w b S Q n evaluate t ours [] ts s A l k
   write_fits (WriteFormat tab) ours ts s A l k = optional_fits routines p w b S Q n evaluate tab ours [] ts s A l k
 
-  -- `$TEST` is known, and said so
+  -- `$TEST` is known, and set accordingly
   retest : (t : Test) (u : State) (j : Job) → Agrees t j.test → Describes p.scope w b [] u (idle j) → Describes p.scope w b [] (state.tested t u) (idle j)
   retest t u j h d = record {
     stands = record {
@@ -110,7 +110,7 @@ module _ (routines : List RoutineTree) (p : Spot) (w : World) (b : Level) (world
   }
 
   module _ (ts : List Task) (A : State → Type 0) (go : (u : State) → A u → Fit [] n ts u) (skip : (c : Case) → S c → Fit [] n (skipped ts) (at_rest c)) where
-    -- IF: from so many conditions on, of all
+    -- IF: from the first `k` conditions on, of all
     module _ (a : ActionTree) (all : List Tree) (start : State)
         (mark : (k : ℕ) (u : State) → come_to if_argument p (take k all) start u → (j : Job) → Describes p.scope w b [] u (idle j) → j.tasks ≡ task.NextArgument a k ∷ (made.in_turn if_parts a k (drop k all) ++ ts) → KeepsIn p.scope w b j) where
       ifs_from : (k : ℕ) (conditions : List Tree) → drop k all ≡ conditions → AreOurs p.scope (flat_map in_tree conditions) → (s : State) → come_to if_argument p (take k all) start s → Leads (in_turn if_argument p conditions) s A S Q

@@ -17,7 +17,7 @@ use Rattle.mlk_walk_laws.proofs.Lists.{in_flat, all_old, all_new}
 use Rattle.mlk_walk_laws.proofs.Transfers.{Keeps, all_back, going_new, skips_new, quits_new, clean_with}
 use Rattle.mlk_walk_laws.proofs.Counts.{few_clean, few_same, ways_clean, ways_same, joined_same, first_of, second_of, false_of, first_clean}
 
--- The walk of a piece from one state: nothing is wrong, and all that it comes to is as said.
+-- The walk of a piece from one state: nothing is wrong, and all its outcomes are as stated.
 pub record Leads (F : Walk → Walk) (s : State) (G : State → Type 0) (S : Case → Type 0) (Q : Quit → Type 0) : Type 0 where
   pub clean : IsClean (F (alone s))
   pub going : (t : State) → Among t (F (alone s)).going → G t
@@ -33,7 +33,7 @@ alone_part t w h i = record {
   distinct = ((λ r. r), tt);
 }
 
--- a part of a walk comes to a part
+-- a part of a walk has a part of the outcomes
 pub leads_part : (F : Walk → Walk) → Keeps F → (s : State) (w : Walk) → IsPart (alone s) w → IsClean (F w) → (G : State → Type 0) (S : Case → Type 0) (Q : Quit → Type 0)
     → ((t : State) → Among t (F w).going → G t) → ((c : Case) → Among c (F w).skips → S c) → ((q : Quit) → Among q (F w).quits → Q q) → Leads F s G S Q
 leads_part F f s w i h G S Q g k q =
@@ -41,7 +41,7 @@ leads_part F f s w i h G S Q g k q =
     record { clean = p.clean; going = λ t r. g t (p.going t r); skips = λ c r. k c (p.skips c r); quits = λ x r. q x (p.quits x r) }
 
 module _ (G : State → Type 0) (S : Case → Type 0) (Q : Quit → Type 0) where
-  -- two pieces, one after the other
+  -- two pieces, one after another
   pub leads_both : (F H : Walk → Walk) → Keeps F → Keeps H → (s : State) → Leads (λ w. H (F w)) s G S Q → Leads F s (λ t. Leads H t G S Q) S Q
   leads_both F H f h s l =
       let w = F (alone s) in
@@ -74,7 +74,7 @@ module _ (G : State → Type 0) (S : Case → Type 0) (Q : Quit → Type 0) wher
       let e = few_same line word (alone s) (few_clean line word (alone s) l.clean).0 in
       l.going s (subst (λ (w : Walk). Among s w.going) (sym e) (inl refl))
 
-  -- with the states that go on
+  -- with the states that continue
   pub leads_there : (F : Walk → Walk) (s : State) → Leads F s G S Q → Leads F s (λ u. G u × Among u (F (alone s)).going) S Q
   leads_there F s l = record { clean = l.clean; going = λ u i. (l.going u i, i); skips = l.skips; quits = l.quits }
 

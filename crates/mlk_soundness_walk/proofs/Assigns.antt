@@ -43,7 +43,7 @@ use Rattle.mlk_soundness_walk.proofs.Alone.{leads_both, leads_each, leads_stay}
 use Rattle.mlk_soundness_walk.proofs.Goes.{covered_goes}
 use Rattle.mlk_soundness_walk.proofs.Commands.{changed_goes}
 
--- captured symbols whose values the job has no more
+-- captured symbols whose values the job no longer has
 abbrev pub spents : List (List ℕ) → List Slot → List Slot
 spents [] slots = slots
 spents (v ∷ vs) slots = spents vs (Spent v ∷ slots)
@@ -74,7 +74,7 @@ spent_taken a (v ∷ vals) slots ss values below f = one (spent_taken a vals (Sp
     one : SpentTaken a vals (Spent v ∷ slots) ss values below → SpentTaken a (v ∷ vals) slots ss values below
     one r = by r r.syms refl r.fills
 
--- all that is captured stands for these values
+-- all captured symbols denote these values
 no_symbols : (a : Assignment) (ss : List Sym) (values below : List (List ℕ)) → Fills a [] ss values below → ss ≡ []
 no_symbols a [] values below f = refl
 no_symbols a (s ∷ ss) values below f = absurd f
@@ -184,7 +184,7 @@ module _ (routines : List RoutineTree) (p : Spot) (w : World) (b : Level) (world
   abbrev FitSpent : List Task → State → Type 0
   FitSpent ts s = Fits routines p.scope w b (spents vals []) n ts s
 
-  -- symbols at a place stand for the values there
+  -- symbols from an index on denote the values there
   zipped : (from count : ℕ) (t : TargetTree) (targets : List TargetTree) (needs : List (List ℕ)) → drop from vals ≡ subs_values (t ∷ targets) needs → count ≡ subs_of_target t → subs_of_target t ≤ length needs
       → (u : State) (j : Job) → Describes p.scope w b (spents vals []) u (idle j) → AllZip (StandsFor (now j)) (symbols_at from count u) (take (subs_of_target t) needs)
   zipped from count t targets needs e c le u j d =

@@ -1,4 +1,4 @@
--- Calls: what the walk of one says, and that a job goes into the callee and comes back.
+-- Calls: the row of a call in the walk, and a job that enters the callee and returns.
 use Rattle.std.proofs.Common.{◌≡◌, ℕ, suc, List, [], ◌∷◌, ◌++◌, length, reverse, map, Option, Some, None, Ok, Err, refl, sym, ap, ◌∙◌, subst, inl, inr}
 use Rattle.std.specs.Prelude.{◌⊎◌, option_map, option_and_then, Result}
 use Rattle.mlk_text.specs.Lexemes.{or_else}
@@ -29,7 +29,7 @@ use Rattle.mlk_soundness_machine.proofs.Stack.{back_one}
 use Rattle.mlk_soundness_machine.proofs.Passing.{Passed}
 use Rattle.mlk_soundness_walk.proofs.Alone.{Meets}
 
--- what a call that is not refused says
+-- what a call that is not refused implies
 pub record CallRow (sc : Scope) (how : Calling) (callee : Callee) (given : List ActualTree) (syms : List Sym) (s : State) (G : State → Type 0) : Type 0 where
   pub called : Called
   pub is : walked.called sc callee ≡ Some called

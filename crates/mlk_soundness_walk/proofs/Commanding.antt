@@ -1,4 +1,4 @@
--- The commands of a line, in an entry's scope: calls close by lesser numbers of steps.
+-- The commands of a line, in an entry's scope: the induction for calls is on the number of steps.
 use Rattle.std.proofs.Common.{◌≡◌, ℕ, suc, ◌<◌, ◌≤◌, Bool, true, List, [], ◌∷◌, ◌++◌, length, Option, Some, None, Ok, refl, subst, arith}
 use Rattle.mlk_rules.specs.declared.rules.RuleLists.{RuleLists}
 use Rattle.mlk_rules.specs.Ranks.{FamiliesApart}
@@ -107,13 +107,13 @@ module _ (routines : List RoutineTree) (rules : RuleLists) (entries : List (Entr
       → ((u : State) → A u → FitsValue routines sc w b t slots n ts u) → Fits routines sc w b slots n (task.Evaluate t ∷ ts) s
   evaluate = evaluate_fits routines here w b S Q n calls_fit
 
-  -- what a command does
+  -- the effect of a command
   module _ (block : LineTrees) (may : Bool) (ts : List Task) (A : State → Type 0) (go : (u : State) → A u → Fits routines sc w b [] n ts u)
       (skip : (c : Case) → S c → Fits routines sc w b [] n (skipped ts) (at_rest c)) (stop : (q : Quitting) → Q q → Fits routines sc w b [] n (quit ts) (at_rest q.case))
       (give : may ≡ true → (q : Quitting) → Q q → Gives routines w b sc n (to_end ts) (at_rest q.case))
       (in_a_block : (s : State) → Leads (do_block here in_block) s A S Q → Fits routines sc w b [] n (action_parts block (Do []) ++ ts) s)
       (shares : SharesByOwn sc.is_shared sc.is_shared) (deep : level ≡ b.level) where
-    -- after each argument, in the states to which the arguments before take this one
+    -- after each argument, in the states to which the earlier arguments lead from this one
     abbrev pub MarksFit : ActionTree → State → Type 0
     MarksFit a s = (k : ℕ) (u : State) → acts_to here a k s u → (j : task.Job) → Describes sc w b [] u (idle j) → j.tasks ≡ task.NextArgument a k ∷ (arguments_from a k ++ ts) → KeepsIn sc w b j
 

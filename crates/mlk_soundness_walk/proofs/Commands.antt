@@ -110,7 +110,7 @@ module _ (routines : List RoutineTree) (p : Spot) (w : World) (b : Level) (world
     values = d.values;
   }
 
-  -- what IF's row says, by the truth that a value has
+  -- IF's row, by the truth of a value
   ways : (u : State) (A : State → Type 0) (o : Option Bool) (v : List ℕ) → IsTruth o v → ((x : Outcome) → Among x (walked.if_outcomes o u) → Meets A S Q x)
       → (x : Bool) → ((t : Bool) → truth_of_text v ≡ Some t → x ≡ t)
       → ((x ≡ true) × A (state.tested One u)) ⊎ ((x ≡ false) × S (state.tested Zero u).case)

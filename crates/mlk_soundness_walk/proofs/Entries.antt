@@ -1,4 +1,4 @@
--- DO of a label: the job goes into the callee's lines, which are safe for fewer steps, and comes back at its end.
+-- DO of a label: the job enters the callee's lines, which are safe for fewer steps, and returns at its end.
 use Rattle.std.proofs.Common.{◌≡◌, ℕ, zero, suc, ◌<◌, Bool, true, false, List, [], ◌∷◌, ◌++◌, length, drop, reverse, map, Option, Some, None, Ok, refl, sym, ap, ◌∙◌, subst, arith, ⊎_elim, inl, inr, ◌+◌}
 use Rattle.std.specs.Prelude.{◌||◌, ◌&&◌, option_map, option_and_then, slice_get}
 use Rattle.std.proofs.lemmas.Bool.{cases_Bool, or_cases, and_parts, ne_eqb}
@@ -84,7 +84,7 @@ use Rattle.mlk_soundness_machine.proofs.Unused.{first_value}
 use Rattle.mlk_soundness_machine.proofs.Worlds.{push_law, drop_law}
 use Rattle.mlk_soundness_walk.proofs.Calls.{CallRow, given_slots, GivenTaken, given_taken}
 
--- what a program's form gives of a call: no formal stands twice, and what is passed by reference is shared
+-- what a program's form implies for a call: no formal occurs twice, and what is passed by reference is shared
 pub record IsWell (caller callee : List Own → List ℕ → Bool) (formals : List (List ℕ)) (given : List ActualTree) : Type 0 where
   pub distinct : AreDistinct formals
   pub shares : SharesByOwn caller callee
@@ -178,7 +178,7 @@ pub low_formals : (names : List (List ℕ)) → Each (λ (o : Own). o.level ≤ 
 low_formals [] = tt
 low_formals (n ∷ names) = (omega arith, low_formals names)
 
--- a formal that is no reference once it is bound is given none
+-- a formal that is bound by value is passed no name by reference
 refs_false : (caller : Bindings) (g : ℕ) (formals : List (List ℕ)) (given : List ActualTree) (back : Bindings) (x : List ℕ) → is_among formals x ≡ true
     → is_reference (binders caller g formals given ++ back) x ≡ false → refs_of formals given x ≡ false
 unfolding is_among
@@ -214,7 +214,7 @@ module _ (routines : List RoutineTree) (rules : RuleLists) (entries : List (Entr
   abbrev pub EntryFits : ℕ → Type 0
   EntryFits = stated.EntryFits routines rules entries
 
-  -- what a callee is
+  -- what a call's target is
   pub record IsTarget (sc : Scope) (callee : Callee) (c : Called) : Type 0 where
     pub entry : EntryId
     pub block : EntryCert
@@ -285,7 +285,7 @@ module _ (routines : List RoutineTree) (rules : RuleLists) (entries : List (Entr
     abbrev pub its : Scope
     its = scope t.entry t.block
 
-    -- what is still to be shown of the callee's head, its begin and its world: by the program's form, and by 708, 712, 719
+    -- what remains to be shown of the callee's head, its begin and its world: by the program's form, and by 708, 712, 719
     module _ (apart : FamiliesApart rules.families) (once : RankedOnce rules.families) (head : HeadTree) (body : LineTrees) (lines : List LineTree) (heads : lines_after routines t.entry ≡ (head, body) ∷ lines)
         (dist : AreDistinct (formals_in head))
         (shares : SharesByOwn (scope e blk).is_shared its.is_shared)
@@ -326,7 +326,7 @@ module _ (routines : List RoutineTree) (rules : RuleLists) (entries : List (Entr
       summary_is : row.called.summary ≡ its.summary
       summary_is = sym (ap (λ (c : Called). c.summary) t.is)
 
-      -- the row, of the callee's own formals and summary
+      -- the row, for the callee's own formals and summary
       put : put_terms (formals_in head) (map Some syms) its.summary.need ≡ Some row.needs
       put = subst (λ z. put_terms z (map Some syms) its.summary.need ≡ Some row.needs) formals_are (subst (λ z. put_terms row.called.formals (map Some syms) z.need ≡ Some row.needs) summary_is row.put)
 
@@ -418,7 +418,7 @@ module _ (routines : List RoutineTree) (rules : RuleLists) (entries : List (Entr
         left_test : (c : Case) (x : ExitCase) → leaves_by c x ≡ true → (i : Job) → Describes its world (first_level world) [] (at_rest c) (idle i) → Agrees x.test i.test
         left_test c x leaves i f = less_test c.test x.test i.test (same_held c x leaves).1 f.stands.test
 
-        -- where the callee ends, the job is in the caller's frame again
+        -- when the callee ends, the job is in the caller's frame again
         abbrev Back : Job → Type 0
         Back i = (i.tasks ≡ ts) × SafeFor routines (KeepsTo its) m (drop 1 begun) i
 
@@ -437,7 +437,7 @@ module _ (routines : List RoutineTree) (rules : RuleLists) (entries : List (Entr
             unasked Back y (Ok to) (done Back to
             (goes_back past marked to refl (next _ (exit c x among leaves esc i f' i.test agrees).2 to (after c x among leaves esc i f' i.test agrees) refl))))
 
-        -- an extrinsic function puts `$TEST` back, and gives the value of QUIT, or any where that has none
+        -- an extrinsic function restores `$TEST`, and has the value of QUIT, or any value if QUIT has none
         gives_back : drop 1 begun ≡ w.begun → Marked (scope e blk) w b (marks ts) → how ≡ by.Extrinsic → ((u : State) → G u → FitsAny routines (scope e blk) w b slots n ts u) → EndsFit its world m (AwaitsValue j.test) j.bindings j.next j.routine ts
         gives_back past marked extrinsic next c x among leaves esc slots' end (inl q) i f tasks =
             let f' : Describes its world (first_level world) [] (at_rest c) (idle i) = subst (λ z. Describes its world (first_level world) z (at_rest c) (idle i)) q.1 f in
@@ -504,11 +504,11 @@ module _ (routines : List RoutineTree) (rules : RuleLists) (entries : List (Entr
         → Next routines (scope e blk) w b ts m to
     goes_on frame m to more h k = subst (λ z. SafeFor routines (KeepsTo (scope e blk)) m z to) (sym (one_more w.begun to (count_frames (marks ts)) more)) (h k)
 
-    -- what the program's form says of the callee's line
+    -- what the program's form implies for the callee's line
     abbrev pub Wells : Type 0
     Wells = (head : HeadTree) (body : LineTrees) (lines : List LineTree) → lines_after routines t.entry ≡ (head, body) ∷ lines → IsWell (scope e blk).is_shared its.is_shared (formals_in head) given
 
-    -- a call: into the callee's lines, which go to a frame's end that is safe
+    -- a call: into the callee's lines, which lead to an end of the frame that is safe
     enters_callee : (frame : Frame) (m : ℕ) → (j : Job)
         → ((head : HeadTree) (body : LineTrees) (lines : List LineTree) → lines_after routines t.entry ≡ (head, body) ∷ lines → Next routines (scope e blk) w b ts m (record j {
           routine = t.entry.routine;

@@ -1,4 +1,4 @@
--- Expressions: where the walk of one finds nothing wrong, a job that evaluates it is safe if it is so with the value.
+-- Expressions: if the walk of one finds nothing wrong, a job that evaluates it is safe if it is safe with the value.
 use Rattle.std.proofs.Common.{◌≡◌, ℕ, Bool, true, false, List, [], ◌∷◌, ◌++◌, drop, Option, Some, None, refl, sym, ap, ◌∙◌, subst, arith, ⊎_elim, append_assoc}
 use Rattle.std.specs.Prelude.{◌⊎◌}
 use Rattle.std.proofs.lemmas.Bool.{cases_Bool}
@@ -66,7 +66,7 @@ module _ (routines : List RoutineTree) (p : Spot) (w : World) (b : Level) (S : C
   abbrev FitBy : ((List ℕ → Bool) → Sym) → List Slot → ℕ → List Task → State → Type 0
   FitBy = FitsBy routines p.scope w b
 
-  -- any value, of which nothing is known
+  -- any value, about which nothing is known
   any_value : (t : Tree) → ((shared : List ℕ → Bool) → symbol_of shared t ≡ known.Unknown) → (slots : List Slot) (ts : List Task) (s : State) → truth_in p.scope t s ≡ None → FitValue t slots n ts s
       → (j : Job) (v : List ℕ) (more : List (List ℕ)) → Describes p.scope w b (Bare None ∷ slots) s (idle j) → j.values ≡ v ∷ more → j.tasks ≡ ts → Safe routines p.scope w b n j
   any_value t unknown slots ts s none k j v more d e tasks = k j v more d e (record {
@@ -108,7 +108,7 @@ module _ (routines : List RoutineTree) (p : Spot) (w : World) (b : Level) (S : C
   abbrev FitAny : List Slot → ℕ → List Task → State → Type 0
   FitAny slots n ts s = FitsAny routines p.scope w b slots n ts s
 
-  -- a value of which nothing is known
+  -- a value about which nothing is known
   any_of : (t : Tree) → ((shared : List ℕ → Bool) → symbol_of shared t ≡ known.Unknown) → (slots : List Slot) (ts : List Task) (s : State) → truth_in p.scope t s ≡ None → FitValue t slots n ts s → FitAny slots n ts s
   any_of t unknown slots ts s none k j v d e tasks = any_value t unknown slots ts s none k j v (drop 1 j.values) d e tasks
 
@@ -122,7 +122,7 @@ module _ (routines : List RoutineTree) (p : Spot) (w : World) (b : Level) (S : C
       → (slots : List Slot) (ts : List Task) (s : State) (A : State → Type 0) → Leads (extrinsic p column callee (given_list written)) s A S Q
       → ((u : State) → A u → FitAny slots n ts u) → Fit (given_slots (given_list written) slots) n (task.Call true callee (given_list written) ∷ ts) s
 
-  -- what is shown of the subscripts of a name that is given to a function, and of its further arguments
+  -- what is shown of the subscripts of a name that is an argument of a function, and of the further arguments
   pub record NamePart (subs : Subs) (more : Trees) : Type 1 where
     pub subscripts : Subscripts routines p w b S Q n subs
     pub others : Others routines p w b S Q n more
@@ -132,7 +132,7 @@ module _ (routines : List RoutineTree) (p : Spot) (w : World) (b : Level) (S : C
   NameParts (tree (LocalName name subs) more) = NamePart subs more
   NameParts args = Unit {1}
 
-  -- a function that is given a name, where there is one
+  -- a function of a name, if it is given one
   named_fits : (f : Function) → takes_name f ≡ true → (args : Trees) → Others routines p w b S Q n args → NameParts args → (slots : List Slot) (ts : List Task) (s : State) (A : State → Type 0)
       → Leads (evaluate_all p (use_of f) args) s A S Q → ((u : State) → A u → FitAny slots n ts u) → Fit slots n (function_parts f true args ++ ts) s
   named_fits f y no_trees others parts slots ts s A l k = values_asked routines p w b S Q n no_trees others slots ts A k s l
@@ -162,7 +162,7 @@ module _ (routines : List RoutineTree) (p : Spot) (w : World) (b : Level) (S : C
       (values_asked routines p w b S Q n args others slots ts A k s (subst (λ z. Leads (evaluate_all p z args) s A S Q) (no_name f y) l)))
       (cases_Bool (takes_name f))
 
-  -- the way that is taken
+  -- the way that execution takes
   way_fits : (t v : Tree) (rest : Choices) (slots : List Slot) (ts : List Task) (u : State) (A : State → Type 0)
       → (Leads (evaluate p ItsValue v) u A S Q → Fit slots n (task.Evaluate v ∷ ts) u) → (Leads (evaluate_choices p rest) u A S Q → Fit slots n (task.Select rest ∷ ts) u)
       → Leads (by_condition p.scope t (evaluate p ItsValue v) (evaluate_choices p rest)) u A S Q
@@ -274,7 +274,7 @@ module _ (routines : List RoutineTree) (p : Spot) (w : World) (b : Level) (S : C
           (capture_law p.scope w b None slots u (idle j) d v more e (symbol_in p.scope t u) knows.symbol.stands (λ x i. local_unshared (p.scope.is_shared u.case.own) t x i))
           tasks)
 
-      -- arguments of which nothing is kept but values
+      -- arguments that are kept as values only
       pub trees_fit : (args : Trees) → AreOurs p.scope (in_trees args) → (slots : List Slot) (ts : List Task) (s : State) (A : State → Type 0) → Leads (evaluate_all p ItsValue args) s A S Q
           → ((u : State) → A u → Fit (bares (run.count_trees args) slots) n ts u) → Fit slots n (each_tree args ++ ts) s
       trees_fit no_trees ours slots ts s A l k = k s (leads_stay A S Q s l)
@@ -283,7 +283,7 @@ module _ (routines : List RoutineTree) (p : Spot) (w : World) (b : Level) (S : C
           (leads_both A S Q (evaluate p ItsValue t) (evaluate_all p ItsValue rest) (evaluated_keeps p ItsValue t) (all_keep p ItsValue rest) s l)
           (λ u m j v more d e knows tasks. trees_fit rest (ours_right p.scope (in_tree t) (in_trees rest) ours) (Bare None ∷ slots) ts u A m k j d tasks)
 
-      -- subscripts and further arguments of a name that is given to a function
+      -- subscripts of a name that is an argument of a function, and the further arguments
       parts_fit : (args : Trees) → AreOurs p.scope (in_trees args) → NameParts args
       parts_fit no_trees ours = tt
       parts_fit (tree (GlobalName column name subs) more) ours = record {
@@ -331,7 +331,7 @@ module _ (routines : List RoutineTree) (p : Spot) (w : World) (b : Level) (S : C
           (λ h. choices_fit rest (ours_right p.scope (in_tree v) (in_choices rest) there) slots ts u A h k) m z may i less))))
           to d refl)))
 
-      -- actuals: one that is given by reference, and one that is left out, has no value
+      -- actuals: one by reference, and a missing one, has no value
       pub actuals_fit : (given : Actuals) → AreOurs p.scope (in_actuals given) → (slots : List Slot) (ts : List Task) (s : State) (A : State → Type 0) → Leads (capture_actuals p given) s A S Q
           → ((u : State) → A u → Fit (given_slots (as_list given) slots) n ts u) → Fit slots n (each_actual (as_list given) ++ ts) s
       actuals_fit no_actuals ours slots ts s A l k = k s (leads_stay A S Q s l)

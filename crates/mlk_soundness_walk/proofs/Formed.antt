@@ -1,4 +1,4 @@
--- The lines of an entry are its routine's: of one level each, with calls of the program.
+-- The lines of an entry are its routine's: each at one level, with calls of the program.
 use Rattle.std.proofs.Common.{◌≡◌, ℕ, zero, suc, ◌+◌, Bool, true, false, List, [], ◌∷◌, ◌++◌, map, take, drop, Option, Some, None, refl, subst, arith, ⊎_elim}
 use Rattle.std.specs.Prelude.{◌⊎◌, Contains, take_while, slice_get}
 use Rattle.std.proofs.lemmas.Bool.{cases_Bool}
@@ -33,7 +33,7 @@ contains_get [] n a h = absurd (cc h)
 contains_get (x ∷ xs) zero a h = let z : x ≡ a = cc h in subst (λ y. Contains (x ∷ xs) y) z (0, omega arith, refl)
 contains_get (x ∷ xs) (suc n) a h = let r = contains_get xs n a h in (suc r.0, omega (arith, r.1), r.2)
 
--- each of a part of a list
+-- each element of a part of a list
 each_drop : {A : Type 0} (P : A → Type 0) (n : ℕ) (xs : List A) → Each P xs → Each P (drop n xs)
 each_drop P zero xs h = h
 each_drop P (suc n) [] h = h

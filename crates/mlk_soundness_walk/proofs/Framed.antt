@@ -1,4 +1,4 @@
--- An entry's lines: begun at its begin, to its exits.
+-- An entry's lines: from its begin to its exits.
 use Rattle.std.proofs.Common.{◌≡◌, ℕ, zero, suc, ◌+◌, ◌<◌, Bool, true, false, List, [], ◌∷◌, ◌++◌, length, take, drop, Option, Some, None, refl, sym, ap, ◌∙◌, subst, arith, ⊎_elim, inl, inr, is_some}
 use Rattle.std.specs.Prelude.{◌⊎◌, ◌&&◌, if◌then◌else◌, take_while, slice_get, is_none}
 use Rattle.std.specs.List.{prefix_len}
@@ -50,7 +50,7 @@ use Rattle.mlk_soundness_machine.specs.Places.{line_number, entry_trees, none_fo
 use Rattle.mlk_soundness_machine.proofs.Listing.{own_lines, is_at_start}
 use Rattle.mlk_soundness_walk.proofs.Places.{AreWithin, lines_behind, first_in}
 
--- a frame's end that is right leaves by an exit
+-- an end of a frame without a fault leaves by an exit
 pub record LeavesBy (e : LineEnd) (c : Case) : Type 0 where
   pub exit : ExitCase
   pub is_its : Among exit e.scope.summary.exits
@@ -78,13 +78,13 @@ pub listed_back : (ls : List (HeadTree × LineTrees)) → as_lines (lines_from l
 listed_back [] = refl
 listed_back (l ∷ ls) = ap (λ z. l ∷ z) (listed_back ls)
 
--- the machine's lines go on behind the entry's
+-- the machine's lines continue after the entry's
 pub record Behind (lines : List (HeadTree × LineTrees)) : Type 0 where
   pub tail : List (HeadTree × LineTrees)
   pub are : lines ≡ take_while lacks_formals lines ++ tail
   pub starts : (tail ≡ []) ⊎ ((l : HeadTree × LineTrees) × (more : List (HeadTree × LineTrees)) × (tail ≡ l ∷ more) × (is_some (formals_of l.0) ≡ true))
 
--- to which no job goes on
+-- into which no job continues
 none_past : (tail : List (HeadTree × LineTrees)) → (tail ≡ []) ⊎ ((l : HeadTree × LineTrees) × (more : List (HeadTree × LineTrees)) × (tail ≡ l ∷ more) × (is_some (formals_of l.0) ≡ true)) → none_follows tail ≡ true
 none_past tail (inl e) = subst (λ z. none_follows z ≡ true) (sym e) refl
 none_past tail (inr (l, more, e, h)) = subst (λ z. none_follows z ≡ true) (sym e) h
@@ -108,7 +108,7 @@ get_after : (front tail : List (HeadTree × LineTrees)) → slice_get (front ++ 
 get_after [] tail = refl
 get_after (f ∷ front) tail = get_after front tail
 
--- what stands at the place where they go on
+-- the line at the index at which they continue
 pub place_after : (n : ℕ) (xs front tail : List (HeadTree × LineTrees)) → drop n xs ≡ front ++ tail → slice_get xs (n + length front) ≡ slice_get tail 0
 place_after zero xs front tail h = let z : 0 + length front ≡ length front = omega arith in ap (λ k. slice_get xs k) z ∙ ap (λ x. slice_get x (length front)) h ∙ get_after front tail
 place_after (suc n) [] [] [] h = refl
@@ -157,7 +157,7 @@ module _ (routines : List RoutineTree) (rules : RuleLists) (entries : List (Entr
       inr (z.0.0, e ∙ ap (λ q. option_map (λ l. l.0) (slice_get q 0)) z.2, z.3))
       r.starts
 
--- a frame's end that is given a value: the frame of `$$` keeps it
+-- an end of a frame with a value: the frame of an extrinsic call keeps it
 module _ (routines : List RoutineTree) (rules : RuleLists) (entries : List (EntryId × EntryCert) × List EntryId) (sc : Scope) (w : World) (m : ℕ) where
   one_less : (c : Case) (j : Job) (v : List ℕ) (more : List (List ℕ)) → Describes sc w (first_level w) (Bare None ∷ []) (at_rest c) (idle j) → j.values ≡ v ∷ more → Describes sc w (first_level w) [] (at_rest c) (idle (dropped 1 j))
   one_less c j v more d e = subst (λ z. Describes sc w (first_level w) [] (at_rest c) (record (idle j) { values = z })) (sym (ap (drop 1) e)) (drop_law sc w (first_level w) None [] (at_rest c) (idle j) d v more e)
@@ -168,7 +168,7 @@ module _ (routines : List RoutineTree) (rules : RuleLists) (entries : List (Entr
   gives (HasValue t) next r ts f c x among leaves stays j v more d e = f c x among leaves stays [] (HasValue t) (inl (refl, refl)) (doing (EndFrame (HasValue t) w.back next r ∷ ts) (dropped 1 j)) (one_less c j v more d e) refl
   gives (AwaitsValue t) next r ts f c x among leaves stays j v more d e = f c x among leaves stays (Bare None ∷ []) (HasValue t) (inr (t, refl, refl, refl)) (doing (EndFrame (HasValue t) w.back next r ∷ ts) j) d refl
 
--- where an entry's frame begins, a case describes it that is listed at the entry's line
+-- when an entry's frame begins, a case that is listed at the entry's line describes it
 starts : (sc : Scope) (w : World) (b : Level) (head : HeadTree) (c : Case) → is_listed (listed sc (number_of head) 0) c ≡ true → (j : Job) → Describes sc w b [] (at_rest c) (idle j)
     → (begun : Begun sc w) → begun.first ≡ j → begun.began.head ≡ head → AreMarked w b (marks j.tasks) → IsAtStart sc.routines sc.blocks w.begun begun.first
 starts sc w b (LineHead number level at label formals cs) c h j d begun is same marked =
@@ -176,7 +176,7 @@ starts sc w b (LineHead number level at label formals cs) c h j d begun is same 
     subst (IsAtStart sc.routines sc.blocks w.begun) (sym is)
     (is_at_start sc w b r.0 number r.1 j marked begun (less_stands sc w b c r.0 r.2 (bare (idle j)) d.stands) (ap line_number same))
 
--- an entry is safe for so many steps where its commands fit
+-- an entry is safe for `n` steps if its commands are
 module _ (routines : List RoutineTree) (rules : RuleLists) (blocks : List EntryCert) (clean : report routines rules blocks ≡ []) where
   abbrev entries : List (EntryId × EntryCert) × List EntryId
   entries = known routines rules blocks
@@ -224,7 +224,7 @@ module _ (routines : List RoutineTree) (rules : RuleLists) (blocks : List EntryC
       (tasks ∙ ap (λ z. RunCommands (commands_in head) (head, body) ∷ RunLines z ∷ EndFrame frame w.back next r ∷ ts) (past.are ∙ ap (λ z. z ++ past.tail) (sym (listed_back (take_while lacks_formals lines)))))
       (record { marks = marks; begun = begun; starts = starts (sc_of e blk) w (first_level w) head (begin_case blk.summary (formals_in head)) in_list j d begun is same marks })
 
-  -- calls close by the number of steps
+  -- the induction for calls is on the number of steps
   module _ (once : (e : EntryId) (blk : EntryCert) → block_at entries.0 e ≡ Some blk → ListsEachOnce (sc_of e blk)) (leveled : (e : EntryId) (blk : EntryCert) → AreLinesOf (sc_of e blk) 1 true (lines_from (lines_of routines e)))
       (fits : (n : ℕ) → ((k : ℕ) → k < n → EntryFits routines rules entries k) → AllCommands routines rules entries n) where
     below : (n k : ℕ) → k < n → EntryFits routines rules entries k

@@ -102,7 +102,7 @@ module _ (routines : List RoutineTree) (p : Spot) (w : World) (b : Level) (S : C
         others (Bare None ∷ slots) (task.Drop (run.count_trees more) ∷ ts) u A l
         (λ x a. drop_fits routines p.scope w b (Bare None ∷ slots) n ts x (run.count_trees more) (any_fits routines p.scope w b slots n ts x (k x a))) j d tasks
 
-    -- one value is asked in place of all
+    -- one value is asked for in place of all
     tail_fit : (count : ℕ) (u : State) → Then u → Fit (bares count slots) n (each_tree more ++ (task.AskValue (count + run.count_trees more) ∷ ts)) u
     tail_fit count u l =
         others (bares count slots) (task.AskValue (count + run.count_trees more) ∷ ts) u A l
@@ -134,7 +134,7 @@ module _ (routines : List RoutineTree) (p : Spot) (w : World) (b : Level) (S : C
       abbrev After : Use → State → Type 0
       After how u = Leads (λ v. evaluate_all p ItsValue more (each (row how) v)) u A S Q
 
-      -- subscripts, then what is made of them
+      -- subscripts, then the access to the name
       opened : (how : Use) (us : List Task) (s : State) → Leads (evaluate_all p how (tree (GlobalName column name subs) more)) s A S Q
           → ((u : State) → After how u → Fit (kepts (count_subs subs) slots) n us u) → Fit slots n (each_sub subs ++ us) s
       opened how us s l f =
@@ -186,7 +186,7 @@ module _ (routines : List RoutineTree) (p : Spot) (w : World) (b : Level) (S : C
           forgotten_fits routines p.scope w b slots n (each_tree more ++ (task.AskValue (count_subs subs + run.count_trees more) ∷ ts)) u (count_subs subs)
           (tail_fit (count_subs subs) (without_last (count_subs subs) u) (allowed Spelled u q).1)))
 
-    -- what is beside the node is read
+    -- the nodes next to it are read
     order_fits : (column : ℕ) (name : List ℕ) (c : ℕ) (t : Tree) (rest : Subs) → Subscripts (sub c t rest) → (s : State) → Leads (evaluate_all p Beside (tree (GlobalName column name (sub c t rest)) more)) s A S Q
         → Fit slots n (of_global function.Order name (sub c t rest) more ++ ts) s
     order_fits column name c t rest subscripts s l =

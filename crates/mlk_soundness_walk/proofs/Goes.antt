@@ -9,7 +9,7 @@ use Rattle.mlk_walk_exprs.specs.Walks.{Outcome, Goes, Refused}
 use Rattle.mlk_walk_exprs.specs.References.{covered_or}
 use Rattle.mlk_soundness_walk.proofs.Alone.{Meets}
 
--- what a row answers where nothing is wrong
+-- the result of a row if nothing is wrong
 pub covered_goes : (G : State → Type 0) (S : Case → Type 0) (Q : Quit → Type 0) (o : Option Code) (line column : ℕ) (s : State)
     → ((x : Outcome) → Among x (covered_or o line column s) → Meets G S Q x) → (o ≡ None) × G s
 covered_goes G S Q None line column s h = (refl, h (Goes s) (inl refl))

@@ -61,7 +61,7 @@ module _ (routines : List RoutineTree) (p : Spot) (w : World) (b : Level) (world
   abbrev Fit : List Slot → ℕ → List Task → State → Type 0
   Fit = Fits routines p.scope w b
 
-  -- whether it was in time
+  -- whether the input was in time
   told : (t : Tree) (ts : List Task) (s : State) (A : State → Type 0) → Leads (each (in_time_or_not (Some t))) s A S Q → ((u : State) → A u → Fit [] n ts u)
       → (j : Job) → Describes p.scope w b [] s (idle j) → (x : Bool) → Safe routines p.scope w b n (doing ts (tested x j))
   told t ts s A l k j d true =
@@ -137,7 +137,7 @@ module _ (routines : List RoutineTree) (p : Spot) (w : World) (b : Level) (world
       read_into_fits v is None timeout (ours_left p.scope (calls.in_variable v) (in_option timeout) whole)
       (λ c i. absurd (omega (arith, i.1))) (ours_right p.scope (calls.in_variable v) (in_option timeout) whole) ts s A l k
 
-  -- one after another: from so many on, of all
+  -- one after another: from the first `k` on, of all
   module _ (a : ActionTree) (all : List ReadTree) (ts : List Task) (start : State)
       (mark : (k : ℕ) (u : State) → come_to read_argument p (take k all) start u → (j : Job) → Describes p.scope w b [] u (idle j) → j.tasks ≡ task.NextArgument a k ∷ (made.in_turn read_parts a k (drop k all) ++ ts) → KeepsIn p.scope w b j) where
     reads_from : (k : ℕ) (reads : List ReadTree) → drop k all ≡ reads → list_all reads_local reads ≡ true → AreOurs p.scope (flat_map in_read reads) → (s : State) → come_to read_argument p (take k all) start s → (A : State → Type 0)

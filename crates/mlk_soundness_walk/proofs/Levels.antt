@@ -59,7 +59,7 @@ module _ (routines : List RoutineTree) (rules : RuleLists) (entries : List (Entr
   abbrev spot : ℕ → ℕ → Option Block → ℕ → Spot
   spot number level in_block word = record { scope = scope routines rules entries e blk; line = number; level = level; block = in_block; word = word }
 
-  -- the commands of one line, given what its block's lines are
+  -- the commands of one line, given that its block's lines are safe
   module _ (block : LineTrees) (b : Level) (pos : 0 < b.level) (leveled : AreLinesOf sc (suc b.level) false block) (passes : EachLinePasses sc OfBlock (walk_lines sc OfBlock block).ends block) (are : AreWithin block (own_lines sc w))
       (inner : (inside : Level) → inside.level ≡ suc b.level → (m : ℕ) → m ≤ bound → EachBlockFits routines sc w inside m block) where
     abbrev its : Option Block

@@ -1,4 +1,4 @@
--- Commands one after another, and lines: each goes on in a case that is listed.
+-- Commands one after another, and lines: each continues in a case that is listed.
 use Rattle.std.proofs.Common.{◌≡◌, ℕ, suc, Bool, true, false, List, [], ◌∷◌, ◌++◌, reverse, Option, Some, None, refl, sym, ap, ◌∙◌, subst, arith, ⊎_elim, inl, inr}
 use Rattle.std.specs.Prelude.{◌⊎◌, is_some}
 use Rattle.std.specs.List.{list_any, AllZip}
@@ -53,7 +53,7 @@ use Rattle.mlk_soundness_walk.specs.Commands as stated
 use Rattle.mlk_soundness_walk.specs.Ours.{IsOf, AreOf, IsHeadOf, AreLinesOf}
 use Rattle.mlk_soundness_walk.proofs.Ours.{first_of, rest_of}
 
--- a case that says no more describes what the other describes
+-- a case that says no more than another describes all that the other describes
 test_less : (s t : Test) (b : Bool) → Covers s t → Agrees s b → Agrees t b
 test_less s t b (inl e) h = subst (λ z. Agrees z b) (sym e) tt
 test_less s t b (inr e) h = subst (λ z. Agrees z b) (sym e) h
@@ -101,7 +101,7 @@ rests sc w b s j d =
     let e : s.captured ≡ [] = sym (turned_twice s.captured) ∙ ap reverse (none_captured (now j) (reverse s.captured) j.values w.values d.values) in
     ap (λ z. record s { captured = z }) e
 
--- where nothing is captured, a state is its case
+-- if nothing is captured, a state is its case
 pub at_rest_law : (sc : Scope) (w : World) (b : Level) (u : State) (j : Job) → Describes sc w b [] u j → Describes sc w b [] (at_rest u.case) j
 at_rest_law sc w b u j k = record { stands = k.stands; captured_sole = λ x h. differs (some_local x []) h (none_local x); values = nothing (now j) (reverse u.captured) j.values w.values k.values }
 
@@ -144,7 +144,7 @@ module _ (sc : Scope) (w : World) (b : Level) (c d : Case) (i : Included c d) wh
     values = nothing (now j) (reverse u.captured) j.values w.values k.values;
   }
 
--- the case that a list has for this one
+-- the listed case for this one
 pub listed_for : (cases : List Case) (c : Case) → is_listed cases c ≡ true → (d : Case) × Among d cases × Included c d
 listed_for [] c h = differs false h refl
 listed_for (d ∷ cases) c h =
@@ -160,7 +160,7 @@ module _ (routines : List RoutineTree) (w : World) (b : Level) where
   abbrev Gives : Scope → ℕ → List Task → State → Type 0
   Gives = stated.Gives routines w b
 
-  -- a command, and a FOR, where the walk finds nothing wrong: what follows it, what it skips to and what it quits to
+  -- a command, and a FOR, if the walk finds nothing wrong: what follows it, what it skips to and what it quits to
   pub record CommandFits (p : Spot) (here : LineTree) (n : ℕ) : Type 1 where
     pub one : (may : Bool) (c : CommandTree) → IsOf p.scope may c → (ts : List Task) (s : State) → stated.KeepsBetween routines w b p c ts s → (A : State → Type 0) (S : Case → Type 0) (Q : Quit → Type 0) → Leads (λ v. one_command p v c) s A S Q
         → ((u : State) → A u → Fit p n ts u) → ((d : Case) → S d → Fit p n (skipped ts) (at_rest d)) → ((q : Quit) → Q q → Fit p n (quit ts) (at_rest q.case))
@@ -177,7 +177,7 @@ module _ (routines : List RoutineTree) (w : World) (b : Level) where
       → ((u : State) → A u → Fit p n ts u) → ((d : Case) → S d → Fit p n (skipped ts) (at_rest d)) → ((q : Quit) → Q q → Fit p n (quit ts) (at_rest q.case))
       → (may ≡ true → (q : Quit) → Q q → Gives p.scope n (to_end ts) (at_rest q.case)) → Fit p n (RunCommands cs here ∷ ts) s
 
-  -- what is said of what the walk comes to, said of all that it leads to
+  -- a statement about the outcomes of the walk, made for all that it leads to
   pub as_said : (p : Spot) (here : LineTree) (n : ℕ) → stated.CommandsAreSafe routines w b p here n → CommandFits p here n
   as_said p here n h = record {
     one = λ may c of ts s between A S Q l go skip stop give.
@@ -219,7 +219,7 @@ module _ (routines : List RoutineTree) (sc : Scope) (w : World) (b : Level) (n :
   EachBlockFits no_lines = Unit {1}
   EachBlockFits (line head block rest) = BlockFits block × EachBlockFits rest
 
-  -- where they are whatever the line's block is
+  -- if they are safe whatever the line's block is
   pub all_fit : ((block : LineTrees) → AreLinesOf sc (suc b.level) false block → EachLinePasses sc OfBlock (walk_lines sc OfBlock block).ends block → AreWithin block (own_lines sc w) → BlockFits block)
       → (may : Bool) (around : Around) (ends : List Case) (lines : LineTrees) → AreLinesOf sc b.level may lines → EachLinePasses sc around ends lines → AreWithin lines (own_lines sc w) → EachBlockFits lines
   all_fit all may around ends no_lines leveled passes are = tt
@@ -228,7 +228,7 @@ module _ (routines : List RoutineTree) (sc : Scope) (w : World) (b : Level) (n :
     all_fit all may around ends rest leveled.2 passes.2 (lines_behind head block rest (own_lines sc w) are),
   )
 
--- the lines of a level: E ends it
+-- the lines of a level, which `E` ends
 module _ (routines : List RoutineTree) (sc : Scope) (w : World) (b : Level) (around : Around) (ends : List Case) (once : ListsEachOnce sc) (n : ℕ)
     (E : Task) (is : is_end E ≡ true) (ts : List Task) (tail : List task.LineTree) (none : none_follows tail ≡ true)
     (last : ((tail ≡ []) × (next_head around no_lines ≡ None)) ⊎ ((h : HeadTree) × (next_head around no_lines ≡ Some h) × (is_some (formals_of h) ≡ true)))
@@ -237,7 +237,7 @@ module _ (routines : List RoutineTree) (sc : Scope) (w : World) (b : Level) (aro
   abbrev Goes : List Task → State → Type 0
   Goes = Fits routines sc w b [] n
 
-  -- a case may enter the lines, or end the level where there is none
+  -- a case may enter the lines, or end the level if there are none
   abbrev pub Enters : LineTrees → Case → Type 0
   Enters no_lines c = (tail ≡ []) × (e : LineEnd) × (column : ℕ) × (e.scope ≡ sc) × (e.level ≡ b.level) × IsRight ends (level_end around e column c)
   Enters (line head block rest) c = is_listed (listed sc (number_of head) 0) c ≡ true
@@ -269,7 +269,7 @@ module _ (routines : List RoutineTree) (sc : Scope) (w : World) (b : Level) (aro
   end_is : (lines : List task.LineTree) → to_end (RunLines lines ∷ E ∷ ts) ≡ E ∷ ts
   end_is lines = rw is refl
 
-  -- the commands of a line, begun in a case that is listed at it
+  -- the commands of a line that begins in a case that is listed at it
   pub head_fits : (head : HeadTree) (inner more : LineTrees) → StandIn (line head inner more) (own_lines sc w) → BlockFits routines sc w b n inner → IsHeadOf sc b.level may head
       → PassesFromEach sc around (next_head around more) (block_with inner (walk_lines sc OfBlock inner).ends) ends head
       → ((c : Case) → Enters more c → Goes (RunLines (as_lines more ++ tail) ∷ E ∷ ts) (at_rest c))
@@ -291,7 +291,7 @@ module _ (routines : List RoutineTree) (sc : Scope) (w : World) (b : Level) (aro
       (λ y q m. subst (λ z. stated.Gives routines w b sc n z (at_rest q.case)) (sym (end_is (as_lines more ++ tail))) (give y e q.column q.case refl deep.0 m))
       j (less_law sc w b c r.0 r.2 (at_rest c) refl (idle j) d) tasks
 
-  -- where the job goes on to a line, a listed case describes it
+  -- when the job moves on to a line, a listed case describes it
   at_line : (head : HeadTree) (inner more : LineTrees) → StandIn (line head inner more) (own_lines sc w) → (c : Case) → is_listed (listed sc (number_of head) 0) c ≡ true → (j : Job) → Describes sc w b [] (at_rest c) (idle j)
       → j.tasks ≡ RunLines ((head, inner) ∷ (as_lines more ++ tail)) ∷ E ∷ ts → KeepsIn sc w b j
   at_line (LineHead number level at label formals cs) inner more is_line c h j d tasks =

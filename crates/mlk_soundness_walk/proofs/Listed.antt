@@ -1,4 +1,4 @@
--- A certificate lists no case twice at one point: the cases of a point stand in the order of their texts, and no text stands
+-- A certificate lists no case twice at one point: the cases of a point are in the order of their texts, and no text comes
 -- before itself.
 use Rattle.std.proofs.Common.{◌≡◌, ℕ, zero, suc, Bool, true, false, List, [], ◌∷◌, map, refl, ap, subst, arith, ⊎_elim}
 use Rattle.std.specs.Prelude.{◌==◌, nat_lt, not, Contains}
@@ -15,7 +15,7 @@ use Rattle.mlk_walk_state.specs.States.{at_rest}
 use Rattle.mlk_walk_laws.specs.Fewer.{StatesDiffer}
 use Rattle.mlk_soundness_walk.specs.Forms.{ListOnce}
 
--- what each item of a list is
+-- a property of each item of a list
 each_one : {A : Type 0} (Is : A → Type 0) (xs : List A) (a : A) → Each Is xs → Contains xs a → Is a
 each_one Is [] a h i = absurd (omega (arith, i.1))
 each_one Is (x ∷ xs) a h (zero, low, same) = subst Is same h.0
@@ -79,7 +79,7 @@ later c d e h g =
     let up : upto (case_text e) (case_text c) ≡ false = below_later (case_text c) (case_text d) (case_text e) (not_upto (upto (case_text d) (case_text c)) h) (not_upto (upto (case_text e) (case_text d)) g) in
     ap not up
 
--- cases that stand in order stand so without the second of them, and the first is none of the others
+-- cases in order stay in order without the second of them, and the first is none of the others
 without : (c d : Case) (ds : List Case) → cases_below c d ≡ true → ascends cases_below (d ∷ ds) ≡ true → ascends cases_below (c ∷ ds) ≡ true
 without c d [] h up = refl
 without c d (e ∷ ds) h up =

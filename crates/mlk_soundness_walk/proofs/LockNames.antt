@@ -1,4 +1,4 @@
--- Terms of LOCK stand for the names that the job claims or releases: one by one, and as often.
+-- Terms of LOCK denote the names that the job claims or releases: one by one, and as often.
 use Rattle.std.proofs.Common.{◌≡◌, ℕ, zero, suc, ◌+◌, ◌<◌, true, false, List, [], ◌∷◌, ◌++◌, length, take, drop, Option, Some, None, refl, sym, ap, ◌∙◌, subst, arith, ⊎_elim, take-append-drop}
 use Rattle.std.specs.Prelude.{option_map, option_and_then, bytes_eq}
 use Rattle.std.specs.List.{AllZip}
@@ -30,7 +30,7 @@ use Rattle.mlk_soundness_machine.proofs.Reading.{differs, name_is, of_subs, loca
 use Rattle.mlk_soundness_machine.proofs.Terms.{first_of, left_of, mentions_cases, mentions_none}
 use Rattle.mlk_soundness_walk.proofs.Sets.{subs_same}
 
--- the walk and the machine count a name's subscripts alike, and have one root for it
+-- the walk and the machine agree on the number of a name's subscripts, and on its root
 pub count_in_same : (v : VariableTree) → walked.count_in v ≡ made.count_in v
 count_in_same v = ap count_subs (subs_same v)
 
@@ -125,7 +125,7 @@ terms_local x (v ∷ names) symbols terms e h =
     (mentions_cases x (record { root = root_of (name_in v); subs = c.subs }) c.rest (subst (λ l. mentions x l ≡ true) (sym c.is) h)))
 
 module _ (a : Assignment) where
-  -- the terms stand for these names
+  -- the terms denote these names
   abbrev pub NameThem : List LockTerm → List LockName → Type 0
   NameThem terms names = AllZip (λ t n. name_of a t ≡ Some n) terms names
 
@@ -145,7 +145,7 @@ module _ (a : Assignment) where
       let q : all_some (value_of a) c.rest ≡ Some vs = all_stand ss c.rest vs c.by_rest h.1 in
       subst (λ l. all_some (value_of a) l ≡ Some (v ∷ vs)) c.is (rw (p, q) refl)
 
-  -- terms of symbols that stand for values stand for the names of these values
+  -- terms of symbols that denote values denote the names of these values
   pub names_stand : (names : List VariableTree) (symbols : List Sym) (values : List (List ℕ)) (terms : List LockTerm) → AllZip (StandsFor a) symbols values → terms_of names symbols ≡ Some terms
       → NameThem terms (names_of values names)
   names_stand [] symbols values terms h e = let z : [] ≡ terms = cc e in subst (λ y. NameThem y []) z tt
@@ -184,7 +184,7 @@ module _ (a : Assignment) where
       one None e g u = let z : None ≡ Some n = g in absurd (cc z)
       one (Some vs) e g u = subs_defined x t.subs vs e u
 
-  -- the names are held as many times more as the terms stand for them
+  -- each name is held more often by the number of terms that denote it
   pub raised_times : (terms : List LockTerm) (names : List LockName) → NameThem terms names → (held : Counts) (m : LockName) → count_of (all_raised names held) m ≡ times a terms m + count_of held m
   raised_times [] [] h held m = omega arith
   raised_times [] (n ∷ names) h held m = absurd h
@@ -195,7 +195,7 @@ module _ (a : Assignment) where
       let one : one_at (name_of a t) m ≡ one_at (Some n) m = ap (λ o. one_at o m) h.0 in
       omega (arith, rest, more, one)
 
-  -- and as many times less, once these terms are taken from those that are held
+  -- and less often by that number, after these terms are removed from the held ones
   pub lowered_times : (terms : List LockTerm) (names : List LockName) → NameThem terms names → (had left : List LockTerm) → all_taken terms had ≡ Some left → (other : LockName → ℕ) (held : Counts)
       → ((m : LockName) → count_of held m ≡ times a had m + other m) → (m : LockName) → count_of (all_lowered names held) m ≡ times a left m + other m
   lowered_times [] [] h had left e other held counts m = let z : had ≡ left = cc e in subst (λ l. count_of held m ≡ times a l m + other m) z (counts m)

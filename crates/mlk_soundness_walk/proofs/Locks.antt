@@ -1,4 +1,4 @@
--- LOCK: names are evaluated, then claimed or given back; without a sign all is released before.
+-- LOCK: names are evaluated, then claimed or released; without a sign all are released before.
 use Rattle.std.proofs.Common.{◌≡◌, ℕ, zero, suc, ◌+◌, ◌-◌, Bool, true, false, List, [], ◌∷◌, ◌++◌, length, take, drop, Option, Some, None, refl, sym, ap}
 use Rattle.std.proofs.Common.{◌∙◌, subst, arith, inl, inr, append_assoc, take-append-drop}
 use Rattle.std.specs.Prelude.{◌&&◌, flat_map, is_some, option_and_then, Result, Ok, Err, if◌then◌else◌}
@@ -70,7 +70,7 @@ timed_same : (timeout : Option Tree) → is_timed timeout ≡ is_some timeout
 timed_same None = refl
 timed_same (Some t) = refl
 
--- what rows answer where nothing is wrong
+-- the results of rows if nothing is wrong
 module _ (p : Spot) (A : State → Type 0) (S : Case → Type 0) (Q : Quit → Type 0) where
   abbrev AllMeet : List Outcome → Type 0
   AllMeet os = (o : Outcome) → Among o os → Meets A S Q o
@@ -170,7 +170,7 @@ module _ (routines : List RoutineTree) (p : Spot) (w : World) (b : Level) (world
             unasked IsSafe c _ (came (list_all free names && has_room names j.held) (held_more names (doing ts j)) (held (held_too terms s) (g (Goes (held_too terms s)) (inl refl)) (held_more names j) after))
         by true g free c = of_truth IsSafe c _ (λ x. in_time x g free)
 
-    -- names that are given back
+    -- released names
     give_fits : (trees : List VariableTree) (terms : List LockTerm) (names : List LockName) (s : State) → length trees ≡ length terms → AllMeet p A S Q (give_back p trees terms s)
         → (j : Job) → Describes p.scope w b [] s (idle j) → AreNamed (now j) j.bindings terms names → j.tasks ≡ task.Release names ∷ ts → IsSafe j
     give_fits trees terms names s l h j d named tasks =
@@ -179,7 +179,7 @@ module _ (routines : List RoutineTree) (p : Spot) (w : World) (b : Level) (world
         unasked IsSafe c _ (done IsSafe (doing ts (record j { held = all_lowered names j.held }))
         (go (holding r.0 s) r.2 (doing ts (record j { held = all_lowered names j.held })) (less_law p.scope w b [] s j d terms names named.named r.0 r.1) refl)))
 
-    -- what the sign says
+    -- LOCK by its sign
     sign_fits : (by : Sign) (timed : Bool) (trees : List VariableTree) (terms : List LockTerm) (names : List LockName) (s : State) → length trees ≡ length terms
         → AllMeet p A S Q (walked.by_sign held_too p by timed trees terms s) → (j : Job) → Describes p.scope w b [] s (idle j) → AreNamed (now j) j.bindings terms names
         → j.tasks ≡ run.by_sign by names timed ++ ts → IsSafe j

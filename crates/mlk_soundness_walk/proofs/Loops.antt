@@ -67,7 +67,7 @@ module _ (p : Spot) (column index : ℕ) (control : Option ControlTree) (rest : 
   clean : IsClean inner
   clean = record { faultless = ((controlled_keeps (at_word p column) control cs (ended_in inner) ended_apart).back (and_faults inner.faults (alone s)) controls).faultless; goes_on = opened.1 }
 
-  -- all that the loop comes to
+  -- all outcomes of the loop
   whole : commands p (then_for column index control rest) (alone s) ≡ and_states (quit_in inner) (run (alone s))
   whole = loop_same (at_word p column) control cs inner distinct tells (alone s) refl opened.1
       ∙ few_same p.line column (and_states (quit_in inner) (run (alone s))) (few_clean p.line column (and_states (quit_in inner) (run (alone s))) opened.2).0
@@ -75,7 +75,7 @@ module _ (p : Spot) (column index : ℕ) (control : Option ControlTree) (rest : 
   pub after_quits : (u : State) → Among u (quit_in inner) → A u
   after_quits u i = l.going u (subst (λ (w : Walk). Among u w.going) (sym (whole ∙ states_same (quit_in inner) (run (alone s)) controls.goes_on)) (all_new u (quit_in inner) (run (alone s)).going i))
 
-  -- what the control comes to
+  -- the outcomes of the control
   unfaulted : and_faults inner.faults (alone s) ≡ alone s
   unfaulted = ap (λ z. record (alone s) { faults = z }) clean.faultless
 
@@ -99,7 +99,7 @@ module _ (p : Spot) (column index : ℕ) (control : Option ControlTree) (rest : 
         quits = λ x r. in_map (λ (z : Quit). at_rest z.case) x inner.quits (q.quits x r);
       }
 
--- a round is no line's end
+-- a round is not a line's end
 round_skips : (K : Task) (ts : List Task) → is_round K ≡ true → skipped (K ∷ ts) ≡ K ∷ ts
 round_skips K ts h = rw h refl
 

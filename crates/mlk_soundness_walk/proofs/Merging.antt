@@ -86,7 +86,7 @@ module _ (sc : Scope) (w : World) (b : Level) (of_target of_source : ℕ) (u : S
   source_stands : AllZip (StandsFor (now j)) (last_captured of_source u) right.vals
   source_stands = subst (λ z. AllZip (StandsFor (now j)) z right.vals) (sym (last_are u.captured right.front right.syms of_source right.symbols right.count)) right.stand
 
-  -- all values are taken, and the target's symbols stay
+  -- all values are used, and the target's symbols stay
   target_law : Describes sc w b (spents left.vals []) (without_last of_source u) (idle (dropped (of_target + of_source) j))
   target_law =
       let low = bottom (now j) left.syms left.more w.values left.fills in
@@ -104,12 +104,12 @@ module _ (sc : Scope) (w : World) (b : Level) (of_target of_source : ℕ) (u : S
             (subst (λ z. Fills (now j) (spents left.vals []) z w.values w.values) (sym g) f);
       }
 
--- a tree is read where the source is a global
+-- a tree is read if the source is a global
 abbrev is_global : VariableTree → Bool
 is_global (Named column (GlobalName caret name subs)) = true
 is_global v = false
 
--- what is written where nothing was read
+-- what is written if nothing was read
 abbrev alone_parts : List (List ℕ) → VariableTree → List Task
 alone_parts vals (Named column (LocalName name no_subs)) = task.StoreAny name ∷ []
 alone_parts vals (Named column (GlobalName caret name subs)) = task.DoTouch (touch_at name vals extent.Tree Writes) ∷ []
@@ -133,11 +133,11 @@ module _ (routines : List RoutineTree) (p : Spot) (w : World) (b : Level) (world
     abbrev Killed : VariableTree → State → Type 0
     Killed target s = (o : Outcome) → Among o (kill_row p target s) → Meets A S Q o
 
-    -- the target's symbols are forgotten
+    -- the target's symbols are dropped
     over : (vals : List (List ℕ)) (count : ℕ) → length vals ≡ count → (us : List Task) (v : State) → Fit [] n us (without_last count v) → Fit (spents vals []) n us v
     over vals count size us v k = λ j d tasks. k j (forgotten p.scope w b vals count size v (idle j) d) tasks
 
-    -- all that is captured stands for the target's values
+    -- all captured symbols denote the target's values
     all_stand : (vals : List (List ℕ)) (count : ℕ) → length vals ≡ count → (v : State) (j : Job) → Describes p.scope w b (spents vals []) v (idle j)
         → AllZip (StandsFor (now j)) (last_captured count v) vals
     all_stand vals count size v j d =
@@ -163,7 +163,7 @@ module _ (routines : List RoutineTree) (p : Spot) (w : World) (b : Level) (world
         (all_stand vals count size v j d) tasks
     alone_fits (Named column x) vals size v h = over vals 0 size ts v (subst (λ z. Fit [] n ts z) (sym (nothing_less v)) (go v (h (Goes v) (inl refl))))
 
-    -- so it is after a tree was read, whose value is not used
+    -- and likewise after a tree was read, whose value is not used
     unread : (target : VariableTree) (vals : List (List ℕ)) → length vals ≡ made.count_in target → (v : State) → Killed target v
         → FitsAny routines p.scope w b (spents vals []) n (task.Drop 1 ∷ (alone_parts vals target ++ ts)) v
     unread target vals size v h = λ j x d e tasks. drop_fits routines p.scope w b (spents vals []) n (alone_parts vals target ++ ts) v 1 (alone_fits target vals size v h) j d tasks

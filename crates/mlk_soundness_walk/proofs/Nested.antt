@@ -51,7 +51,7 @@ among_map : {A B : Type 0} (f : A → B) (a : A) (xs : List A) → Among a xs �
 among_map f a [] m = absurd m
 among_map f a (x ∷ xs) m = ⊎_elim (λ e. inl (ap f e)) (λ k. inr (among_map f a xs k)) m
 
--- what a clean walk of DO says
+-- what a clean walk of DO implies
 leads_block : (A : State → Type 0) (S : Case → Type 0) (Q : Quit → Type 0) (p : Spot) (b : Block) (s : State) → Leads (do_block p (Some b)) s A S Q → (enters p b s ≡ true) × ((d : Case) → Among d b.ends → A (at_rest d))
 leads_block A S Q p b s l = ⊎_elim here (λ (h : enters p b s ≡ false). absurd (refused h)) (cases_Bool (enters p b s))
   where
@@ -66,7 +66,7 @@ leads_block A S Q p b s l = ⊎_elim here (λ (h : enters p b s ≡ false). absu
           l.going (at_rest d) (subst (λ z. Among (at_rest d) (block_ends z b)) (sym some) (all_new (at_rest d) (map at_rest b.ends) [] (among_map at_rest d b.ends m))),
     )
 
--- in a block there is a saved `$TEST`
+-- a block has a saved `$TEST`
 saved_some : (ss : List Test) (bs : List Bool) (x : Bool) → AllZip Agrees ss (bs ++ x ∷ []) → last_saved ss ≡ None → ⊥
 saved_some [] [] x h e = h
 saved_some [] (b ∷ bs) x h e = h

@@ -1,4 +1,4 @@
--- Each job, at each moment of each run of its own, where the report is without faults.
+-- Each job, at each moment of each run of its own, if the report is without faults.
 use Rattle.std.proofs.Common.{◌≡◌, List, []}
 use Rattle.mlk_rules.specs.declared.rules.RuleLists.{RuleLists}
 use Rattle.mlk_rules.specs.Sound.{IsSound}
@@ -21,7 +21,7 @@ one_job = λ routines rules blocks formed sound once clean.
     (λ e head body lines heads. its_formals routines rules (known routines rules blocks) e head body lines heads (λ tree i. (formed tree i).formals))
     (each_entry routines rules blocks clean formed sound once)
 
--- what of this needs no history
+-- the part that needs no history
 pub each_facts : (routines : List RoutineTree) (rules : RuleLists) (blocks : List EntryCert) → AreFormed routines → IsSound rules → ListOnce blocks → report routines rules blocks ≡ []
     → AtEachMoment routines (is_declared routines rules.entries) (Facts rules)
 each_facts routines rules blocks formed sound once clean e test values k first j acts begins runs =

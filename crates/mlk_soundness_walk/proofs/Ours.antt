@@ -1,4 +1,4 @@
--- Commands and calls as they stand in the program.
+-- Commands and calls as they occur in the program.
 use Rattle.std.proofs.Common.{Bool, List, ◌++◌}
 use Rattle.std.proofs.lemmas.List.Elements.{Contains-append_left, Contains-append_right}
 use Rattle.mlk_syntax.specs.Trees.{CallTree, CommandTree, CommandTrees, then_command}

@@ -151,7 +151,7 @@ module _ (routines : List RoutineTree) (p : Spot) (w : World) (b : Level) (world
             (store_any routines p.scope w b world [] m (RunCommands rest here ∷ LaterRound name qs rest here ∷ ts) u name a deeper (doing (task.StoreAny name ∷ RunCommands rest here ∷ LaterRound name qs rest here ∷ ts) j) d refl)
         way a deeper other false = done (Safe routines p.scope w b m) (doing (Parameters name qs rest here ∷ ts) j) (other (doing (Parameters name qs rest here ∷ ts) j) d refl)
 
-    -- what a first value and its round ask
+    -- what a first value and its round require
     firsts : (t : Tree) → AreOurs p.scope (in_tree t) → (s : State) → Leads (λ v. again (value p t v)) s Some_state Some_case Some_quit → (m : ℕ) → m ≤ n → (K : Task) → is_round K ≡ true → round_of K ≡ Some rest
         → ((u : State) → Among u ended → At m (K ∷ ts) u) → Out m → At m (task.Evaluate t ∷ task.StoreLast name ∷ RunCommands rest here ∷ K ∷ ts) s
     firsts t ours s l m le K is runs go out =
@@ -162,7 +162,7 @@ module _ (routines : List RoutineTree) (p : Spot) (w : World) (b : Level) (world
         store_last routines p.scope w b world [] m (RunCommands rest here ∷ K ∷ ts) u name a.0
         (enter m le K is runs go out (changed_state (Only name ∷ []) u) a.1) j v more d e tasks)
 
-    -- where a round ended, the variable may change and another one begins
+    -- where a round ended, the variable may change and another round begins
     from_ended : (v : Walk) → IsClean v → IsClean (again (after_round ended v)) → (u : State) → Among u ended → Leads again u Some_state Some_case Some_quit
     from_ended v clean h u i =
         let ends = again_keeps.back (after_round ended v) h in

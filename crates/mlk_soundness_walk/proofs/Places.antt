@@ -22,7 +22,7 @@ use Rattle.mlk_soundness_walk.specs.Commands.{AreOnLine}
 use Rattle.mlk_soundness_walk.proofs.Alone.{alone_part}
 use Rattle.mlk_syntax.specs.ExprTrees.{Tree}
 
--- what stands in these lines stands in those; so does what stands in the block of the first, or behind it
+-- all lines in the first are in the second; and so are those in the block of the first line, or after it
 abbrev pub AreWithin : LineTrees → LineTrees → Type 0
 AreWithin lines all = (some : LineTrees) → StandIn some lines → StandIn some all
 
@@ -35,7 +35,7 @@ lines_below head block rest all h = λ some i. h some (inr (inl i))
 pub first_in : (head : HeadTree) (block rest all : LineTrees) → AreWithin (line head block rest) all → StandIn (line head block rest) all
 first_in head block rest all h = h (line head block rest) (inl refl)
 
--- all commands of a line are the last of it; and so are those behind such ones
+-- all commands of a line are its last; and so are those after such ones
 pub all_last : (cs : CommandTrees) → AreLastOf cs cs
 all_last finished = refl
 all_last (then_command c rest) = inl refl
@@ -48,7 +48,7 @@ behind_last last rest (then_command c more) i j =
 behind_last last rest (then_for column index control more) i j =
     ⊎_elim (λ (e : last ≡ then_for column index control more). subst (λ z. AreLastOf rest z) e i) (λ (k : AreLastOf last more). inr (behind_last last rest more i k)) j
 
--- so many commands and one more
+-- these commands and one more
 one_further : (done : List CommandTree) (c : CommandTree) (rest : CommandTrees) → followed done (then_command c rest) ≡ followed (done ++ c ∷ []) rest
 one_further [] c rest = refl
 one_further (d ∷ done) c rest = ap (then_command d) (one_further done c rest)
@@ -58,7 +58,7 @@ walk_both : (p : Spot) (done : List CommandTree) (cs : CommandTrees) (v : Walk) 
 walk_both p [] cs v = refl
 walk_both p (d ∷ done) cs v = walk_both p done cs (one_command p v d)
 
--- commands that are followed by others are more than those
+-- commands followed by others are more than those others
 abbrev count_commands : CommandTrees → ℕ
 count_commands finished = 0
 count_commands (then_command c rest) = suc (count_commands rest)
@@ -72,12 +72,12 @@ none_done : (done : List CommandTree) (cs : CommandTrees) → cs ≡ followed do
 none_done [] cs e = refl
 none_done (d ∷ done) cs e = let z = no_fewer done cs in let y = ap count_commands e in absurd (omega (arith, z, y))
 
--- in a round a job goes on to the lines to which it goes on behind it
+-- in a round, a job continues with the same lines as after it
 round_lines : (K : Task) (rest : CommandTrees) (ts : List Task) → round_of K ≡ Some rest → next_lines (K ∷ ts) ≡ next_lines ts
 round_lines (RunLines lines) rest ts h = absurd (cc h)
 round_lines K rest ts h = refl
 
--- A state comes of a walk of a line where these commands are left, with these tasks behind them.
+-- A state results from a walk of a line where these commands are left, with these tasks behind them.
 pub record Opens (w : World) (p : Spot) (here : LineTree) (cs : CommandTrees) (ts : List Task) (s : State) : Type 0 where
   pub place : AreOnLine w p here cs ts
   pub first : CommandTrees
@@ -155,7 +155,7 @@ module _ (w : World) (p : Spot) where
         goes_on = subst (λ (z : Walk). Among u z.going) (sym same) (part.going u i);
       }
 
-  -- what is said of it
+  -- the line and its commands
   module _ (here : LineTree) (cs : CommandTrees) (ts : List Task) (s : State) (o : Opens w p here cs ts s) where
     its_line : p.line ≡ line_number here.0
     its_line = ap (λ (q : Spot). q.line) o.place.spot
@@ -178,7 +178,7 @@ module _ (w : World) (p : Spot) where
           o.goes_on);
     }
 
-    -- where a round runs just these commands, none is done
+    -- if a round runs just these commands, none of them is done
     only_case : o.first ≡ cs → s.case ≡ o.case
     only_case e =
         let none : o.done ≡ [] = none_done o.done cs (sym e ∙ o.stands) in
@@ -200,7 +200,7 @@ module _ (w : World) (p : Spot) where
         })
         o.begins
 
-  -- after so many arguments of a command
+  -- after `count` arguments of a command
   pub comes_after : (here : LineTree) (column : ℕ) (condition : Option Tree) (action : ActionTree) (rest : CommandTrees) (ts : List Task) (s : State) → Opens w p here (then_command (Does column condition action) rest) ts s → s ≡ at_rest s.case
       → (begun : State) → holds_to (at_word p column) condition s begun → (count : ℕ) (u : State) → acts_to (at_word p column) action count begun u → u ≡ at_rest u.case
       → ComesAfter p.scope (own_lines p.scope w) action count rest here ts u.case

@@ -1,4 +1,4 @@
--- What a job holds once names are claimed, given back, or all released; and that what it claims next is in order.
+-- What a job holds after names were claimed or released, or all were; and that its next claim is in order.
 use Rattle.std.proofs.Common.{◌≡◌, ℕ, ◌+◌, Bool, true, false, List, [], ◌∷◌, Option, Some, None, refl, sym, ap, ◌∙◌, subst, arith, ⊎_elim}
 use Rattle.std.specs.Prelude.{◌⊎◌, if◌then◌else◌}
 use Rattle.mlk_text.specs.declared.code.Code.{Code}
@@ -37,7 +37,7 @@ use Rattle.mlk_soundness_machine.proofs.Terms.{times_put_all, mentions_put_all, 
 use Rattle.mlk_soundness_machine.proofs.Worlds.{guarded_map, waiting_kept}
 use Rattle.mlk_soundness_walk.proofs.LockNames.{NameThem, names_defined, raised_times, lowered_times}
 
--- terms stand for these names, and what they mention is nobody else's
+-- terms denote these names, and what they mention is nobody else's
 pub record AreNamed (a : Assignment) (bindings : Bindings) (terms : List LockTerm) (names : List LockName) : Type 0 where
   pub named : NameThem a terms names
   pub sole : (x : List ℕ) → mentions x terms ≡ true → is_lent bindings (look bindings x) ≡ false
@@ -55,7 +55,7 @@ module _ (sc : Scope) (w : World) (b : Level) (slots : List Slot) (s : State) (j
     values = d.values;
   }
 
-  -- names that are given back
+  -- released names
   pub less_law : (terms : List LockTerm) (names : List LockName) → NameThem (now j) terms names → (left : List LockTerm) → all_taken terms s.case.held ≡ Some left
       → Describes sc w b slots (holding left s) (idle (record j { held = all_lowered names j.held }))
   less_law terms names named left e =
@@ -70,7 +70,7 @@ module _ (sc : Scope) (w : World) (b : Level) (slots : List Slot) (s : State) (j
         values = d.values;
       }
 
-  -- all is released, where waiting frames hold nothing
+  -- all are released, if waiting frames hold nothing
   pub none_law : IsWorld sc w → sc.summary.drops ≡ true → Describes sc w b slots (holding [] s) (idle (record j { held = [] }))
   none_law world drops = record {
     stands =
@@ -106,7 +106,7 @@ module _ (sc : Scope) (w : World) (b : Level) (slots : List Slot) (s : State) (j
         both None f g = (f, g)
         both (Some code) f g = let z : Some (index, code) ≡ None = g in absurd (cc z)
 
--- what a job keeps to where it claims next: a timed claim is not awaited
+-- the invariants of a job before a claim: a timed claim is not awaited
 claiming : (rules : RuleLists) (j : Job) (names : List LockName) (timed : Bool) (ts : List Task) → j.tasks ≡ task.Claim names timed ∷ ts
     → (timed ≡ false → (n : LockName) → Among n names → IsOwn (seen j) n ⊎ IsAboveAll rules.families (seen j) n) → Facts rules j
 claiming rules j names timed ts e h = record {

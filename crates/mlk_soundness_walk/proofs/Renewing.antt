@@ -1,4 +1,4 @@
--- NEW: names that are made new are own from then on, at the level of the line.
+-- NEW: names that it creates are own from then on, at the level of the line.
 use Rattle.std.proofs.Common.{◌≡◌, ◌≤◌, ℕ, suc, Bool, true, false, List, [], ◌∷◌, ◌++◌, map, reverse, filter, Ok, Err, refl, sym, ap, ◌∙◌, subst, ⊎_elim, inl, arith}
 use Rattle.std.specs.Prelude.{◌||◌, ◌&&◌, ◌==◌, not, if◌then◌else◌, flat_map}
 use Rattle.std.specs.List.{list_any}
@@ -51,7 +51,7 @@ use Rattle.mlk_soundness_walk.proofs.Turns.{turns_fit}
 use Rattle.mlk_soundness_machine.specs.Places.{acts_to, arguments_from}
 use Rattle.mlk_soundness_machine.specs.Safe.{KeepsIn}
 
--- own names with one more item have exactly what they had, and the item: what is left out of them is the item itself
+-- adding an item to the own names adds exactly its names: the only item that is left out is that item itself
 module _ (test : Own → Bool) where
   kept_any : (keep : Own → Bool) (p : Own) (os : List Own) → list_any test (filter keep (p ∷ os)) ≡ ((keep p && test p) || list_any test (filter keep os))
   kept_any keep p os = ⊎_elim (λ (u : keep p ≡ true). rw u refl) (λ (u : keep p ≡ false). rw u refl) (cases_Bool (keep p))
@@ -83,7 +83,7 @@ module _ (test : Own → Bool) where
       on true e = rw e (or_right (list_any test (filter (is_before o) os)) true refl)
       on false e = rw e (others_have o e os)
 
--- and each is as they all were
+-- and each has the property of all
 module _ (Is : Own → Type 0) where
   each_append : (xs ys : List Own) → Each Is xs → Each Is ys → Each Is (xs ++ ys)
   each_append [] ys h k = k
@@ -97,7 +97,7 @@ module _ (Is : Own → Type 0) where
   pub put_own_each : (o : Own) (os : List Own) → Is o → Each Is os → Each Is (put_own o os)
   put_own_each o os h k = each_append (filter (is_before o) os) (o ∷ filter (own_below o) os) (each_filter (is_before o) os k) (h, each_filter (own_below o) os k)
 
--- names as the machine has them, and as the walk has
+-- names of the machine, and of the walk
 has_one : (names : NameSet) (x : List ℕ) → has names x ≡ have (names ∷ []) x
 unfolding have
 has_one names x = sym (or-false (has names x))
@@ -106,7 +106,7 @@ all_but_has : (names : List (List ℕ)) (x : List ℕ) → covers (bound.AllBut 
 unfolding is_among
 all_but_has names x = ap not (sym (in_order_same names x))
 
--- names that are made new where no held term mentions them
+-- names that are made new, none of which a held term mentions
 renewed_goes : (p : Spot) (G : State → Type 0) (S : Case → Type 0) (Q : Quit → Type 0) (column : ℕ) (names : NameSet) (s : State) → ((o : Outcome) → Among o (renew p column names s) → Meets G S Q o)
     → (mention (names ∷ []) s.case.held ≡ false) × G (with_own (record { level = p.level; names = names }) (changed_state (names ∷ []) s))
 renewed_goes p G S Q column names s h = on (mention (names ∷ []) s.case.held) refl h
@@ -146,7 +146,7 @@ module _ (routines : List RoutineTree) (p : Spot) (w : World) (b : Level) (S : C
         ⊎_elim (λ (u : (p.level == l) ≡ true). absurd (other (sym ((Decides-eqb p.level l).0 u) ∙ level))) (λ (u : (p.level == l) ≡ false). u) (cases_Bool (p.level == l)) in
         at_level l x ∙ ap (λ z. (z && has names x) || own_at l s.case.own x) e
 
-    -- names are bound anew, and nothing is captured then
+    -- names are bound anew, and then nothing is captured
     renewed_law : (j : Job) → Describes p.scope w b [] s (idle j) → Describes p.scope w b [] after (idle (record j { bindings = Fresh j.next machine_names ∷ j.bindings; next = suc j.next }))
     renewed_law j d =
         let low = bottom (now j) (reverse s.captured) j.values w.values d.values in

@@ -1,4 +1,4 @@
--- What an empty report says: each certified entry has a clean verdict.
+-- What an empty report implies: each certified entry has a clean verdict.
 use Rattle.std.proofs.Common.{◌≡◌, refl, sym, ap, subst, ◌∙◌, ℕ, zero, suc, ◌+◌, List, [], ◌∷◌, ◌++◌, map, Option, Some, None, Bool, true, false, inl, inr, ⊎_elim, arith, is_some, eqb-true}
 use Rattle.std.specs.Prelude.{◌⊎◌, ◌==◌, position, flat_map, option_map, option_and_then, slice_get, if◌then◌else◌}
 use Rattle.std.specs.Ordering.{match_ordering}
@@ -63,7 +63,7 @@ put_none : (faults : List Fault) → put_faults faults [] ≡ [] → faults ≡ 
 put_none [] h = refl
 put_none (f ∷ faults) h = absurd (put_some f (put_faults faults []) h)
 
--- the place of the first that passes a test
+-- the index of the first element that passes a test
 one_place : (m n : ℕ) → Some m ≡ Some n → m ≡ n
 one_place m n h = cc h
 

@@ -36,7 +36,7 @@ use Rattle.mlk_soundness_walk.proofs.Ours.{first_of, rest_of, ours_right}
 use Rattle.mlk_soundness_walk.proofs.Parameters.{Some_case, Some_quit}
 use Rattle.mlk_soundness_walk.proofs.Rounds.{enters, again, forever_fits}
 
--- what is safe for so many steps is so for fewer
+-- what is safe for a number of steps is safe for fewer
 module _ (routines : List RoutineTree) (sc : Scope) (w : World) (b : Level) (j : Job) where
   less_by : (d n m : ℕ) → m ≡ d + n → Safe routines sc w b m j → Safe routines sc w b n j
   less_by zero n m e h = let z : m ≡ n = omega (arith, e) in subst (λ k. Safe routines sc w b k j) z h

@@ -31,7 +31,7 @@ use Rattle.mlk_soundness_machine.specs.Places.{alone}
 use Rattle.mlk_soundness_walk.proofs.Alone.{Leads}
 use Rattle.mlk_soundness_walk.proofs.Lines.{listed_for, less_law}
 
--- the rounds of a FOR: all that is listed for them walks well, and comes to what the loop goes on with
+-- the rounds of a FOR: the walk from all that is listed for them is clean, and leads to the states with which the loop continues
 pub record RoundsLead (p : Spot) (index : ℕ) (rest : CommandTrees) : Type 0 where
   pub cases : List Case
   pub are : cases ≡ listed p.scope p.line index
@@ -94,7 +94,7 @@ module _ (p : Spot) (column index : ℕ) (rest : CommandTrees) (once : ListsEach
         };
   }
 
-  -- a row that only asks whether a case is listed
+  -- a row that only checks whether a case is listed
   is_begun : (w : Walk) → IsClean (each (begin_round (at_word p column) cs) w) → (u : State) → Among u w.going → is_listed cs u.case ≡ true
   is_begun w h u i =
       let row = begin_round (at_word p column) cs in
@@ -133,7 +133,7 @@ module _ (routines : List RoutineTree) (w : World) (b : Level) (p : Spot) (rest 
       (round : (m : ℕ) → m ≤ n → (c : Case) → Among c cs → ((u : State) → Among u ended → At m (Forever rest here ∷ ts) u) → ((d : Case) → Among (at_rest d) ended → At m (Forever rest here ∷ ts) (at_rest d))
       → ((q : Quit) → Among (at_rest q.case) quits → At m ts (at_rest q.case)) → At m (RunCommands rest here ∷ Forever rest here ∷ ts) (at_rest c))
       (again : (u : State) → Among u ended → is_listed cs u.case ≡ true) where
-    -- each number of steps on
+    -- for each further number of steps
     pub forever_fits : (m : ℕ) → m ≤ n → ((u : State) → Among u quits → At m ts u) → (u : State) → is_listed cs u.case ≡ true → At m (Forever rest here ∷ ts) u
     forever_fits zero le out u h j d e = plain_facts p.scope w b j (Forever rest here) ts e refl
     forever_fits (suc m) le out u h j d e =

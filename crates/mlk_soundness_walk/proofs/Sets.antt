@@ -34,7 +34,7 @@ use Rattle.mlk_soundness_walk.proofs.Ours.{ours_left, ours_right}
 use Rattle.mlk_soundness_walk.proofs.Alone.{Leads}
 use Rattle.mlk_soundness_walk.proofs.Alone.{leads_both, leads_stay}
 
--- both name a variable's subscripts
+-- both list a variable's subscripts
 pub subs_same : (v : VariableTree) → subs_of (name_in v) ≡ subs_in v
 subs_same (Named column (LocalName name subs)) = refl
 subs_same (Named column (GlobalName caret name subs)) = refl
@@ -49,7 +49,7 @@ subs_same (Named column (Selected cs)) = refl
 subs_same (Named column (BareCall c callee)) = refl
 subs_same (Named column (CallOf c callee given)) = refl
 
--- what is on the stack once targets were evaluated
+-- what is on the stack after targets were evaluated
 abbrev pub target_slots : TargetTree → List Slot → List Slot
 target_slots (SetWhole v) slots = kepts (made.count_in v) slots
 target_slots (SetPart part v args) slots = bares (length args) (kepts (made.count_in v) slots)
@@ -63,7 +63,7 @@ abbrev pub subs_values : List TargetTree → List (List ℕ) → List (List ℕ)
 subs_values [] needs = []
 subs_values (t ∷ targets) needs = take (subs_of_target t) needs ++ subs_values targets (drop (parts_in t) needs)
 
--- what targets need: symbols of subscripts, oldest first, beside their values
+-- what targets need: symbols of subscripts, oldest first, with their values
 pub record AllTaken (a : Assignment) (targets : List TargetTree) (slots : List Slot) (ss : List Sym) (values below : List (List ℕ)) : Type 0 where
   pub front : List Sym
   pub needs : List (List ℕ)

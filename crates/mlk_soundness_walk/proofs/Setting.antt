@@ -1,4 +1,4 @@
--- SET as a whole: targets, value, assignments; what was captured is forgotten.
+-- SET as a whole: targets, value, assignments; then what was captured is dropped.
 use Rattle.std.proofs.Common.{◌≡◌, ℕ, zero, suc, ◌+◌, ◌-◌, true, List, [], ◌∷◌, ◌++◌, length, take, drop, reverse, None, refl, sym, ap, ◌∙◌, subst, arith, append_assoc, length-append}
 use Rattle.std.specs.Prelude.{flat_map}
 use Rattle.std.specs.List.{AllZip}
@@ -45,7 +45,7 @@ zip_size a [] (y ∷ ys) h = absurd h
 zip_size a (x ∷ xs) [] h = absurd h
 zip_size a (x ∷ xs) (y ∷ ys) h = ap suc (zip_size a xs ys h.1)
 
--- the walk forgets as many symbols as the targets have subscripts
+-- the walk drops as many symbols as the targets have subscripts
 count_is_size : (n : ℕ) (targets : List TargetTree) (needs : List (List ℕ)) → length needs ≡ count_parts targets → count_from n targets ≡ n + length (subs_values targets needs)
 count_is_size n [] needs e = omega arith
 count_is_size n (t ∷ targets) needs e =
@@ -64,7 +64,7 @@ drop_one zero [] = refl
 drop_one (suc n) [] = refl
 drop_one n (x ∷ xs) = refl
 
--- nothing is captured below what is taken
+-- nothing is captured below what is used
 pub bottom : (a : Assignment) (ss : List Sym) (values below : List (List ℕ)) → Fills a [] ss values below → (ss ≡ []) × (values ≡ below)
 bottom a [] values below f = (refl, f)
 bottom a (s ∷ ss) values below f = absurd f
@@ -76,7 +76,7 @@ module _ (sc : Scope) (w : World) (b : Level) (targets : List TargetTree) (u : S
   pub needs_are : last_values (count_parts targets) j ≡ needed.needs
   needs_are = taken_are j.values needed.needs needed.more (count_parts targets) needed.are needed.many
 
-  -- the values are taken, the symbols stay
+  -- the values are used, the symbols stay
   pub spent_law : Describes sc w b (spents (subs_values targets needed.needs) []) u (idle (dropped (count_parts targets) j))
   spent_law =
       let low = bottom (now j) needed.syms needed.more w.values needed.fills in
@@ -91,7 +91,7 @@ module _ (sc : Scope) (w : World) (b : Level) (targets : List TargetTree) (u : S
             (subst (λ z. Fills (now j) (spents (subs_values targets needed.needs) []) z w.values w.values) (sym g) f);
       }
 
--- all is forgotten
+-- all symbols are dropped
 pub forgotten : (sc : Scope) (w : World) (b : Level) (vals : List (List ℕ)) (n : ℕ) → length vals ≡ n → (u : State) (j : Job) → Describes sc w b (spents vals []) u j → Describes sc w b [] (without_last n u) j
 forgotten sc w b vals n e u j d =
     let z = zip_size (now j) u.captured vals (captured_stand sc w b vals u j d) in
@@ -111,7 +111,7 @@ module _ (routines : List RoutineTree) (p : Spot) (w : World) (b : Level) (world
   abbrev Fit : List Slot → ℕ → List Task → State → Type 0
   Fit = Fits routines p.scope w b
 
-  -- the targets' values are at hand, and the value
+  -- the targets' values and the value are on the stack
   assign_fits : (targets : List TargetTree) (ts : List Task) (u : State) (A : State → Type 0) → Leads (λ v. forget (count_targets targets) (assign_all p 0 targets v)) u A S Q
       → ((x : State) → A x → Fit [] n ts x) → (x : List ℕ) (j : Job) (d : Describes p.scope w b (all_slots targets []) u (idle j)) → j.tasks ≡ assignments x (last_values (count_parts targets) j) targets ++ ts
       → Safe routines p.scope w b n (dropped (count_parts targets) j)
@@ -125,7 +125,7 @@ module _ (routines : List RoutineTree) (p : Spot) (w : World) (b : Level) (world
       (forgotten p.scope w b (subs_values targets r.needs) (count_targets targets) size y (idle i) given) at)
       (dropped (count_parts targets) j) (spent_law p.scope w b targets u (idle j) d) (tasks ∙ ap (λ q. assignments x q targets ++ ts) (needs_are p.scope w b targets u (idle j) d))
 
-  -- the value and what the targets need are taken
+  -- the value and what the targets need are used
   assign_step : (targets : List TargetTree) (ts : List Task) (u : State) (A : State → Type 0) → Leads (λ v. forget (count_targets targets) (assign_all p 0 targets v)) u A S Q
       → ((x : State) → A x → Fit [] n ts x) → (j : Job) → Describes p.scope w b (Bare None ∷ all_slots targets []) u (idle j) → (v : List ℕ) (more : List (List ℕ)) → j.values ≡ v ∷ more → j.tasks ≡ task.Assign targets ∷ ts
       → Safe routines p.scope w b n j

@@ -1,4 +1,4 @@
--- A job that begins at a declared entry: the entry's lines are safe, from its begin to its end, where it holds nothing.
+-- A job that begins at a declared entry: the entry's lines are safe, from its begin to its end, with no lock held at the begin.
 use Rattle.std.proofs.Common.{◌≡◌, ℕ, Bool, true, false, ◌+◌, List, [], ◌∷◌, ◌++◌, drop, reverse, Some, Ok, Err, refl, sym, ◌∙◌, subst, arith, ⊎_elim, inl, inr, Option, None}
 use Rattle.std.specs.Prelude.{◌&&◌, if◌then◌else◌, nat_lt, length}
 use Rattle.std.specs.List.{list_any}
@@ -47,7 +47,7 @@ use Rattle.mlk_soundness_walk.specs.Entries.{first_level, scope, EndsFit, EntryF
 use Rattle.mlk_soundness_walk.proofs.Entries.{own_formals, at_formals, at_others, low_formals, in_order_same, none_local, leaves_same}
 use Rattle.mlk_soundness_walk.proofs.Reported.{clean_entry, certified_entry}
 
--- values alone pass no name
+-- values pass no name
 none_passed : (formals : List (List ℕ)) (values : List (Option (List ℕ))) (n : List ℕ) → passes formals (by_value values) n ≡ false
 none_passed [] values n = refl
 none_passed (f ∷ formals) [] n = none_passed formals [] n
@@ -87,7 +87,7 @@ module _ (routines : List RoutineTree) (rules : RuleLists) (blocks : List EntryC
         let none : list_any leaves_some blk.summary.exits ≡ false = no_fault (has_entry (known routines rules blocks).1 e) (list_any leaves_some blk.summary.exits) _ is (clean_entry routines rules blocks clean e blk at).exits in
         none_held x.held (none_any leaves_some blk.summary.exits x none i)
 
-    -- the first frame, in a world where nothing waits
+    -- the first frame, in a world without waiting frames
     module _ (head : HeadTree) (body : LineTrees) (lines : List LineTree) (heads : lines_after routines e ≡ (head, body) ∷ lines) (distinct : AreDistinct (formals_in head)) (k : ℕ) (test : Bool) (values : List (Option (List ℕ))) where
       abbrev given : List ActualTree
       given = by_value values
@@ -221,7 +221,7 @@ module _ (routines : List RoutineTree) (rules : RuleLists) (blocks : List EntryC
             let z : first e blk at is head body lines heads (distinct e head body lines heads) k test values ≡ j = (let y : Ok (first e blk at is head body lines heads (distinct e head body lines heads) k test values) ≡ Ok j = f in cc) in
             subst (λ i. SafeFor routines (FactsSince routines rules (known routines rules blocks)) n (i ∷ []) i) z (first_safe e blk at is head body lines heads (distinct e head body lines heads) k test values each n)
 
-    -- so at each moment of each run of its own
+    -- so it is safe at each moment of each run of its own
     pub each_moment : AtEachMomentSince routines (is_declared routines rules.entries) (FactsSince routines rules (known routines rules blocks))
     each_moment e test values k first j acts h run =
         moments routines (is_declared routines rules.entries) (FactsSince routines rules (known routines rules blocks)) (stopped_facts routines rules (known routines rules blocks)) acts (first ∷ []) first j (begins_safe e test values k first h (length acts)) run

@@ -17,7 +17,7 @@ use Rattle.mlk_soundness_machine.specs.Described.{is_local}
 use Rattle.mlk_soundness_machine.proofs.Known.{IsTruth}
 use Rattle.mlk_soundness_machine.proofs.Reading.{differs, name_is}
 
--- no operator makes a local
+-- no operator yields a local
 constant_not : (x : List ℕ) (o : Option (List ℕ)) → is_local x (constant_if o) ≡ false
 constant_not x None = refl
 constant_not x (Some v) = refl
@@ -89,7 +89,7 @@ with_subs shared name column t rest = by (shared name)
     by true = refl
     by false = refl
 
--- the truth that a condition has may be the one that the walk knows
+-- the truth of a condition may be the one that the walk knows
 pub truth_agrees : (o : Option Bool) (v : List ℕ) → IsTruth o v → (x : Bool) → ((t : Bool) → truth_of_text v ≡ Some t → x ≡ t) → agrees x o ≡ true
 truth_agrees None v h true same = refl
 truth_agrees None v h false same = refl

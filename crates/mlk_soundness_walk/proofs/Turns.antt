@@ -53,7 +53,7 @@ module _ (routines : List RoutineTree) (p : Spot) (w : World) (b : Level) (S : C
       step routines p.scope w b n j (task.NextArgument a count) ts e refl (keeps j d e) (λ free c.
       unasked (Safe routines p.scope w b n) c _ (done (Safe routines p.scope w b n) (doing ts j) (k (doing ts j) d refl)))
 
-  -- where an argument leads, too many are not asked for in vain
+  -- if an argument and the check for too many states lead on, the argument leads to states from which the check does
   pub leads_turn : {X : Type 0} (row : Spot → X → Walk → Walk) (keeps : (x : X) → Keeps (row p x)) (x : X) (s : State) (B : State → Type 0) → Leads (λ v. few p.line p.word (row p x v)) s B S Q
       → Leads (row p x) s (λ u. Leads (few p.line p.word) u B S Q × Among u (turn row p (alone s) x).going) S Q
   leads_turn row keeps x s B l =
@@ -77,7 +77,7 @@ module _ (routines : List RoutineTree) (p : Spot) (w : World) (b : Level) (S : C
   one_dropped (y ∷ all) zero x xs h = let z : y ∷ all ≡ x ∷ xs = h in cc
   one_dropped (y ∷ all) (suc k) x xs h = one_dropped all k x xs h
 
-  -- arguments, each a command of its own: from so many on, of all those of the action
+  -- arguments, each as a command of its own: from the first `k` on, of all those of the action
   module _ {X : Type 0} (row : Spot → X → Walk → Walk) (keeps : (x : X) → Keeps (row p x)) (parts : X → List Task) (calls : X → List CallTree) (ts : List Task)
       (one : (x : X) → AreOurs p.scope (calls x) → (more : List Task) (s : State) (A : State → Type 0) → Leads (row p x) s A S Q → ((u : State) → A u → Fit [] n more u) → Fit [] n (parts x ++ more) s)
       (a : ActionTree) (all : List X) (first : State)
@@ -114,7 +114,7 @@ module _ (routines : List RoutineTree) (p : Spot) (w : World) (b : Level) (S : C
     optional_fits None ours slots ts s A l k = k s (leads_stay A S Q s l)
     optional_fits (Some t) ours slots ts s A l k = evaluated_fits t ours slots ts s A l k
 
-    -- a condition, and a task that uses its truth: what is done where it may be true, and where it may be false
+    -- a condition, and a task that uses its truth: the tasks if it may be true, and those if it may be false
     module _ (t : Tree) (run other : Walk → Walk) (one : Keeps run) (two : Keeps other) (slots : List Slot) (T : Task) (plain : is_plain T ≡ true) (ts : List Task) (f : Bool → Job → Stepped)
         (reduces : (free : LockName → Bool) (c : Choice) (i : Job) → advance routines free c i (T ∷ ts) ≡ by_truth c i f) (A : State → Type 0)
         (P : ℕ → Job → Type 0) (close : (m : ℕ) (free : LockName → Bool) (c : Choice) (i : Job) (x : Stepped) → x ≡ advance routines free c i (T ∷ ts) → Comes (P m) x → Comes (Next routines p.scope w b (T ∷ ts) m) x)

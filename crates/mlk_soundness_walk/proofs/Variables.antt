@@ -49,7 +49,7 @@ or_none : (b : Bool) → b ≡ (b || false)
 or_none true = refl
 or_none false = refl
 
--- names as the machine has them, and as the walk has
+-- names of the machine, and of the walk
 only_same : (name x : List ℕ) → covers (bound.Only name) x ≡ have (those.Only name ∷ []) x
 unfolding have
 only_same name x = or_none (bytes_eq name x)
@@ -58,7 +58,7 @@ pub all_but_same : (names : List (List ℕ)) (x : List ℕ) → covers (bound.Al
 unfolding have is_among
 all_but_same names x = ap not (sym (in_order_same names x)) ∙ or_none (not (is_among (in_order names) x))
 
--- HALT is refused where something is held, and where the summary does not say that all may be released
+-- HALT is refused if something is held, and if the summary does not list that all may be released
 halts : (p : Spot) (A : State → Type 0) (S : Case → Type 0) (Q : Quit → Type 0) (s : State) → ((o : Outcome) → Among o (halt_row p s) → Meets A S Q o) → (holds_some s.case.held ≡ false) × (p.scope.summary.drops ≡ true)
 halts p A S Q s h = by (holds_some s.case.held) p.scope.summary.drops refl refl h
   where

@@ -1,5 +1,5 @@
--- What the form of a program and of a certificate says of calls and of listed cases: formals of one line differ, what a call
--- passes by reference is shared, and no case is listed twice at a place.
+-- What the form of a program and of a certificate implies for calls and for listed cases: formals of one line differ, what a call
+-- passes by reference is shared, and no case is listed twice at a point.
 use Rattle.std.proofs.Common.{◌≡◌, ℕ, zero, suc, Bool, true, false, List, [], ◌∷◌, map, drop, Option, Some, None, refl, sym, ap, ◌∙◌, subst, arith, ⊎_elim}
 use Rattle.std.specs.Prelude.{◌⊎◌, Contains, bytes_eq, find, flat_map, zip, slice_get, option_map, option_and_then}
 use Rattle.std.proofs.lemmas.Bool.{cases_Bool, or_cases}
@@ -34,7 +34,7 @@ use Rattle.mlk_soundness_walk.specs.Ours.{IsOurs}
 use Rattle.mlk_soundness_walk.proofs.Entries.{IsWell, first_line}
 use Rattle.mlk_soundness_walk.proofs.Formed.{contains_get}
 
--- what is found, what is left of a list, and a list made of lists
+-- what is found, what is left of a list, and a list joined from lists
 found_in : {A : Type 0} (is : A → Bool) (xs : List A) (a : A) → find is xs ≡ Some a → Contains xs a
 found_in is [] a h = absurd (cc h)
 found_in is (x ∷ xs) a h =
@@ -48,7 +48,7 @@ left_in zero xs a i = i
 left_in (suc n) [] a i = i
 left_in (suc n) (x ∷ xs) a i = let r = left_in n xs a i in (suc r.0, omega (arith, r.1), r.2)
 
--- no case is listed twice at a place
+-- no case is listed twice at a point
 once_at : (number round : ℕ) (points : List Point) → ((p : Point) → Contains points p → StatesDiffer (map at_rest p.cases)) → StatesDiffer (map at_rest (listed_at points number round))
 once_at number round points h = on (find (is_at number round) points) refl
   where
@@ -121,7 +121,7 @@ lent_names : (fs : List (List ℕ)) (written : Option (List ActualTree)) (n : Li
 lent_names fs None n h = differs (passes fs [] n) h (none_passed fs n)
 lent_names fs (Some given) n h = lent fs given n h
 
--- which names are shared in frames of two entries, of which the one may call the other
+-- which names are shared in frames of two entries, one of which may call the other
 pub frames_share : (routines : List RoutineTree) (caller callee : EntryId) → SharesByOwn (shared_in_frame routines caller) (shared_in_frame routines callee)
 frames_share routines caller callee = record {
   by_own = (shares_by_own routines).by_own caller;

@@ -17,7 +17,7 @@ pub record IsCleanEntry (routines : List RoutineTree) (rules : RuleLists) (block
   pub exits : exit_faults (scope_with routines rules (known routines rules blocks) e b) (entry_number (line_of_entry routines e)) ≡ []
   pub lines : (entry_walk routines e (scope_with routines rules (known routines rules blocks) e b)).faults ≡ []
 
--- Where a report has no row, nothing is wrong with any certified entry.
+-- If a report has no row, nothing is wrong with any certified entry.
 abbrev pub CleanEntries : Type 0
 CleanEntries =
     (routines : List RoutineTree) (rules : RuleLists) (blocks : List EntryCert) → report routines rules blocks ≡ []

@@ -1,5 +1,5 @@
--- That commands are safe for so many steps, where the walk finds nothing wrong with them. This project's own choice; the
--- laws of this crate speak of it.
+-- Commands are safe for a number of steps if the walk finds nothing wrong with them. This project's own choice; the laws of
+-- this crate use these definitions.
 use Rattle.std.specs.Prelude.{◌≡◌, ℕ, Bool, true, false, List, [], ◌∷◌, ◌++◌, Option, None}
 use Rattle.mlk_names.specs.Lists.{Among}
 use Rattle.mlk_syntax.specs.Trees.{RoutineTree, CommandTree, Does, ControlTree, CommandTrees, then_for}
@@ -21,7 +21,7 @@ use Rattle.mlk_soundness_machine.specs.Safe.{SafeIn, KeepsIn, Fit}
 use Rattle.mlk_soundness_walk.specs.Ours.{IsOf, AreOf}
 
 -- These commands are the last of this line, which is one of the world's entry or of a block below its lines, and the walk is of
--- that line; behind them stand these tasks.
+-- that line; these tasks follow them.
 pub record AreOnLine (w : World) (p : Spot) (here : LineTree) (cs : CommandTrees) (ts : List Task) : Type 0 where
   pub on : OnLine (entry_trees p.scope.routines w.entry) here ts
   pub spot : p ≡ spot_on p.scope here.0 here.1
@@ -32,25 +32,25 @@ module _ (routines : List RoutineTree) (w : World) (b : Level) where
   abbrev pub IsSafe : Spot → ℕ → List Task → State → Type 0
   IsSafe p n ts s = Fit routines p.scope w b [] n ts s
 
-  -- a QUIT gives a value, and the tasks from the end on are safe
+  -- after a QUIT with a value, the tasks from the end on are safe
   abbrev pub Gives : Scope → ℕ → List Task → State → Type 0
   Gives sc n us s = (j : Job) (v : List ℕ) (more : List (List ℕ)) → Describes sc w b (Bare None ∷ []) s (idle j) → j.values ≡ v ∷ more
       → SafeIn routines sc w b n (answered j us)
 
-  -- what a walk comes to is safe: where it goes on, with the tasks that follow; where it skips or quits, with what is left
+  -- each outcome of a walk is safe: where it continues, with the tasks that follow; where it skips or quits, with what is left
   pub record AreSafe (p : Spot) (may : Bool) (n : ℕ) (ts : List Task) (found : Walk) : Type 0 where
     pub going : (u : State) → Among u found.going → IsSafe p n ts u
     pub skips : (c : Case) → Among c found.skips → IsSafe p n (skipped ts) (at_rest c)
     pub quits : (q : Quit) → Among q found.quits → IsSafe p n (quit ts) (at_rest q.case)
     pub gives : may ≡ true → (q : Quit) → Among q found.quits → Gives p.scope n (to_end ts) (at_rest q.case)
 
-  -- after each argument of a command that is begun in this state, a job keeps to what is asked, whatever it has to do behind it
+  -- after each argument of a command that begins in this state, a job meets its invariants, whatever tasks follow
   abbrev pub KeepsBetween : Spot → CommandTree → List Task → State → Type 0
   KeepsBetween p (Does column condition action) ts s =
       (begun : State) → holds_to (at_word p column) condition s begun → (count : ℕ) (u : State) → acts_to (at_word p column) action count begun u
       → (j : Job) → Describes p.scope w b [] u (idle j) → j.tasks ≡ NextArgument action count ∷ (arguments_from action count ++ ts) → KeepsIn p.scope w b j
 
-  -- a command, and a FOR with the rest of its line, where the walk finds nothing wrong and what it comes to is safe
+  -- a command, and a FOR with the rest of its line, are safe if the walk finds nothing wrong with them and its outcomes are safe
   pub record CommandsAreSafe (p : Spot) (here : LineTree) (n : ℕ) : Type 0 where
     pub one : (may : Bool) (c : CommandTree) → IsOf p.scope may c → (ts : List Task) (s : State) → KeepsBetween p c ts s
         → IsClean (one_command p (alone s) c) → AreSafe p may n ts (one_command p (alone s) c) → IsSafe p n (command_parts here.1 c ++ ts) s

@@ -1,5 +1,5 @@
--- The lines of a certified entry: that they are safe for so many steps, if its ends are. This project's own choice; the laws
--- of this crate speak of it.
+-- The lines of a certified entry are safe for a number of steps if its ends are. This project's own choice; the laws of this
+-- crate use these definitions.
 use Rattle.std.specs.Prelude.{◌≡◌, ◌⊎◌, ℕ, Bool, true, false, List, [], ◌∷◌, Some, None}
 use Rattle.mlk_names.specs.Lists.{Among}
 use Rattle.mlk_rules.specs.declared.rules.RuleLists.{RuleLists}
@@ -22,7 +22,8 @@ use Rattle.mlk_soundness_machine.specs.Described.{World, Level, Slot, Bare, IsWo
 use Rattle.mlk_soundness_machine.specs.Safe.{SafeFor, SafeIn, KeepsTo}
 use Rattle.mlk_soundness_machine.specs.Marked.{Begun, AreMarked}
 
--- which frame's end a callee may come to, and with which values: QUIT with a value gives it to the frame of `$$`
+-- the form in which a frame may reach its end, and with which values: QUIT with a value hands it to the frame of an extrinsic
+-- call
 abbrev pub Ended : Frame → Frame → List Slot → Type 0
 Ended frame end slots = ((end ≡ frame) × (slots ≡ [])) ⊎ ((t : Bool) × (frame ≡ AwaitsValue t) × (end ≡ HasValue t) × (slots ≡ Bare None ∷ []))
 
@@ -43,7 +44,7 @@ module _ (routines : List RoutineTree) (rules : RuleLists) (entries : List (Entr
       → (slots : List Slot) (end : Frame) → Ended frame end slots
       → (i : Job) → Describes sc w (first_level w) slots (at_rest c) (idle i) → i.tasks ≡ EndFrame end back next r ∷ ts → Safely sc w m i
 
-  -- the lines of each certified entry are safe for so many steps, if its ends are
+  -- the lines of each certified entry are safe for `m` steps, if its ends are
   abbrev pub EntryFits : ℕ → Type 0
   EntryFits m =
       (e : EntryId) (blk : EntryCert) → block_at entries.0 e ≡ Some blk

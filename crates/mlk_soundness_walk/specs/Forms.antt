@@ -1,5 +1,5 @@
--- What the theorem on one job asks of trees and certificates. Each tree that a text has is so, and each certificate. This
--- project's own choice.
+-- What the theorem on one job requires of trees and certificates. Each tree that a text has meets it, and so does each
+-- certificate. This project's own choice.
 use Rattle.std.specs.Prelude.{List, Contains, map}
 use Rattle.mlk_syntax.specs.Trees.{RoutineTree}
 use Rattle.mlk_cert_parts.specs.declared.block.EntryCert.{EntryCert}

@@ -20,7 +20,7 @@ use Rattle.mlk_soundness_walk.specs.Commands.{CommandsAreSafe}
 use Rattle.mlk_soundness_walk.specs.Entries.{scope, first_level, EntryFits}
 use Rattle.mlk_soundness_walk.specs.Ours.{AreLinesOf}
 
--- commands of each certified entry's lines are safe for so many steps
+-- commands of each certified entry's lines are safe for `n` steps
 abbrev pub AllCommands : List RoutineTree → RuleLists → List (EntryId × EntryCert) × List EntryId → ℕ → Type 0
 AllCommands routines rules entries n =
     (e : EntryId) (b : EntryCert) → block_at entries.0 e ≡ Some b → (w : World) → IsWorld (scope routines rules entries e b) w
@@ -31,8 +31,8 @@ AllCommands routines rules entries n =
     → ((lines : LineTrees) → StandIn lines block → StandIn lines (entry_trees routines w.entry))
     → CommandsAreSafe routines w (first_level w) p (head, block) n
 
--- Where a report has no row, the lines of each certified entry are safe for each number of steps, if the commands of its
--- lines are so wherever the lines of all entries are safe for each lesser number.
+-- If a report has no row, the lines of each certified entry are safe for each number of steps, provided that the commands of its
+-- lines are safe for each number of steps if the lines of all entries are safe for each lesser number.
 abbrev pub EntriesByCommands : Type 0
 EntriesByCommands =
     (routines : List RoutineTree) (rules : RuleLists) (blocks : List EntryCert) → report routines rules blocks ≡ []

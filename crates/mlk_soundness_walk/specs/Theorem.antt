@@ -11,13 +11,13 @@ use Rattle.mlk_soundness_machine.specs.Listed.{FactsSince}
 use Rattle.mlk_soundness_machine.specs.Moments.{AtEachMomentSince}
 use Rattle.mlk_soundness_walk.specs.Forms.{AreFormed, ListOnce}
 
--- What one job keeps to: what it touches next is covered, what it claims next is in order, it ends without a lock; where it goes
--- on to a line, and where a round of a FOR begins, a listed case describes it, as one does where a frame of it begins; and before
--- each command of a line one does that the walk makes of a listed case.
+-- The invariants of one job: the reference that it touches next is covered, its next claim is in order, and it ends without a
+-- lock; at the begin of a frame, at each line that it moves on to, and at each round of a FOR, a listed case describes it; and
+-- before each command and after each argument of a line, a case that the walk derives from a listed one does.
 abbrev pub Keeps : List RoutineTree → RuleLists → List EntryCert → List Job → Job → Type 0
 Keeps routines rules blocks = FactsSince routines rules (certified routines blocks, declared routines rules.entries)
 
--- Where the report is without faults, so does each job at each moment of each run of its own, begun at a declared entry.
+-- If the report is without faults, each job meets them at each moment of each run of its own that begins at a declared entry.
 abbrev pub OneJob : Type 0
 OneJob =
     (routines : List RoutineTree) (rules : RuleLists) (blocks : List EntryCert)

@@ -1,4 +1,4 @@
-//! What a report without faults says of each run of one job.
+//! What a report without faults says about each run of one job.
 #![tactic(auto)]
 
 mod law;

@@ -1,4 +1,4 @@
-// What is held where units are called.
+// The locks that are held when units are called.
 
 use crate::note::Note;
 use crate::solution::Queue;
@@ -9,11 +9,11 @@ use mlk_suggest_steps::{Call, CallKind, Program, Step, Unit, UnitId};
 use mlk_text::push_sparing;
 use std::alloc::{AllocError, Global};
 
-/// The most ways in which a unit is entered.
+/// The maximum number of ways in which a unit is entered.
 const MOST_ARRIVALS: usize = 32;
 
-/// A way in which a unit is entered: what is held, by the unit's own names, and the first call at which that is held; `None` if
-/// a job begins with the unit.
+/// A way in which a unit is entered: the held locks, in the unit's own names, and the first call at which these are held; `None`
+/// if a job begins with the unit.
 #[derive(Clone, Copy, Drop)]
 pub struct Arrival {
     pub holding: Holding,
@@ -44,7 +44,7 @@ impl Arrivals {
         }
     }
 
-    // Adds a way in which a unit is entered, unless it is there already or they are too many. Returns whether it was added.
+    // Adds a way in which a unit is entered, unless it is there already or there are too many. Returns whether it was added.
     fn add(&mut self, unit: UnitId, arrival: &Arrival) -> Result<bool, AllocError> {
         let Some(arrivals) = self.of_units.get_mut(unit.index()) else {
             return Ok(false);
@@ -61,7 +61,7 @@ impl Arrivals {
     }
 }
 
-// The locks of a caller by the names of its callee: each by the formals for which its subscripts are passed, and as it was.
+// The locks of a caller in the names of its callee: each with the formals to which its subscripts are passed, and unchanged.
 fn locks_in_callee(
     alloc: Global,
     tables: &mut Tables,
@@ -83,7 +83,7 @@ fn locks_in_callee(
     Ok(found)
 }
 
-// What is held in a callee, by its own names, if `holding` is held at a call of it.
+// The held locks in a callee, in its own names, if `holding` is held at a call of it.
 fn in_callee(
     alloc: Global,
     tables: &mut Tables,
@@ -105,13 +105,13 @@ fn in_callee(
 pub(crate) struct Tracer<'p, 'a> {
     pub(crate) alloc: Global,
     pub(crate) program: &'p Program<'a>,
-    /// for each unit the place of its first note, and the place after its last
+    /// for each unit, the index of its first note, and the index after its last
     ranges: Vec<(usize, usize)>,
     pub(crate) arrivals: Arrivals,
     queue: Queue,
 }
 
-// For each of `count` units the place of its first note, and the place after its last.
+// For each of `count` units, the index of its first note, and the index after its last.
 fn ranges_of(
     alloc: Global,
     notes: &[Note<'_, '_>],
@@ -154,7 +154,7 @@ impl<'p, 'a> Tracer<'p, 'a> {
         !self.arrivals.of(unit).is_empty()
     }
 
-    // The place of a unit's first note, and the place after its last.
+    // The index of a unit's first note, and the index after its last.
     fn range(&self, unit: UnitId) -> (usize, usize) {
         self.ranges.get(unit.index()).copied().unwrap_or((0, 0))
     }

@@ -11,11 +11,11 @@ use mlk_suggest_steps::{Claim, LockName, Program, Reference, Step, UnitId};
 use mlk_text::push_sparing;
 use std::alloc::{AllocError, Global};
 
-/// The most ways in which a place is reached.
+/// The maximum number of ways in which a place is reached.
 const MOST_MOMENTS: usize = 64;
 
-/// A way in which a place is reached: what is held there, and the first call by which its unit is entered so; `None` if a job
-/// begins with the unit.
+/// A way in which a place is reached: the held locks, and the first call by which its unit is entered in this way; `None` if a
+/// job begins with the unit.
 #[derive(Clone, Copy, Drop, PartialEq, Eq)]
 pub struct Moment {
     pub holding: Holding,
@@ -58,7 +58,7 @@ pub struct Evidence<'p> {
     pub releases: Vec<ReleaseAt>,
     /// what is known of each unit, in the order of the units
     pub units: Vec<UnitFacts>,
-    /// for each unit with which a JOB begins the first such JOB
+    /// for each unit with which a JOB begins, the first such JOB
     pub jobs: IndexMap<UnitId, Spot>,
 }
 
@@ -79,12 +79,12 @@ fn job_arrival(alloc: Global, tables: &mut Tables) -> Result<Arrival, AllocError
     })
 }
 
-// Whether a unit is an entry whatever the others do: JOB begins with it, or nobody calls it.
+// Whether a unit is an entry regardless of the others: JOB begins with it, or it is not called.
 fn is_plain_entry(program: &Program<'_>, facts: &UnitFacts, unit: UnitId) -> bool {
     facts.is_job || (!facts.is_called && is_labelled(program, unit))
 }
 
-// Enters all units that JOB begins or that nobody calls, and then, one by one, those that are still entered by nobody.
+// Enters all units that JOB begins or that are not called, and then, one by one, those that are still not entered.
 fn enter_all(
     tracer: &mut Tracer<'_, '_>,
     tables: &mut Tables,
@@ -111,13 +111,13 @@ fn enter_all(
     Ok(())
 }
 
-// Whether one of these ways is a call where nothing is held.
+// Whether one of these ways is a call while no lock is held.
 fn is_called_free(tables: &Tables, arrivals: &[Arrival]) -> bool {
     arrivals.iter().any(|arrival| arrival.from.is_some()
         && tables.locks(arrival.holding).is_empty())
 }
 
-// Adds which units are called where nothing is held.
+// Marks the units that are called while no lock is held.
 fn add_free_calls(tables: &Tables, tracer: &Tracer<'_, '_>, facts: &mut Facts) {
     for (index, known) in facts.units.iter_mut().enumerate() {
         let arrivals = tracer.arrivals.of(UnitId::new(index));
@@ -125,7 +125,7 @@ fn add_free_calls(tables: &Tables, tracer: &Tracer<'_, '_>, facts: &mut Facts) {
     }
 }
 
-// Adds a way, unless the same is held in one that is there, or they are too many.
+// Adds a way, unless there is one with the same held locks, or there are too many.
 fn add_moment(moments: &mut Vec<Moment>, moment: Moment) -> Result<(), AllocError> {
     if moments.len() >= MOST_MOMENTS
         || moments.iter().any(|known| known.holding == moment.holding)

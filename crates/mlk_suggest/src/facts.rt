@@ -1,4 +1,4 @@
-// What is known of units without a walk.
+// Facts about units, without a walk.
 
 use crate::note::Note;
 use crate::spot::Spot;
@@ -8,7 +8,7 @@ use mlk_survey_trees::Position;
 use mlk_text::push_sparing;
 use std::alloc::{AllocError, Global};
 
-/// What is known of a unit.
+/// Facts about a unit.
 #[derive(Clone, Copy, Drop)]
 pub struct UnitFacts {
     /// whether some JOB begins with it
@@ -17,17 +17,17 @@ pub struct UnitFacts {
     pub is_called: bool,
     /// whether a unit of another routine calls it
     pub is_called_outside: bool,
-    /// whether the lines above run into it
+    /// whether the lines above continue into it
     pub is_run_into: bool,
-    /// whether it is taken as an entry: JOB begins with it, or nobody calls it but units that are entered by nobody either
+    /// whether it counts as an entry: JOB begins with it, or it is called only by units that are not entered either
     pub is_entry: bool,
-    /// whether it is called where nothing is held
+    /// whether it is called while no lock is held
     pub is_called_free: bool,
     /// the number of uses of globals on its lines
     pub uses: usize,
     /// the number of arguments of LOCK on its lines
     pub claims: usize,
-    /// whether it calls something that is given
+    /// whether it calls a unit that is given
     pub calls: bool,
     /// whether it does anything but quit
     pub has_steps: bool,
@@ -59,11 +59,11 @@ fn are_in_one_routine(program: &Program<'_>, unit: UnitId, other: UnitId) -> boo
     }
 }
 
-/// What is known of the units of a program.
+/// Facts about the units of a program.
 #[derive(Drop)]
 pub(crate) struct Facts {
     pub(crate) units: Vec<UnitFacts>,
-    /// for each unit with which a JOB begins the first such JOB
+    /// for each unit with which a JOB begins, the first such JOB
     pub(crate) jobs: IndexMap<UnitId, Spot>,
 }
 
@@ -162,7 +162,7 @@ impl Facts {
         Ok(())
     }
 
-    // Adds that the lines of a unit run into the next unit.
+    // Adds that the lines of a unit continue into the next unit.
     fn add_next(&mut self, unit: UnitId, next: UnitId) {
         if let Some(facts) = self.units.get_mut(unit.index()) {
             facts.has_steps = true;
@@ -172,7 +172,7 @@ impl Facts {
         }
     }
 
-    /// Adds which units run into the next one. `notes` are those of a walk.
+    /// Marks the units that continue into the next one. `notes` are those of a walk.
     pub(crate) fn add_nexts(&mut self, notes: &[Note<'_, '_>]) {
         for note in notes {
             if let Step::Call(_, call) = note.step {
@@ -193,7 +193,7 @@ fn is_bare(step: &Step<'_>) -> bool {
     }
 }
 
-// Facts of `count` units of which nothing is known yet.
+// Empty facts for `count` units.
 fn no_facts(alloc: Global, count: usize) -> Result<Facts, AllocError> {
     let mut units = Vec::with_capacity(alloc, count)?;
     for _ in 0..count {
@@ -205,7 +205,7 @@ fn no_facts(alloc: Global, count: usize) -> Result<Facts, AllocError> {
     })
 }
 
-/// What is known of the units of `program` without a walk.
+/// The facts about the units of `program`, without a walk.
 pub(crate) fn facts_of(alloc: Global, program: &Program<'_>) -> Result<Facts, AllocError> {
     let count = program.units.len();
     let mut facts = no_facts(alloc, count)?;

@@ -1,4 +1,4 @@
-// States on their way through a line.
+// States while a line is walked.
 
 use crate::state::State;
 use mlk_suggest_held::Tables;
@@ -7,7 +7,7 @@ use mlk_text::push_sparing;
 use std::alloc::{AllocError, Global};
 use std::mem;
 
-// A choice that is not at its end: the state in which no branch so far is taken, and that in which one is and is done.
+// A choice before its end: the state in which no branch was taken so far, and the state after a branch that was taken.
 #[derive(Drop)]
 struct Choice {
     others: State,
@@ -48,13 +48,13 @@ impl Flow {
         }
     }
 
-    /// Takes the state before the next step away: the step is then not reached.
+    /// Removes the state before the next step: the step is then not reached.
     pub(crate) fn take(&mut self) -> State {
         let none = State::none(self.alloc);
         mem::replace(&mut self.current, none)
     }
 
-    // Begins a round of the FOR at a depth, counted from 1, in a state. At the depth 0 there is none, and the line is at its end.
+    // Begins a round of the FOR at a depth, from 1, in a state. The depth 0 is the end of the line.
     fn begin_round(
         &mut self,
         tables: &mut Tables,
@@ -126,7 +126,7 @@ impl Flow {
         push_sparing(&mut self.choices, choice)
     }
 
-    /// Begins a branch of the innermost choice, which is taken where `condition` holds.
+    /// Begins a branch of the innermost choice, which is taken if `condition` holds.
     pub(crate) fn begin_branch(&mut self, condition: Condition) -> Result<(), AllocError> {
         let others = self
             .current
@@ -173,7 +173,7 @@ impl Flow {
         Ok(())
     }
 
-    /// Skips the rest of the line where `$TEST` is not `is_set`, as IF without arguments and ELSE do.
+    /// Skips the rest of the line if `$TEST` is not `is_set`, as IF without arguments and ELSE do.
     pub(crate) fn ask_test(&mut self, tables: &mut Tables, is_set: bool) -> Result<(), AllocError> {
         let skipped = self
             .current

@@ -1,5 +1,5 @@
-//! What is held where: a walk over the steps of routines, which refuses nothing, and the evidence that it gathers for rules.
-//! Nothing that is proved of a `yes` rests on this crate.
+//! The held locks at each place: a walk over the steps of routines, which refuses nothing, and the evidence for rules that it
+//! collects. Nothing that is proved of a `yes` depends on this crate.
 #![tactic(auto)]
 
 mod arrival;

@@ -9,7 +9,7 @@ use mlk_suggest_steps::{Claim, LockName, Rounds, Step, UnitId};
 use mlk_text::push_sparing;
 use std::alloc::AllocError;
 
-/// How often a line with FORs is walked at most, until its rounds begin in no more cases.
+/// How often a line with FORs is walked at most, until its rounds begin in no new cases.
 const MOST_PASSES: usize = 8;
 
 // The number of FORs of a line.
@@ -39,7 +39,7 @@ impl<'p, 'a> Walker<'p, 'a> {
         Ok(locks)
     }
 
-    // What is held after a claim of locks where `before` was held.
+    // The held locks after a claim of locks where `before` was held.
     fn claim_locks(
         &mut self,
         before: Holding,
@@ -53,7 +53,7 @@ impl<'p, 'a> Walker<'p, 'a> {
         Ok(after)
     }
 
-    // What is held before the locks of a claim are acquired, which may release everything first.
+    // The held locks before the locks of a claim are acquired, which may release all locks first.
     fn held_before(&mut self, before: Holding, claim: &Claim) -> Result<Holding, AllocError> {
         if claim.releases_all {
             return self.tables.holding(Held::all_released(self.alloc));

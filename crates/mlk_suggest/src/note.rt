@@ -1,4 +1,4 @@
-// What a walk notes.
+// The notes of a walk.
 
 use crate::state::State;
 use mlk_suggest_steps::{Step, UnitId};

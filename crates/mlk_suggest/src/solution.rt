@@ -62,7 +62,7 @@ impl Queue {
     }
 }
 
-// Adds `state` to how a unit returns. If that is new, its callers are added to the queue.
+// Adds `state` to the states in which a unit returns. If it is new, the unit's callers are added to the queue.
 fn add_return(
     walker: &mut Walker<'_, '_>,
     queue: &mut Queue,
@@ -102,7 +102,7 @@ fn solve<'p, 'a>(walker: &mut Walker<'p, 'a>, callers: &[Vec<UnitId>]) -> Result
     Ok(())
 }
 
-/// What a walk finds: its notes, unit by unit, and the tables of their numbers.
+/// The result of a walk: its notes, unit by unit, and the tables of their numbers.
 #[derive(Drop)]
 pub(crate) struct Solution<'p, 'a> {
     pub(crate) tables: Tables,

@@ -1,11 +1,11 @@
-// What may be held at a place.
+// The locks that may be held at a place.
 
 use mlk_suggest_held::{Changes, Holding, Renaming, Tables};
 use mlk_suggest_steps::{Condition, Word};
 use mlk_text::push_sparing;
 use std::alloc::{AllocError, Global};
 
-/// The most cases of a state: as many as a line of a certificate can list.
+/// The maximum number of cases of a state: as many as a line of a certificate can list.
 const MOST_CASES: usize = 16;
 
 /// What is known of `$TEST`.
@@ -68,7 +68,7 @@ impl State {
         })
     }
 
-    /// Adds `case`, unless it is there already or they are too many.
+    /// Adds `case`, unless it is there already or there are too many.
     pub(crate) fn add(&mut self, case: Case) -> Result<(), AllocError> {
         if self.cases.contains(&case) || self.cases.len() >= MOST_CASES {
             return Ok(());

@@ -13,7 +13,7 @@ pub(crate) struct Walker<'p, 'a> {
     pub(crate) alloc: Global,
     pub(crate) program: &'p Program<'a>,
     pub(crate) tables: Tables,
-    /// how each unit returns: what is held since it began, and which locals of its caller have changed
+    /// how each unit returns: the locks that are held since it began, and the changed locals of its caller
     pub(crate) returns: Vec<State>,
     /// whether notes are taken
     pub(crate) is_noting: bool,
@@ -40,7 +40,7 @@ impl<'p, 'a> Walker<'p, 'a> {
         }
     }
 
-    // How a call of a unit returns, by the names of the caller.
+    // How a call of a unit returns, in the names of the caller.
     fn returns_of(&mut self, call: &Call, unit: UnitId) -> Result<State, AllocError> {
         let returns = self.known_returns(unit)?;
         let program = self.program;
@@ -94,7 +94,8 @@ impl<'p, 'a> Walker<'p, 'a> {
         Ok(after)
     }
 
-    /// The state after `call`. JOB changes nothing, and a call of what is not given changes only what is passed by reference.
+    /// The state after `call`. JOB changes nothing, and a call of a unit that is not given changes only what is passed by
+    /// reference.
     pub(crate) fn after_call(&mut self, state: &State, call: &Call) -> Result<State, AllocError> {
         let after = match call.unit {
             Some(unit) if call.kind != CallKind::Job => self.after_unit(state, call, unit)?,
@@ -106,7 +107,7 @@ impl<'p, 'a> Walker<'p, 'a> {
         after.change(self.alloc, &mut self.tables, call.by_reference.as_slice())
     }
 
-    // How a unit returns in `state` to its caller, for whom its own locals and the formals that it changed are unknown.
+    // How a unit that ends in `state` returns to its caller, for which the unit's own locals and its changed formals are unknown.
     fn outside_state(&mut self, state: &State, unit: &Unit<'a>) -> Result<State, AllocError> {
         let mut hidden = Vec::from_slice(self.alloc, unit.own.as_slice())?;
         for formal in &unit.formals {

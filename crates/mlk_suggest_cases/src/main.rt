@@ -1,8 +1,8 @@
 //! Suggests rules for routines that are given in one text, and prints the suggestions.
 //!
-//! The text comes on standard input. What comes before the first line that begins with `== ` is a comment. Each such line begins a
-//! case and says what it shows. After it come the routines, each after a line of `-- ` and its name. For each case its first line
-//! is printed, and then the suggestion.
+//! The text is read from standard input. Everything before the first line that begins with `== ` is a comment. Each such line
+//! begins a case and describes it. It is followed by the routines, each after a line of `-- ` and its name. For each case its
+//! first line is printed, and then the suggestion.
 #![tactic(auto)]
 
 use bstr::ByteSlice;
@@ -11,13 +11,13 @@ use mlk_text::push_sparing;
 use std::alloc::{AllocError, Global};
 use std::io::{self, Read, Write};
 
-// What comes before what a case shows.
+// The mark before the description of a case.
 const CASE: &[u8] = b"\n== ";
 
-// What comes before a routine's name.
+// The mark before a routine's name.
 const ROUTINE: &[u8] = b"\n-- ";
 
-// The routine of a part of a case: its name, and the lines after that.
+// The routine of a part of a case: its name on the first line, and the other lines.
 fn routine_of(part: &[u8]) -> RoutineText<'_> {
     match part.split_once_str(b"\n") {
         Some((stem, text)) => RoutineText { stem, text },
@@ -37,7 +37,7 @@ fn routines_of<'t>(alloc: Global, case: &'t [u8]) -> Result<Vec<RoutineText<'t>>
     Ok(routines)
 }
 
-// What a case shows.
+// The description of a case.
 fn title_of(case: &[u8]) -> &[u8] {
     match case.split_once_str(b"\n") {
         Some((title, _)) => title,

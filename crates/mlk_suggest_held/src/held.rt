@@ -6,7 +6,7 @@ use mlk_suggest_steps::{LockName, Word};
 use mlk_text::push_sparing;
 use std::alloc::{AllocError, Global};
 
-/// The most locks that count as held: as many as a case of a certificate can list.
+/// The maximum number of locks that count as held: as many as a case of a certificate can list.
 const MOST_HELD: usize = 16;
 
 /// From this number of changed locals on, no more are added to a list of them.
@@ -18,35 +18,35 @@ pub struct Lock {
     index: usize,
 }
 
-/// What is held: the number of a `Held` in `Tables`.
+/// A set of held locks: the number of a `Held` in `Tables`.
 #[derive(Clone, Copy, Debug, Drop, PartialEq, Eq, PartialOrd, Ord, Hash)]
 pub struct Holding {
     index: usize,
 }
 
-/// Which locals have changed: the number of their list in `Tables`, where 0 is the empty one.
+/// A set of changed locals: the number of their list in `Tables`, where 0 is the empty one.
 #[derive(Clone, Copy, Debug, Drop, PartialEq, Eq, Hash)]
 pub struct Changes {
     index: usize,
 }
 
 impl Changes {
-    /// No local has changed.
+    /// No changed local.
     pub const NONE: Changes = Changes { index: 0 };
 }
 
-/// What is held since a unit began: the locks that it claimed, and the locks that it released of those that were held before,
+/// The locks that are held since a unit began: those that it claimed, and those that it released although they were held before,
 /// each in the order of their numbers.
 #[derive(Clone, Drop, PartialEq, Eq, Hash)]
 pub struct Held {
     pub locks: Vec<Lock>,
     pub released: Vec<Lock>,
-    /// whether it released everything that was held before
+    /// whether it released all locks that were held before
     pub releases_all: bool,
 }
 
 impl Held {
-    /// Nothing is held, and nothing is released.
+    /// Nothing claimed, and nothing released.
     pub fn new(alloc: Global) -> Held {
         Held {
             locks: Vec::new(alloc),
@@ -55,7 +55,7 @@ impl Held {
         }
     }
 
-    /// Nothing is held, since everything is released.
+    /// Nothing held, since everything was released.
     pub fn all_released(alloc: Global) -> Held {
         Held {
             locks: Vec::new(alloc),
@@ -65,7 +65,7 @@ impl Held {
     }
 }
 
-// Adds a lock to locks that are in order, unless it is there already or they are too many.
+// Adds a lock to locks that are in order, unless it is there already or there are too many.
 fn add_lock(locks: &mut Vec<Lock>, lock: Lock) -> Result<(), AllocError> {
     if locks.contains(&lock) || locks.len() >= MOST_HELD {
         return Ok(());
@@ -75,18 +75,18 @@ fn add_lock(locks: &mut Vec<Lock>, lock: Lock) -> Result<(), AllocError> {
     Ok(())
 }
 
-/// Lock names, what is held, and lists of changed locals, each once.
+/// Lock names, held locks, and lists of changed locals, each once.
 #[derive(Drop)]
 pub struct Tables {
     alloc: Global,
     names: IndexSet<LockName>,
     held: IndexSet<Held>,
     changes: IndexSet<Vec<Word>>,
-    /// what is held at places, where it was asked for before
+    /// the held locks at places, cached
     holdings: IndexMap<Entered, Holding>,
 }
 
-// What is held where a unit is entered, which locals have changed since, and what is held since.
+// The locks that are held when a unit is entered, the locals that have changed since, and the locks that are held since.
 #[derive(Clone, Copy, Drop, PartialEq, Eq, Hash)]
 struct Entered {
     arrival: Holding,
@@ -95,7 +95,7 @@ struct Entered {
 }
 
 impl Tables {
-    /// Nothing yet.
+    /// Empty tables.
     pub fn new(alloc: Global) -> Result<Tables, AllocError> {
         let mut tables = Tables {
             alloc,
@@ -108,7 +108,7 @@ impl Tables {
         Ok(tables)
     }
 
-    /// Returns the lock with `name`, which it adds if it is missing.
+    /// Returns the lock with `name`, and adds it if it is missing.
     pub fn lock(&mut self, name: LockName) -> Result<Lock, AllocError> {
         let Ok((index, _)) = self.names.insert_full(name) else {
             return Err(AllocError);
@@ -121,7 +121,7 @@ impl Tables {
         self.names.get_index(lock.index)
     }
 
-    /// Returns the number of `held`, which it adds if it is missing.
+    /// Returns the number of `held`, and adds it if it is missing.
     pub fn holding(&mut self, held: Held) -> Result<Holding, AllocError> {
         let Ok((index, _)) = self.held.insert_full(held) else {
             return Err(AllocError);
@@ -134,7 +134,7 @@ impl Tables {
         self.held.get_index(holding.index)
     }
 
-    /// The locks of `holding`, in the order of their numbers; none for one of other tables.
+    /// The locks of `holding`, in the order of their numbers; empty for one of other tables.
     pub fn locks(&self, holding: Holding) -> &[Lock] {
         match self.held.get_index(holding.index) {
             Some(held) => held.locks.as_slice(),
@@ -150,7 +150,7 @@ impl Tables {
         }
     }
 
-    /// What becomes of `lock` by `renaming`.
+    /// Renames `lock` by `renaming`.
     pub fn rename_lock(&mut self, lock: Lock, renaming: Renaming<'_>) -> Result<Lock, AllocError> {
         let renamed = match self.names.get_index(lock.index) {
             None => return Ok(lock),
@@ -160,7 +160,7 @@ impl Tables {
         self.lock(renamed)
     }
 
-    // What becomes of locks by a renaming, in order.
+    // Renames locks by a renaming, in order.
     fn rename_locks(
         &mut self,
         locks: &[Lock],
@@ -174,7 +174,7 @@ impl Tables {
         Ok(renamed)
     }
 
-    // Whether a renaming keeps all of these locks.
+    // Whether a renaming keeps all of `locks`.
     fn keeps_all(&self, locks: &[Lock], renaming: Renaming<'_>) -> bool {
         locks.iter().all(|lock| match self.names.get_index(lock.index) {
             Some(name) => renaming.keeps(name),
@@ -182,7 +182,7 @@ impl Tables {
         })
     }
 
-    /// What becomes of `holding` if its locks are renamed by `renaming`.
+    /// Renames the locks of `holding` by `renaming`.
     pub fn rename(
         &mut self,
         holding: Holding,
@@ -207,7 +207,7 @@ impl Tables {
         self.holding(renamed)
     }
 
-    /// What is held if `lock` is claimed where `holding` is held.
+    /// The held locks after a claim of `lock` where `holding` was held.
     pub fn claim(&mut self, holding: Holding, lock: Lock) -> Result<Holding, AllocError> {
         if self.locks(holding).contains(&lock) {
             return Ok(holding);
@@ -217,8 +217,8 @@ impl Tables {
         self.holding(held)
     }
 
-    /// Which of `locks` a release of `released` means: the same, one that is written alike, or the only one of its root and number
-    /// of subscripts; `None` if there is no such lock.
+    /// The one of `locks` that a release of `released` means: the same, one that is written alike, or the only one with its root
+    /// and number of subscripts; `None` if there is no such lock.
     pub fn released_lock(&self, locks: &[Lock], released: Lock) -> Option<Lock> {
         if locks.contains(&released) {
             return Some(released);
@@ -237,7 +237,7 @@ impl Tables {
         }
     }
 
-    // Whether a lock has the root of a name, and as many subscripts.
+    // Whether a lock has the root of a name, and the same number of subscripts.
     fn is_of_root(&self, lock: Lock, name: &LockName) -> bool {
         match self.name(lock) {
             Some(other) => {
@@ -247,7 +247,7 @@ impl Tables {
         }
     }
 
-    // The lock with the root of a name and as many subscripts, if there is only one.
+    // The lock with the root of a name and the same number of subscripts, if there is only one.
     fn only_of_root(&self, locks: &[Lock], name: &LockName) -> Option<Lock> {
         let count = locks
             .iter()
@@ -262,8 +262,8 @@ impl Tables {
             .copied()
     }
 
-    /// What is held if `lock` is released where `holding` is held: if the unit did not claim it, it releases a lock that was held
-    /// before.
+    /// The held locks after a release of `lock` where `holding` was held: if the unit did not claim it, it releases a lock that
+    /// was held before.
     pub fn release(&mut self, holding: Holding, lock: Lock) -> Result<Holding, AllocError> {
         let mut held = self.copy(holding)?;
         match self.released_lock(held.locks.as_slice(), lock) {
@@ -273,7 +273,7 @@ impl Tables {
         self.holding(held)
     }
 
-    /// What is held after a call where `before` was held, of a unit that returns with `callee`.
+    /// The held locks after a call, where `before` was held, of a unit that returns with `callee`.
     pub fn after_callee(
         &mut self,
         before: Holding,
@@ -293,8 +293,8 @@ impl Tables {
         Ok(after)
     }
 
-    /// What is held in a unit that was entered with `arrival`, after `changes`, where `case` is held since it began: the locks that
-    /// it claimed, and of those that were held before the ones that it did not release.
+    /// The held locks in a unit that was entered with `arrival`, after `changes`, where `case` is held since it began: the locks
+    /// that it claimed, and those that were held before and that it did not release.
     pub fn holding_at(
         &mut self,
         arrival: Holding,
@@ -316,7 +316,7 @@ impl Tables {
         Ok(there)
     }
 
-    // Finds what `holding_at` returns.
+    // Computes what `holding_at` returns.
     fn find_holding(&mut self, entered: Entered) -> Result<Holding, AllocError> {
         if self.locks(entered.arrival).is_empty() {
             return self.without_released(entered.case);
@@ -338,7 +338,7 @@ impl Tables {
         self.holding(held)
     }
 
-    // Returns the number of a list of locals, which it adds if it is missing.
+    // Returns the number of a list of locals, and adds it if it is missing.
     fn changes_of(&mut self, words: Vec<Word>) -> Result<Changes, AllocError> {
         let Ok((index, _)) = self.changes.insert_full(words) else {
             return Err(AllocError);
@@ -354,7 +354,7 @@ impl Tables {
         }
     }
 
-    /// The changes of `changes` and of the locals `words`. Past a limit more locals are left out.
+    /// The changes of `changes` and of the locals `words`. Locals past the limit are dropped.
     pub fn with_changes(
         &mut self,
         changes: Changes,

@@ -1,5 +1,5 @@
-//! Held locks, by numbers: lock names at the places that a walk comes to, in callers and in callees. Nothing that is proved of a
-//! `yes` rests on this crate.
+//! Held locks, by numbers: lock names at the places that a walk reaches, in callers and in callees. Nothing that is proved of a
+//! `yes` depends on this crate.
 #![tactic(auto)]
 
 mod held;

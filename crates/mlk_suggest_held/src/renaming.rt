@@ -1,25 +1,25 @@
-// Lock names at another place: of a callee in its caller, of a caller in its callee, after a change of locals.
+// Lock names at another place: those of a callee in its caller, those of a caller in its callee, and after a change of locals.
 
 use mlk_suggest_steps::{LockName, LockRoot, Symbol, Word};
 use mlk_text::push_sparing;
 use std::alloc::{AllocError, Global};
 
-/// What becomes of the subscripts of lock names.
+/// A renaming of the subscripts of lock names.
 #[derive(Clone, Copy, Drop)]
 pub enum Renaming<'r> {
-    /// these locals have changed, so subscripts that are one are unknown
+    /// these locals have changed, so subscripts that are one of them become unknown
     Forget(&'r [Word]),
     /// all locals have changed
     ForgetAll,
-    /// from a callee with these formals to its caller, who passes these actuals
+    /// from a callee with these formals to its caller, which passes these actuals
     ToCaller(&'r [Word], &'r [Symbol]),
     /// from a caller to its callee with these formals: a subscript that is one of these actuals becomes its formal
     ByFormals(&'r [Word], &'r [Symbol]),
-    /// from a caller to its callee with these formals: subscripts stay, but for locals that a formal hides
+    /// from a caller to its callee with these formals: subscripts are kept, except for locals that a formal hides
     BesideFormals(&'r [Word]),
 }
 
-// Where a word is among others.
+// The index of a word among others, or `None`.
 fn place_of(words: &[Word], word: Word) -> Option<usize> {
     words.iter().position(|other| *other == word)
 }
@@ -40,7 +40,7 @@ fn beside_formals(formals: &[Word], symbol: Symbol) -> Symbol {
     }
 }
 
-// The symbol of a callee for a symbol of its caller: the formal, if it is passed for one.
+// The symbol of a callee for a symbol of its caller: the formal to which it is passed, if there is one.
 fn by_formals(formals: &[Word], actuals: &[Symbol], symbol: Symbol) -> Symbol {
     if !matches!(symbol, Symbol::Local(_) | Symbol::Constant(_)) {
         return symbol;
@@ -55,7 +55,7 @@ fn by_formals(formals: &[Word], actuals: &[Symbol], symbol: Symbol) -> Symbol {
 }
 
 impl<'r> Renaming<'r> {
-    // What becomes of a symbol.
+    // Applies the renaming to a symbol.
     fn of_symbol(self, symbol: Symbol) -> Symbol {
         match (self, symbol) {
             (Renaming::Forget(words), Symbol::Local(word)) if words.contains(&word) => {
@@ -71,14 +71,14 @@ impl<'r> Renaming<'r> {
         }
     }
 
-    /// Whether `name` stays as it is.
+    /// Whether the renaming keeps `name` unchanged.
     pub fn keeps(self, name: &LockName) -> bool {
         name.subscripts
             .iter()
             .all(|symbol| self.of_symbol(*symbol) == *symbol)
     }
 
-    /// What becomes of `name`.
+    /// Applies the renaming to `name`.
     pub fn of_name(self, alloc: Global, name: &LockName) -> Result<LockName, AllocError> {
         let mut subscripts = Vec::new(alloc);
         for symbol in &name.subscripts {
@@ -91,12 +91,12 @@ impl<'r> Renaming<'r> {
     }
 }
 
-// Whether two symbols may be of one value, as far as they are written.
+// Whether two symbols may have the same value, as far as the text shows.
 fn may_be_one(symbol: Symbol, other: Symbol) -> bool {
     symbol == other || symbol == Symbol::Unknown || other == Symbol::Unknown
 }
 
-/// Whether `name` and `other` are written alike, but for unknown subscripts.
+/// Whether `name` and `other` are written alike, except for unknown subscripts.
 pub fn are_alike(name: &LockName, other: &LockName) -> bool {
     name.root == other.root
         && name.subscripts.len() == other.subscripts.len()

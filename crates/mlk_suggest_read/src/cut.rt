@@ -1,8 +1,8 @@
-// The front of a line, up to what can't be read.
+// The part of a line before the first thing that can't be read.
 
 use mlk_text::{Code, Fault, LeftOut};
 
-// Whether a fault is at the word of a command, so that the commands before it are whole.
+// Whether a fault is at the word of a command, so that the commands before it are complete.
 fn is_at_command(fault: &Fault) -> bool {
     fault.code == Code::UnknownCommand || matches!(&fault.left_out, Some(LeftOut::Command(_)))
 }
@@ -40,7 +40,7 @@ fn last_word(text: &[u8]) -> &[u8] {
     }
 }
 
-/// The front of `line`, up to the last blank before the place of `fault`. The word of a command whose argument is cut is left out
+/// The front of `line`, up to the last blank before the place of `fault`. The word of a command whose argument is cut is dropped
 /// too.
 pub(crate) fn readable_front<'t>(line: &'t [u8], fault: &Fault) -> &'t [u8] {
     let place = (fault.place.column.number() as usize).saturating_sub(1);

@@ -1,4 +1,4 @@
-//! Reads routines on past what can't be read: a line that is refused is cut before the fault. What is left serves as evidence for a
+//! Reads routines beyond parts that can't be read: a refused line is cut before the fault. The rest is used as evidence for a
 //! suggestion of rules, and for nothing else.
 #![tactic(auto)]
 

@@ -7,11 +7,11 @@ use mlk_syntax::Routine;
 use mlk_text::{Code, Column, Failure, Fault, LineNumber, Place, push_sparing};
 use std::alloc::{AllocError, Global};
 
-/// How often a line is cut at most. If it can't be read then, its commands are left out.
+/// How often a line is cut at most. If it still can't be read, its commands are dropped.
 const MOST_CUTS: usize = 8;
 
-/// The most lines whose commands are left out although each of them can be read by itself. If the routine can't be read then, it
-/// counts as unread.
+/// The maximum number of lines whose commands are dropped although each of them can be read separately. If the routine still
+/// can't be read, it counts as unread.
 const MOST_LEFT_OUT: usize = 16;
 
 /// A routine's text.
@@ -25,11 +25,11 @@ pub struct RoutineText<'t> {
 /// Routines that were read as far as they can be.
 #[derive(Drop)]
 pub struct PartlyRead {
-    /// those of which at least some lines could be read, in the order of their texts
+    /// those with at least some readable lines, in the order of their texts
     pub routines: Vec<Routine>,
     /// the first fault of each of their lines that was cut
     pub cuts: Vec<Fault>,
-    /// for each routine that could not be read at all a fault
+    /// a fault for each routine that could not be read at all
     pub unread: Vec<Fault>,
 }
 
@@ -44,7 +44,7 @@ fn lead_of(line: &[u8]) -> usize {
     }
 }
 
-// A line as a routine by itself: without the periods of its level, which need a line above.
+// A line as a routine of its own: without the periods of its level, which need a line above.
 fn line_alone(alloc: Global, line: &[u8]) -> Result<Vec<u8>, AllocError> {
     let lead = lead_of(line);
     let mut text = Vec::with_capacity(alloc, line.len())?;
@@ -65,7 +65,7 @@ fn fault_of(alloc: Global, stem: &[u8], text: &[u8]) -> Result<Option<Fault>, Al
     }
 }
 
-// A text from a place on; nothing past its end.
+// The text from `place` on; empty past its end.
 fn text_from(text: &[u8], place: usize) -> &[u8] {
     text.get(place..).unwrap_or(b"")
 }
@@ -81,7 +81,7 @@ fn with_commands(alloc: Global, line: &[u8], commands: &[u8]) -> Result<Vec<u8>,
     Ok(text)
 }
 
-// The front of a line that can be read, and the line's first fault, if it has one.
+// The readable front of a line, and the line's first fault, if it has one.
 fn readable_part(
     alloc: Global,
     stem: &[u8],
@@ -97,7 +97,7 @@ fn readable_part(
     Ok((left, Some(first)))
 }
 
-// What can be read of commands after the most cuts; nothing, if that can't be read either.
+// The readable part of commands after the maximum number of cuts; empty if that can't be read either.
 fn readable_commands(alloc: Global, stem: &[u8], commands: &[u8]) -> Result<Vec<u8>, AllocError> {
     let mut left = Vec::from_slice(alloc, commands)?;
     for _ in 0..MOST_CUTS {
@@ -110,7 +110,7 @@ fn readable_commands(alloc: Global, stem: &[u8], commands: &[u8]) -> Result<Vec<
     Ok(Vec::new(alloc))
 }
 
-// The lines of a routine, as far as each can be read by itself, and the first fault of each line that was cut.
+// The lines of a routine, as far as each can be read separately, and the first fault of each line that was cut.
 #[derive(Drop)]
 struct Readable {
     lines: Vec<Vec<u8>>,
@@ -144,7 +144,8 @@ fn call_block(
     Ok(())
 }
 
-// The fault of a line that was read by itself, at its place in the routine: the line has this number and lead there.
+// The fault of a line that was read separately, at its place in the routine, where the line has the number `line` and the lead
+// `lead`.
 fn placed_fault(fault: Fault, line: usize, lead: usize) -> Fault {
     let Fault {
         code,
@@ -171,7 +172,7 @@ fn placed_fault(fault: Fault, line: usize, lead: usize) -> Fault {
     }
 }
 
-// The lines of a text, as far as each can be read by itself.
+// The lines of a text, as far as each can be read separately.
 fn readable_lines(alloc: Global, stem: &[u8], text: &[u8]) -> Result<Readable, AllocError> {
     let mut found = Readable {
         lines: Vec::new(alloc),
@@ -191,7 +192,7 @@ fn readable_lines(alloc: Global, stem: &[u8], text: &[u8]) -> Result<Readable, A
     Ok(found)
 }
 
-// The text of lines, each with its end.
+// The text of lines, each with a terminator.
 fn join_lines(alloc: Global, lines: &[Vec<u8>]) -> Result<Vec<u8>, AllocError> {
     let mut text = Vec::new(alloc);
     for line in lines {
@@ -201,7 +202,7 @@ fn join_lines(alloc: Global, lines: &[Vec<u8>]) -> Result<Vec<u8>, AllocError> {
     Ok(text)
 }
 
-// Leaves out the commands of the line at which a fault is.
+// Drops the commands of the line that has `fault`.
 fn leave_out(alloc: Global, lines: &mut Vec<Vec<u8>>, fault: &Fault) -> Result<(), AllocError> {
     let place = (fault.place.line.number() as usize).saturating_sub(1);
     if let Some(line) = lines.get_mut(place) {
@@ -211,8 +212,8 @@ fn leave_out(alloc: Global, lines: &mut Vec<Vec<u8>>, fault: &Fault) -> Result<(
     Ok(())
 }
 
-// The routine of lines each of which can be read by itself, without the commands of some that can't be read together; a fault if
-// they are too many.
+// The routine of lines each of which can be read separately, without the commands of some that can't be read together; a fault if
+// there are too many of these.
 fn read_together(
     alloc: Global,
     stem: &[u8],

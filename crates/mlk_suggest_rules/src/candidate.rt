@@ -10,26 +10,26 @@ use mlk_text::push_sparing;
 use std::alloc::{AllocError, Global};
 use std::cmp::Ordering;
 
-/// The most locks that are compared, those that are held at most writes.
+/// The maximum number of locks that are compared: those that are held at most writes.
 const MOST_CANDIDATES: usize = 12;
 
 /// A lock is not compared if another is held more than this many times as often.
 const SELDOM: usize = 4;
 
-/// The most subscripts of a lock in a rule file.
+/// The maximum number of subscripts of a lock in a rule file.
 const MOST_SUBSCRIPTS: usize = 8;
 
-/// The least number of writes at which a lock with subscripts, but none of the reference, is held.
+/// The minimum number of writes at which a lock with subscripts, but none of the reference, must be held.
 const CONSTANT_WRITES: usize = 3;
 
-/// A lock that may cover a global, and at how many places it is held.
+/// A lock that may cover a global, and the number of places at which it is held.
 #[derive(Drop)]
 pub(crate) struct Candidate {
     pub(crate) lock: LockPattern,
     pub(crate) score: Score,
 }
 
-/// Whether `text` has only printable characters of ASCII, so that a rule can have it as it is.
+/// Whether `text` has only printable ASCII characters, so that it can be used in a rule unchanged.
 pub(crate) fn is_plain(text: &[u8]) -> bool {
     text.iter().all(|byte| matches!(*byte, b' '..=b'~'))
 }
@@ -60,7 +60,7 @@ impl Support {
         Ok(())
     }
 
-    // Adds the locks that are held in some way at a touch, if it writes.
+    // Adds the locks that are held in some way at a touch if it is a write.
     fn add_touch(
         &mut self,
         alloc: Global,
@@ -156,7 +156,7 @@ fn is_supported(candidate: &Candidate) -> bool {
         || candidate.score.write_share >= WHOLE.saturating_mul(CONSTANT_WRITES)
 }
 
-// Which of two locks of a global comes first: the one that is held at more writes, then at more reads, then the one of the
+// Which of two locks of a global comes first: the one that is held at more writes, then at more reads, then the one with the
 // global's own name, then the one with fewer subscripts.
 fn compare_candidates(global: Word, first: &Candidate, second: &Candidate) -> Ordering {
     let own = LockRoot::Global(global);
@@ -171,7 +171,7 @@ fn compare_candidates(global: Word, first: &Candidate, second: &Candidate) -> Or
         .then(first.lock.parts.len().cmp(&second.lock.parts.len()))
 }
 
-/// The locks that may cover `global` at the `touches` of `evidence` with these places, the best first.
+/// The locks that may cover `global`, given the `touches` of `evidence`, by their indexes, the best first.
 pub(crate) fn candidates_of(
     alloc: Global,
     program: &Program<'_>,

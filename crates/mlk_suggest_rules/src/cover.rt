@@ -10,7 +10,7 @@ use std::alloc::{AllocError, Global};
 /// An element of a pattern.
 #[derive(Clone, Copy, Debug, Drop, PartialEq, Eq)]
 pub enum Element {
-    /// this value
+    /// a constant
     Constant(Word),
     /// any value; the word is a local that some reference has there, if there is one
     Variable(Option<Word>),
@@ -23,7 +23,7 @@ pub enum Element {
 pub struct Pattern {
     pub global: Word,
     pub elements: Vec<Element>,
-    /// whether the nodes below are in it too
+    /// whether the nodes below belong to it too
     pub is_open: bool,
 }
 
@@ -34,13 +34,13 @@ pub struct CoverGuess {
     pub lock: LockPattern,
     /// a second lock
     pub also: Option<LockPattern>,
-    /// at how many places the first lock is held
+    /// the number of places at which the first lock is held
     pub score: Score,
-    /// whether most reads hold nothing
+    /// whether no lock is held at most reads
     pub reads_are_free: bool,
 }
 
-// The local that the first of the references with a local at a place has there.
+// The local that the first of the references with a local at a given subscript has there.
 fn local_at(evidence: &Evidence<'_>, touches: &[usize], place: usize) -> Option<Word> {
     for touch in touches {
         if let Some(touch) = evidence.touches.get(*touch) {
@@ -65,7 +65,7 @@ fn is_scalar(evidence: &Evidence<'_>, touches: &[usize]) -> bool {
 }
 
 /// The pattern of `global` that begins with the elements `fixed` and has variables after them, `count` elements or as many as are
-/// fixed. It is open, unless the `touches` of `evidence` with these places are of the global without subscripts.
+/// fixed. It is open, unless the `touches` of `evidence`, by their indexes, are of the global without subscripts.
 pub(crate) fn pattern_of(
     alloc: Global,
     evidence: &Evidence<'_>,

@@ -1,4 +1,4 @@
-// Where jobs begin.
+// The entries at which jobs begin.
 
 use crate::known::KnownRules;
 use mlk_suggest::{Evidence, Spot, UnitFacts};
@@ -6,20 +6,20 @@ use mlk_suggest_steps::{Program, UnitId};
 use mlk_text::push_sparing;
 use std::alloc::{AllocError, Global};
 
-/// Why a label is taken as an entry.
+/// Why a label counts as an entry.
 #[derive(Clone, Copy, Drop, PartialEq, Eq)]
 pub enum EntryKind {
-    /// the JOB at this place begins with it
+    /// the JOB at this place begins there
     Job(Spot),
-    /// nobody calls it
+    /// it is not called
     Uncalled,
-    /// nobody calls it, and the lines above run into it
+    /// it is not called, and the lines above continue into it
     RunInto,
-    /// nobody calls it, and it only claims or releases
+    /// it is not called, and it only claims or releases
     Helper,
-    /// nobody calls it, and it touches, claims and calls nothing
+    /// it is not called, and it touches, claims and calls nothing
     Idle,
-    /// nobody calls it but units that are entered by nobody either
+    /// it is called only by units that are not entered either
     Circle,
 }
 
@@ -30,17 +30,17 @@ pub struct EntryGuess {
     pub kind: EntryKind,
 }
 
-/// The labels at which jobs may begin, and beside them other candidates.
+/// The labels at which jobs may begin, and other candidates.
 #[derive(Drop)]
 pub(crate) struct Entries {
     pub(crate) entries: Vec<EntryGuess>,
-    /// labels that other routines call where nothing is held, and that claim or release locks
+    /// labels that other routines call without holding a lock, and that claim or release locks
     pub(crate) free: Vec<UnitId>,
-    /// labels and first lines that nobody calls and that only quit
+    /// labels and first lines that are not called and that only quit
     pub(crate) bare: Vec<UnitId>,
 }
 
-// Why a unit with these facts is an entry, and with the first JOB that begins with it.
+// Why a unit with these facts is an entry, given the first JOB that begins there.
 fn kind_of(facts: &UnitFacts, job: Option<&Spot>) -> EntryKind {
     if let Some(spot) = job {
         return EntryKind::Job(*spot);
@@ -61,7 +61,7 @@ fn kind_of(facts: &UnitFacts, job: Option<&Spot>) -> EntryKind {
     }
 }
 
-/// Where jobs may begin in `program`, in the order of its units, without the entries that `known` declares.
+/// The entries at which jobs may begin in `program`, in the order of its units, without those that `known` declares.
 pub(crate) fn entries_of(
     alloc: Global,
     program: &Program<'_>,

@@ -1,4 +1,4 @@
-// Families of locks: which there are, and how often they are claimed.
+// Families of locks: their names, and how often they are claimed.
 
 use crate::candidate::is_plain;
 use indexmap::IndexMap;
@@ -7,10 +7,10 @@ use mlk_suggest_steps::{LockName, LockRoot, Program, Symbol, Word};
 use mlk_text::push_sparing;
 use std::alloc::{AllocError, Global};
 
-/// The most families of a rule file.
+/// The maximum number of families of a rule file.
 const MOST_FAMILIES: usize = 1024;
 
-/// The name of a family: a root, and a first subscript if the locks of that root are in several families.
+/// The name of a family: a root, and a first subscript if the locks with that root are in several families.
 #[derive(Clone, Copy, Debug, Drop, PartialEq, Eq, PartialOrd, Ord, Hash)]
 pub struct FamilyName {
     pub root: LockRoot,
@@ -28,10 +28,10 @@ pub struct FamilyGuess {
     pub is_known: bool,
 }
 
-// What is known of the locks with a root.
+// What is known of the locks with a given root.
 #[derive(Clone, Copy, Drop)]
 struct RootFacts {
-    // whether all that are claimed have a constant as their first subscript
+    // whether all claimed ones have a constant as their first subscript
     are_constant: bool,
     // whether one is claimed while one with another first subscript is held
     are_nested: bool,
@@ -71,7 +71,7 @@ fn is_nested(evidence: &Evidence<'_>, claim: &ClaimAt, name: &LockName) -> bool 
 }
 
 impl Families {
-    // Adds a claim of a name to what is known of its root.
+    // Adds a claim of a name to the facts of its root.
     fn add_to_root(
         &mut self,
         evidence: &Evidence<'_>,
@@ -134,7 +134,7 @@ impl Families {
     }
 }
 
-/// The families of the locks that are claimed in `program`, by its `evidence`.
+/// The families of the locks that are claimed in `program`, given its `evidence`.
 pub(crate) fn families_of(
     alloc: Global,
     program: &Program<'_>,

@@ -12,24 +12,24 @@ use mlk_suggest_steps::{LockRoot, Program, Symbol, Word};
 use mlk_text::push_sparing;
 use std::alloc::{AllocError, Global};
 
-/// The least share of the touches of a private global that have `$JOB` at one place, in hundredths.
+/// The minimum share of the touches of a private global that must have `$JOB` at one subscript, in hundredths.
 const JOB_TOUCHES: usize = 75;
 
-/// The least share of the writes at which a second lock is held, in hundredths.
+/// The minimum share of the writes at which a second lock must be held, in hundredths.
 const SECOND_WRITES: usize = 75;
 
-/// The most elements of a pattern in a rule file.
+/// The maximum number of elements of a pattern in a rule file.
 const MOST_ELEMENTS: usize = 8;
 
-/// A rule that asks for no lock: of a global that each job has its own part of, or that nobody writes.
+/// A rule without locks: for a global in which each job has its own part, or one that is never written.
 #[derive(Drop)]
 pub struct GlobalGuess {
     pub pattern: Pattern,
-    /// the number of touches that speak for the rule
+    /// the number of touches that support the rule
     pub touches: usize,
     /// the number of all touches
     pub all_touches: usize,
-    /// the number of touches at which a lock of the global's own name is held all the same
+    /// the number of touches at which a lock with the global's own name is held nevertheless
     pub locked: usize,
 }
 
@@ -37,9 +37,9 @@ pub struct GlobalGuess {
 #[derive(Drop)]
 pub struct Undecided {
     pub pattern: Pattern,
-    /// the number of places that write
+    /// the number of places that write it
     pub writes: usize,
-    /// the number of places that read
+    /// the number of places that read it
     pub reads: usize,
     /// the first of the writes
     pub first: Option<Spot>,
@@ -47,7 +47,7 @@ pub struct Undecided {
     pub best: Option<(LockPattern, Score)>,
 }
 
-/// What is suggested for globals.
+/// The suggestions for globals.
 #[derive(Drop)]
 pub(crate) struct GlobalGuesses {
     pub(crate) covers: Vec<CoverGuess>,
@@ -58,7 +58,7 @@ pub(crate) struct GlobalGuesses {
 }
 
 impl GlobalGuesses {
-    /// Nothing is suggested yet.
+    /// No suggestions.
     pub(crate) fn new(alloc: Global) -> GlobalGuesses {
         GlobalGuesses {
             covers: Vec::new(alloc),
@@ -70,7 +70,7 @@ impl GlobalGuesses {
     }
 }
 
-/// What is needed to find a rule for one global.
+/// The input of the search for a rule of one global.
 #[derive(Clone, Copy, Drop)]
 pub(crate) struct Judge<'j> {
     pub(crate) alloc: Global,
@@ -79,7 +79,7 @@ pub(crate) struct Judge<'j> {
     pub(crate) global: Word,
 }
 
-// The number of touches that have `$JOB` at a place.
+// The number of touches that have `$JOB` at a given subscript.
 fn count_job(evidence: &Evidence<'_>, touches: &[usize], place: usize) -> usize {
     let mut count: usize = 0;
     for touch in touches {
@@ -92,7 +92,7 @@ fn count_job(evidence: &Evidence<'_>, touches: &[usize], place: usize) -> usize 
     count
 }
 
-// The first place at which enough touches have `$JOB`, and the number of those.
+// The first subscript at which enough touches have `$JOB`, and their number; `None` if there is none.
 fn job_place(evidence: &Evidence<'_>, touches: &[usize]) -> Option<(usize, usize)> {
     for place in 0..MOST_ELEMENTS {
         let count = count_job(evidence, touches, place);
@@ -103,7 +103,7 @@ fn job_place(evidence: &Evidence<'_>, touches: &[usize]) -> Option<(usize, usize
     None
 }
 
-// How many subscripts a reference must have to give all those of a rule's locks.
+// The number of subscripts that a reference must have to determine all subscripts of a rule's locks.
 fn places_of(lock: &LockPattern, also: &Option<LockPattern>) -> usize {
     match also {
         Some(second) => lock.places().max(second.places()),
@@ -129,7 +129,7 @@ impl<'j> Judge<'j> {
         )
     }
 
-    // Whether a lock of the global's own name is held in some way at a touch.
+    // Whether a lock with the global's own name is held in some way at a touch.
     fn holds_own(&self, touch: &TouchAt<'_>) -> bool {
         let tables = &self.evidence.tables;
         let own = LockRoot::Global(self.global);
@@ -140,7 +140,7 @@ impl<'j> Judge<'j> {
         })
     }
 
-    // The number of touches at which a lock of the global's own name is held in some way.
+    // The number of touches at which a lock with the global's own name is held in some way.
     fn count_locked(&self, touches: &[usize]) -> usize {
         let mut count: usize = 0;
         for touch in touches {
@@ -151,8 +151,8 @@ impl<'j> Judge<'j> {
         count
     }
 
-    // The rule that each job has its own part, if enough touches say so and a lock of the global's own name is held at no more
-    // than half of them.
+    // The rule that each job has its own part, if enough touches support it and a lock with the global's own name is held at no
+    // more than half of them.
     fn private_guess(&self, touches: &[usize]) -> Result<Option<GlobalGuess>, AllocError> {
         let Some((place, count)) = job_place(self.evidence, touches) else {
             return Ok(None);
@@ -171,7 +171,7 @@ impl<'j> Judge<'j> {
         }))
     }
 
-    // The rule that nobody writes the part of the global that begins with `fixed`.
+    // The rule that the part of the global that begins with `fixed` is never written.
     fn readonly_guess(
         &self,
         touches: &[usize],
@@ -185,7 +185,7 @@ impl<'j> Judge<'j> {
         })
     }
 
-    // Whether a touch reads where a lock is not held in all ways.
+    // Whether a touch is a read at which a lock is not held in all ways.
     fn is_read_left(&self, touch: &TouchAt<'_>, lock: &LockPattern) -> Result<bool, AllocError> {
         if touch.reference.access == Access::Writes {
             return Ok(false);
@@ -193,7 +193,8 @@ impl<'j> Judge<'j> {
         Ok(share_at(self.alloc, self.evidence, touch, lock)? < WHOLE)
     }
 
-    // The number of reads at which a second lock is held and the first is not, and the number of all at which the first is not.
+    // The number of reads at which a second lock is held and the first is not, and the number of all reads at which the first is
+    // not.
     fn count_reads_left(
         &self,
         touches: &[usize],
@@ -234,7 +235,7 @@ impl<'j> Judge<'j> {
         Ok(None)
     }
 
-    // Adds the places at which a lock that a cover asks for is missing.
+    // Adds the places at which a lock that a cover requires is missing.
     fn add_suspects(
         &self,
         guesses: &mut GlobalGuesses,
@@ -289,7 +290,7 @@ impl<'j> Judge<'j> {
         push_sparing(&mut guesses.covers, cover)
     }
 
-    // The place of the first touch that writes.
+    // The place of the first write, or `None`.
     fn first_write(&self, touches: &[usize]) -> Option<Spot> {
         for touch in touches {
             if let Some(touch) = self.evidence.touches.get(*touch) {
@@ -325,7 +326,7 @@ impl<'j> Judge<'j> {
         push_sparing(&mut guesses.undecided, undecided)
     }
 
-    // Adds the rule for the part of the global that begins with `fixed`, whose touches these are.
+    // Adds the rule for the part of the global that begins with `fixed`, whose touches are `touches`.
     fn judge_part(
         &self,
         guesses: &mut GlobalGuesses,
@@ -369,7 +370,7 @@ impl<'j> Judge<'j> {
         Ok(())
     }
 
-    // The parts by the constants at a place, if they explain clearly more touches than the `whole` global does.
+    // The parts by the constants at a subscript, if they explain clearly more touches than the `whole` global does.
     fn better_split(
         &self,
         touches: &[usize],
@@ -418,7 +419,7 @@ impl<'j> Judge<'j> {
         self.better_split(touches, 1, whole)
     }
 
-    /// Adds the rules for the global, whose touches are those of the evidence with the places `touches`.
+    /// Adds the rules for the global, given the indexes `touches` of its touches in the evidence.
     pub(crate) fn judge(
         &self,
         guesses: &mut GlobalGuesses,

@@ -1,4 +1,4 @@
-// All rules that are suggested.
+// All suggested rules.
 
 use crate::cover::CoverGuess;
 use crate::entry::{EntryGuess, entries_of};
@@ -15,17 +15,17 @@ use mlk_text::limit::GREATEST_RANK;
 use mlk_text::push_sparing;
 use std::alloc::{AllocError, Global};
 
-/// The difference between the ranks of two families, if nothing else is given.
+/// The difference between the ranks of two families, unless ranks are given.
 const RANK_STEP: usize = 10;
 
-/// The rules that are suggested for a program, and what does not agree with them.
+/// The rules that are suggested for a program, and the places that do not follow them.
 #[derive(Drop)]
 pub struct Guess {
-    /// the families of locks that the known rules don't rank, in the order of their ranks
+    /// the families of locks that the known rules do not rank, in the order of their ranks
     pub families: Vec<FamilyGuess>,
-    /// which locks are claimed while which are held
+    /// the families that are claimed while others are held
     pub nestings: Vec<Nesting>,
-    /// claims that no order, or not this one, allows
+    /// claims that no order allows, or not this one
     pub against: Vec<Against>,
     /// the covers, in the order of their globals' names
     pub covers: Vec<CoverGuess>,
@@ -37,13 +37,13 @@ pub struct Guess {
     /// releases of locks that aren't held
     pub releases: Vec<ReleaseAt>,
     pub entries: Vec<EntryGuess>,
-    /// labels that other routines call where nothing is held, and that claim or release locks
+    /// labels that other routines call without holding a lock, and that claim or release locks
     pub free: Vec<UnitId>,
-    /// labels and first lines that nobody calls and that only quit
+    /// labels and first lines that are not called and that only quit
     pub bare: Vec<UnitId>,
 }
 
-// Adds the place of a touch to those of its global.
+// Adds a touch to those of its global.
 fn add_place(
     alloc: Global,
     numbers: &mut IndexMap<Word, usize>,
@@ -67,7 +67,7 @@ fn add_place(
     }
 }
 
-// The places of each global's touches, in the order of the globals' names.
+// The indexes of each global's touches, in the order of the globals' names.
 fn by_global(
     alloc: Global,
     program: &Program<'_>,
@@ -167,7 +167,7 @@ fn rank_of(ranks: &IndexMap<FamilyName, usize>, name: &FamilyName) -> usize {
     ranks.get(name).copied().unwrap_or(0)
 }
 
-// The nestings against the ranks, each with the nesting the other way round, if there is one.
+// The nestings against the ranks, each with the nesting in the other direction, if there is one.
 fn inversions_of(
     alloc: Global,
     families: &[FamilyGuess],
@@ -195,7 +195,7 @@ fn inversions_of(
     Ok(against)
 }
 
-/// The rules that `evidence` suggests for `program`, without what `known` has rules for.
+/// The rules that `evidence` suggests for `program`, without rules for what `known` covers.
 pub fn guess_of<'j>(
     alloc: Global,
     program: &'j Program<'j>,

@@ -4,21 +4,21 @@ use mlk_names::Root;
 use mlk_rules::{Family, Pattern, RuleLists};
 use mlk_suggest_steps::{LockRoot, Origin, Program, Unit};
 
-/// The rules that are known already, beside which others are suggested.
+/// The rules that are known already; suggestions are made in addition to them.
 #[derive(Clone, Copy, Drop)]
 pub struct KnownRules<'k> {
-    /// their lists; `None` if no rule is known
+    /// their lists; `None` if no rules are known
     pub lists: Option<&'k RuleLists>,
 }
 
-// Whether one of the patterns is of a global.
+// Whether one of the patterns is of the global `name`.
 fn have_global(patterns: &[Pattern], name: &[u8]) -> bool {
     patterns
         .iter()
         .any(|pattern| pattern.global.as_bytes() == name)
 }
 
-// Whether a family has locks with a root.
+// Whether a family has locks with a given root.
 fn has_root(family: &Family, program: &Program<'_>, root: LockRoot) -> bool {
     match (&family.name.root, root) {
         (Root::Global(name), LockRoot::Global(word)) => name.as_bytes() == program.words.text(word),
@@ -27,7 +27,7 @@ fn has_root(family: &Family, program: &Program<'_>, root: LockRoot) -> bool {
     }
 }
 
-// Whether an entry, `LABEL^ROUTINE` or `^ROUTINE`, is the place where a unit begins.
+// Whether an entry, `LABEL^ROUTINE` or `^ROUTINE`, is the place at which a unit begins.
 fn is_entry_of(entry: &[u8], unit: &Unit<'_>) -> bool {
     let Some(caret) = entry.iter().position(|byte| *byte == b'^') else {
         return false;

@@ -1,5 +1,5 @@
-//! What is decided of the evidence that a program gives: families with ranks, covers, private and readonly globals, entries, and
-//! the places that do otherwise. Nothing that is proved of a `yes` rests on this crate.
+//! The rules that the evidence of a program suggests: families with ranks, covers, private and readonly globals, entries, and
+//! the places that do not follow them. Nothing that is proved of a `yes` depends on this crate.
 #![tactic(auto)]
 
 mod candidate;

@@ -1,4 +1,4 @@
-// Which locks are claimed while which others are held.
+// The families that are claimed while others are held.
 
 use crate::family::{Families, FamilyName};
 use indexmap::IndexMap;
@@ -36,7 +36,7 @@ impl Nesting {
 /// Claims against the order of the ranks.
 #[derive(Clone, Copy, Drop)]
 pub enum Against {
-    /// claims of a lock of a lower rank while one of a higher rank is held, and those the other way round, if there are any
+    /// claims of a lock of a lower rank while one of a higher rank is held, and those in the other direction, if there are any
     Inverted(Nesting, Option<Nesting>),
     /// a claim without a timeout while another lock of the same family is held
     Second {
@@ -47,7 +47,7 @@ pub enum Against {
     },
 }
 
-// Two families, of which the first is held when the second is claimed.
+// Two families, the first of which is held when the second is claimed.
 #[derive(Clone, Copy, Drop, PartialEq, Eq, Hash)]
 struct Pair {
     held: FamilyName,
@@ -57,13 +57,13 @@ struct Pair {
 /// All nestings of claims, in the order of their first places, and claims of a second lock of one family.
 #[derive(Drop)]
 pub(crate) struct Nestings {
-    // where the nesting of a pair is in `all`
+    // the index of a pair's nesting in `all`
     places: IndexMap<Pair, usize>,
     pub(crate) all: Vec<Nesting>,
     pub(crate) seconds: Vec<Against>,
 }
 
-// Whether a claimed lock is held already, or below a held one: its claim then waits for nobody.
+// Whether a claimed lock is held already, or is below a held one: its claim then waits for no other job.
 fn is_below(held: &LockName, claimed: &LockName) -> bool {
     is_above(held, claimed.root, claimed.subscripts.as_slice())
 }
@@ -92,7 +92,7 @@ impl Nestings {
         push_sparing(&mut self.all, nesting)
     }
 
-    // Adds a claim, if a second lock of its family is held in `holding`. Returns whether it does.
+    // Adds a claim if a second lock of its family is held in `holding`. Returns whether one is.
     fn add_second(
         &mut self,
         families: &Families,
@@ -120,7 +120,7 @@ impl Nestings {
         Ok(false)
     }
 
-    // Adds a claim without a timeout, if a second lock of its family is held in one of the ways that lead to it.
+    // Adds a claim without a timeout if a second lock of its family is held in one of the ways that lead to it.
     fn add_seconds(
         &mut self,
         families: &Families,

@@ -8,9 +8,9 @@ use std::alloc::{AllocError, Global};
 /// A subscript of a rule's lock.
 #[derive(Clone, Copy, Debug, Drop, PartialEq, Eq, PartialOrd, Ord, Hash)]
 pub enum Part {
-    /// this value
+    /// a constant
     Constant(Word),
-    /// the subscript of the reference at this place, counted from 0
+    /// the subscript of the reference at this index, from 0
     Place(usize),
 }
 
@@ -21,7 +21,7 @@ pub struct LockPattern {
     pub parts: Vec<Part>,
 }
 
-// The place of a symbol among the subscripts of a reference, if it is known and there.
+// The index of a symbol among the subscripts of a reference, if it is known and there.
 fn place_in(reference: &Reference, symbol: Symbol) -> Option<usize> {
     if symbol == Symbol::Unknown {
         return None;
@@ -32,7 +32,8 @@ fn place_in(reference: &Reference, symbol: Symbol) -> Option<usize> {
         .position(|other| *other == symbol)
 }
 
-// What a subscript of a lock is in a rule for a reference: a place or a constant. If it is both, `constants_first` decides.
+// The part of a rule's lock for a subscript of a lock name at a reference: an index or a constant. If both are possible,
+// `constants_first` decides.
 fn part_of(reference: &Reference, symbol: Symbol, constants_first: bool) -> Option<Part> {
     let constant = match symbol {
         Symbol::Constant(word) => Some(Part::Constant(word)),
@@ -46,8 +47,8 @@ fn part_of(reference: &Reference, symbol: Symbol, constants_first: bool) -> Opti
 }
 
 impl LockPattern {
-    /// The lock of a rule that is `name` at `reference`; `None` if a subscript of `name` is neither a constant nor in the reference.
-    /// `constants_first` says whether a constant that is in the reference stays a constant.
+    /// The lock of a rule that is `name` at `reference`; `None` if a subscript of `name` is neither a constant nor in the
+    /// reference. `constants_first` says whether a constant that is in the reference stays a constant.
     pub(crate) fn of(
         alloc: Global,
         reference: &Reference,
@@ -67,7 +68,7 @@ impl LockPattern {
         }))
     }
 
-    /// How many subscripts a reference must have to give all those of the lock.
+    /// The number of subscripts that a reference must have to determine all subscripts of the lock.
     pub(crate) fn places(&self) -> usize {
         self.parts
             .iter()

@@ -6,10 +6,10 @@ use indexmap::IndexMap;
 use mlk_text::push_sparing;
 use std::alloc::{AllocError, Global};
 
-/// The most passes over an order in which neighbors are exchanged.
+/// The maximum number of passes over an order in which neighbors are exchanged.
 const MOST_SWEEPS: usize = 16;
 
-// A nesting, by the numbers of its families, with the weight that it has against another order.
+// A nesting, by the indexes of its families, with its weight against another order.
 #[derive(Clone, Copy, Drop)]
 struct Edge {
     held: usize,
@@ -17,18 +17,18 @@ struct Edge {
     weight: usize,
 }
 
-// A family while an order is chosen.
+// A family while an order is being chosen.
 #[derive(Clone, Copy, Drop)]
 struct Node {
     // whether it is not in the order yet
     is_left: bool,
-    // the weight of the claims of families that are left while it is held
+    // the weight of the claims of remaining families while it is held
     out: usize,
-    // the weight of its claims while families that are left are held
+    // the weight of its claims while remaining families are held
     into: usize,
 }
 
-// The families while an order is chosen.
+// The families while an order is being chosen.
 #[derive(Drop)]
 struct Left {
     nodes: Vec<Node>,
@@ -119,7 +119,7 @@ impl Left {
         }
     }
 
-    // Removes a family from those that are left.
+    // Removes a family from the remaining ones.
     fn remove(&mut self, alloc: Global, place: usize) -> Result<(), AllocError> {
         if let Some(node) = self.nodes.get_mut(place) {
             node.is_left = false;
@@ -134,14 +134,14 @@ impl Left {
         Ok(())
     }
 
-    // The last family that is left for which no other that is left is claimed while it is held.
+    // The last remaining family during which no other remaining family is claimed.
     fn sink(&self) -> Option<usize> {
         self.nodes
             .iter()
             .rposition(|node| node.is_left && node.out == 0)
     }
 
-    // The family that is left for which the weights say most clearly that it is claimed first.
+    // The remaining family that, by the weights, is most clearly claimed first.
     fn source(&self) -> Option<usize> {
         let mut best: Option<(usize, usize, usize)> = None;
         for (place, node) in self.nodes.iter().enumerate() {
@@ -204,7 +204,7 @@ impl Weights {
     }
 }
 
-// Exchanges the family at a place and the one before it, if there is more weight for that. Returns whether it does.
+// Exchanges the family at an index and the one before it if the weights favor it. Returns whether it does.
 fn exchange(weights: &Weights, order: &mut [usize], place: usize) -> bool {
     if place == 0 || place >= order.len() {
         return false;
@@ -218,7 +218,7 @@ fn exchange(weights: &Weights, order: &mut [usize], place: usize) -> bool {
     true
 }
 
-// Exchanges neighbors while there is more weight for that.
+// Exchanges neighbors as long as the weights favor it.
 fn improve(weights: &Weights, order: &mut [usize]) {
     for _ in 0..MOST_SWEEPS {
         let mut is_better = false;
@@ -233,7 +233,7 @@ fn improve(weights: &Weights, order: &mut [usize]) {
     }
 }
 
-// The place of each family in an order.
+// The index of each family in an order.
 fn places_in(alloc: Global, order: &[usize]) -> Result<Vec<usize>, AllocError> {
     let mut places = Vec::with_capacity(alloc, order.len())?;
     for _ in order {
@@ -247,8 +247,8 @@ fn places_in(alloc: Global, order: &[usize]) -> Result<Vec<usize>, AllocError> {
     Ok(places)
 }
 
-// For each family the length of the longest chain of families, each of which is claimed while the one before it is held, that
-// begins with it and keeps to the order.
+// For each family, the length of the longest chain that begins with it: families each of which is claimed while the one before it
+// is held, and that follow the order.
 fn heights_of(alloc: Global, order: &[usize], edges: &[Edge]) -> Result<Vec<usize>, AllocError> {
     let places = places_in(alloc, order)?;
     let left = Left::of(alloc, order.len(), edges)?;
@@ -270,7 +270,7 @@ fn heights_of(alloc: Global, order: &[usize], edges: &[Edge]) -> Result<Vec<usiz
     Ok(heights)
 }
 
-// The height of a family, by those of the families that come after it.
+// The height of a family, given those of the families that come after it.
 fn height_of(
     edges: Option<&Vec<Edge>>,
     places: &[usize],
@@ -292,8 +292,8 @@ fn height_of(
     height
 }
 
-/// An order for the claims of the families `names`, by their places there. The weight of the nestings against it is small, and a
-/// family with a longer chain of families below it comes earlier.
+/// An order for the claims of the families `names`, as indexes. The weight of the nestings against it is small, and a family with
+/// a longer chain of families below it comes earlier.
 pub(crate) fn order_of(
     alloc: Global,
     names: &[FamilyName],

@@ -1,4 +1,4 @@
-// How often a lock is held where a global is touched.
+// How often a lock is held at the touches of a global.
 
 use crate::place::{LockPattern, is_held};
 use mlk_names::Access;
@@ -8,25 +8,25 @@ use std::alloc::{AllocError, Global};
 /// The share of a place at which a lock is held in all ways, in thousandths.
 pub(crate) const WHOLE: usize = 1000;
 
-/// At how many writes and reads of a global a lock is held.
+/// The number of writes and reads of a global at which a lock is held.
 #[derive(Clone, Copy, Debug, Drop, PartialEq, Eq)]
 pub struct Score {
-    /// the number of places that write
+    /// the number of places that write it
     pub writes: usize,
     /// the number of those at which the lock is held in all ways
     pub writes_held: usize,
-    /// the number of places that read
+    /// the number of places that read it
     pub reads: usize,
     /// the number of those at which the lock is held in all ways
     pub reads_held: usize,
-    /// the shares of ways in which it is held at each write, added up, in thousandths
+    /// the sum of the shares of ways in which it is held at each write, in thousandths
     pub write_share: usize,
-    /// the shares of ways in which it is held at each read, added up, in thousandths
+    /// the sum of the shares of ways in which it is held at each read, in thousandths
     pub read_share: usize,
 }
 
 impl Score {
-    /// The score at no places.
+    /// The score without places.
     pub(crate) fn new() -> Score {
         Score {
             writes: 0,
@@ -65,7 +65,7 @@ impl Score {
     }
 }
 
-/// In how many of the ways that lead to `touch` the lock of a rule is held.
+/// The number of ways that lead to `touch` in which the lock of a rule is held.
 pub(crate) fn held_at(
     alloc: Global,
     evidence: &Evidence<'_>,
@@ -101,7 +101,7 @@ pub(crate) fn share_at(
     Ok(share.checked_div(touch.moments.len()).unwrap_or(0))
 }
 
-/// At how many of the `touches` of `evidence` with these places the lock of a rule is held.
+/// The number of the `touches` of `evidence`, by their indexes, at which the lock of a rule is held.
 pub(crate) fn score_of(
     alloc: Global,
     evidence: &Evidence<'_>,
@@ -118,7 +118,7 @@ pub(crate) fn score_of(
     Ok(score)
 }
 
-/// The number of `touches` that write.
+/// The number of `touches` that are writes.
 pub(crate) fn count_writes(evidence: &Evidence<'_>, touches: &[usize]) -> usize {
     let mut count: usize = 0;
     for touch in touches {

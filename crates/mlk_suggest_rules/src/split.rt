@@ -1,4 +1,4 @@
-// The parts of a global, by the constants at one of its places.
+// The parts of a global, by the constants at one of its subscripts.
 
 use crate::candidate::{candidates_of, is_plain};
 use crate::score::{WHOLE, count_writes};
@@ -8,26 +8,26 @@ use mlk_suggest_steps::{Program, Symbol, Word};
 use mlk_text::push_sparing;
 use std::alloc::{AllocError, Global};
 
-/// The most parts of a global.
+/// The maximum number of parts of a global.
 const MOST_PARTS: usize = 64;
 
-/// The touches of a global that have the same constant as one of their subscripts, by their places in the evidence.
+/// The touches of a global that have the same constant at one subscript, by their indexes in the evidence.
 #[derive(Drop)]
 pub(crate) struct GlobalPart {
     pub(crate) constant: Word,
     pub(crate) touches: Vec<usize>,
 }
 
-/// The parts of a global by the constants at one place of its subscripts, and the touches that are in no part.
+/// The parts of a global by the constants at one of its subscripts, and the touches that are in no part.
 #[derive(Drop)]
 pub(crate) struct Split {
-    /// the place, counted from 0
+    /// the index of the subscript
     pub(crate) place: usize,
     pub(crate) parts: Vec<GlobalPart>,
     pub(crate) others: Vec<usize>,
 }
 
-// Returns the number of the part of a constant, which it adds if it is missing.
+// Returns the number of the part with a constant, and adds it if it is missing.
 fn part_of(
     alloc: Global,
     parts: &mut Vec<GlobalPart>,
@@ -49,7 +49,7 @@ fn part_of(
     Ok(number)
 }
 
-// The constant that a touch has at a place, if it can be part of a rule.
+// The constant that a touch has at a subscript, if it can be part of a rule.
 fn constant_at(
     program: &Program<'_>,
     evidence: &Evidence<'_>,
@@ -63,7 +63,7 @@ fn constant_at(
     }
 }
 
-// All parts of a global at a place.
+// All parts of a global by a subscript.
 fn parts_of(
     alloc: Global,
     program: &Program<'_>,
@@ -90,8 +90,8 @@ fn parts_of(
     Ok(split)
 }
 
-/// The parts of a global by the constants at `place`, counted from 0; `None` if there are fewer than two or too many, or if more
-/// than a tenth of the touches have no constant there.
+/// The parts of a global by the constants at the subscript `place`, from 0; `None` if there are fewer than two or too many, or if
+/// more than a tenth of the touches have no constant there.
 pub(crate) fn split_at(
     alloc: Global,
     program: &Program<'_>,
@@ -106,7 +106,8 @@ pub(crate) fn split_at(
     if is_split { Ok(Some(split)) } else { Ok(None) }
 }
 
-/// How many of `touches` are explained, in thousandths: by the best lock that is held at them, or because none of them writes.
+/// How many of `touches` are explained, in thousandths: by the best lock that is held at them, or because none of them is a
+/// write.
 pub(crate) fn count_explained(
     alloc: Global,
     program: &Program<'_>,

@@ -12,7 +12,7 @@ use std::alloc::{AllocError, Global};
 pub struct Suspect {
     /// whether the place reads or writes
     pub access: Access,
-    /// the place of the cover in the list of covers, counted from 0
+    /// the index of the cover in the list of covers
     pub cover: usize,
     /// whether the lock is the cover's second
     pub is_second: bool,
@@ -21,13 +21,13 @@ pub struct Suspect {
     pub ways: usize,
     /// the number of those in which the lock is held
     pub ways_held: usize,
-    /// what is held in the first way without the lock
+    /// the held locks in the first way without the lock
     pub holding: Holding,
     /// the call of that way; `None` if a job begins with the unit
     pub from: Option<Spot>,
 }
 
-// The first way that leads to a touch in which the lock is not held.
+// The first way that leads to a touch in which the lock is not held, or `None`.
 fn first_without(
     alloc: Global,
     evidence: &Evidence<'_>,
@@ -52,11 +52,11 @@ fn first_without(
     )
 }
 
-/// A lock that a cover asks for.
+/// A lock that a cover requires.
 #[derive(Clone, Copy, Drop)]
 pub(crate) struct AskedLock<'l> {
     pub(crate) lock: &'l LockPattern,
-    /// the place of the cover in the list of covers, counted from 0
+    /// the index of the cover in the list of covers
     pub(crate) cover: usize,
     /// whether the lock is the cover's second
     pub(crate) is_second: bool,
@@ -64,7 +64,7 @@ pub(crate) struct AskedLock<'l> {
     pub(crate) has_reads: bool,
 }
 
-// Adds a touch, if the lock is missing there in some of the ways.
+// Adds a touch if the lock is missing there in some of the ways.
 fn add_suspect(
     alloc: Global,
     evidence: &Evidence<'_>,
@@ -89,7 +89,8 @@ fn add_suspect(
     push_sparing(suspects, suspect)
 }
 
-/// Adds those of the `touches` of `evidence` with these places at which the lock `asked` is missing in some of the ways that lead there.
+/// Adds those of the `touches` of `evidence`, by their indexes, at which the lock `asked` is missing in some of the ways that
+/// lead there.
 pub(crate) fn add_suspects(
     alloc: Global,
     evidence: &Evidence<'_>,

@@ -39,14 +39,14 @@ fn add_variable<'a>(
     draft.touch_variable(&variable.name, extent, access)
 }
 
-// Begins the steps that are done only where the condition holds.
+// Begins the steps that are done only if the condition holds.
 fn begin_condition<'a>(draft: &mut Draft<'a>, condition: &'a Expr) -> Result<(), AllocError> {
     draft.push(Step::Begin)?;
     add_expr(draft, condition)?;
     draft.push(Step::When(condition_of(condition)))
 }
 
-// Ends them.
+// Ends the steps that are done only if the condition holds.
 fn end_condition<'a>(draft: &mut Draft<'a>) -> Result<(), AllocError> {
     draft.push(Step::Otherwise)?;
     draft.push(Step::End)
@@ -188,7 +188,7 @@ fn add_reads<'a>(draft: &mut Draft<'a>, reads: &'a [ReadArgument]) -> Result<(),
     Ok(())
 }
 
-// Adds what is done with a target before the value that it is set to is evaluated.
+// Adds the steps of a target before the value that is assigned to it is evaluated.
 fn add_target<'a>(draft: &mut Draft<'a>, target: &'a Target) -> Result<(), AllocError> {
     match target {
         Target::Whole(variable) => add_subscripts(draft, subscripts_of(variable)),
@@ -241,7 +241,7 @@ fn add_quit<'a>(draft: &mut Draft<'a>, value: &'a Option<Box<Expr>>) -> Result<(
     draft.push(Step::Quit)
 }
 
-// Adds what a command does, apart from its condition.
+// Adds the steps of a command without its condition.
 fn add_action<'a>(draft: &mut Draft<'a>, command: &'a Command) -> Result<(), AllocError> {
     match &command.action {
         Action::Do(arguments) => add_dos(draft, command.column, arguments),
@@ -276,7 +276,7 @@ pub(crate) fn add_command<'a>(
     }
 }
 
-// Adds the steps of the values of a FOR's variable, and returns what ends the FOR.
+// Adds the steps of the values of a FOR's variable, and returns how the FOR can end.
 fn add_parameters<'a>(
     draft: &mut Draft<'a>,
     parameters: &'a [Parameter],

@@ -4,7 +4,7 @@ use crate::step::Condition;
 use mlk_syntax::{Expr, Special};
 use mlk_text::UnaryOp;
 
-/// What is known of the condition `e`: something if it is `$TEST`, `0`, `1`, or `'` before one of these.
+/// What is known of the condition `e`: it is known if it is `$TEST`, `0`, `1`, or `'` before one of these.
 pub(crate) fn condition_of(e: &Expr) -> Condition {
     match e {
         Expr::Special(Special::Test) => Condition::Test(true),

@@ -1,11 +1,11 @@
-// Where the labels of routines are.
+// The labels of routines, and their units.
 
 use crate::program::UnitId;
 use indexmap::IndexMap;
 use mlk_syntax::{Callee, Line, Routine};
 use std::alloc::{AllocError, Global};
 
-// A label of a routine; it is empty where the first line is called.
+// A label of a routine; empty if the first line is called.
 #[derive(Clone, Copy, Drop, PartialEq, Eq, Hash)]
 struct CalledLabel<'a> {
     routine: &'a [u8],
@@ -78,7 +78,7 @@ impl<'a> Directory<'a> {
         }
     }
 
-    /// The unit that `callee` names where it is called in `routine`; `None` if it is not among the routines.
+    /// The unit that `callee` names if it is called in `routine`; `None` if it is not among the routines.
     pub(crate) fn unit(&self, routine: &'a [u8], callee: &'a Callee) -> Option<UnitId> {
         let called = match &callee.routine {
             None => routine,

@@ -1,4 +1,4 @@
-// The steps of a line while they are gathered.
+// The steps of a line while they are collected.
 
 use crate::directory::Directory;
 use crate::lock_name::{LockName, Symbol};
@@ -23,7 +23,7 @@ pub(crate) struct Draft<'a> {
     /// the unit of the block below the line; `None` if there is no block
     pub(crate) block: Option<UnitId>,
     pub(crate) steps: Vec<Step<'a>>,
-    /// the locals that the line makes new
+    /// the locals that NEWs of the line create
     pub(crate) own: Vec<Word>,
 }
 
@@ -67,7 +67,7 @@ impl<'a> Draft<'a> {
         self.push(Step::Change(word))
     }
 
-    /// Adds that NEW makes the local `name` new.
+    /// Adds that NEW creates the local `name`.
     pub(crate) fn make_new(&mut self, name: &'a Name) -> Result<(), AllocError> {
         let word = self.words.add(name.as_bytes())?;
         push_sparing(&mut self.own, word)?;
@@ -147,7 +147,7 @@ impl<'a> Draft<'a> {
         Ok(names)
     }
 
-    // Where an argument of LOCK begins, which is where its first name does.
+    // The position of an argument of LOCK, which is that of its first name.
     fn lock_position(&self, argument: &LockArgument) -> Position<'a> {
         match argument.names.first() {
             Some(name) => self.at(name.column),
@@ -170,8 +170,8 @@ impl<'a> Draft<'a> {
         self.push(Step::Claim(position, claim))
     }
 
-    /// Adds a use of the variable `name`, whose subscripts' steps are there already: a touch of a global, or the change of a local
-    /// that is written.
+    /// Adds a use of the variable `name`, whose subscripts' steps are there already: a touch of a global, or the change of a
+    /// local that is written.
     pub(crate) fn touch_variable(
         &mut self,
         name: &'a Expr,

@@ -8,7 +8,7 @@ use mlk_syntax::{Actual, Expr, Function, Subscript};
 use mlk_text::{Column, Name, Op};
 use std::alloc::AllocError;
 
-/// Adds the steps of the expression `e`. Most have none.
+/// Adds the steps of the expression `e`. Most expressions have none.
 #[cycle(drafting)]
 pub(crate) fn add_expr<'a>(draft: &mut Draft<'a>, e: &'a Expr) -> Result<(), AllocError> {
     match e {
@@ -60,7 +60,7 @@ pub(crate) fn add_subscripts<'a>(
     Ok(())
 }
 
-/// Adds the steps of `actuals`, in order. One that is passed by reference has none.
+/// Adds the steps of `actuals`, in order. An actual by reference has none.
 #[cycle(drafting)]
 pub(crate) fn add_actuals<'a>(
     draft: &mut Draft<'a>,

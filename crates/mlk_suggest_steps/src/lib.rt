@@ -1,5 +1,5 @@
-//! Routines as steps: what each line touches, claims, releases, changes and calls, in the order in which it is done. A suggestion of
-//! rules is read off these. Nothing that is proved of a `yes` rests on this crate.
+//! Routines as steps: the touches, claims, releases, changes and calls of each line, in the order in which they are done. Rule
+//! suggestions are derived from these. Nothing that is proved of a `yes` depends on this crate.
 #![tactic(auto)]
 
 mod action;

@@ -11,7 +11,7 @@ use mlk_text::{LineNumber, Name, push_sparing};
 use std::alloc::{AllocError, Global};
 use std::mem;
 
-// The units so far, and the steps of the line that is looked at.
+// The units so far, and the steps of the current line.
 #[derive(Drop)]
 struct Maker<'a> {
     draft: Draft<'a>,
@@ -19,7 +19,7 @@ struct Maker<'a> {
 }
 
 impl<'a> Maker<'a> {
-    // Adds `unit`, and returns its number.
+    // Adds `unit`, and returns its id.
     fn add_unit(&mut self, unit: Unit<'a>) -> Result<UnitId, AllocError> {
         let index = self.units.len();
         push_sparing(&mut self.units, unit)?;
@@ -103,7 +103,7 @@ fn add_commands<'a>(draft: &mut Draft<'a>, commands: &'a Commands) -> Result<(),
     Ok(())
 }
 
-// Adds the units that begin at a routine's first line and labels, without their lines: calls need the numbers of all of them.
+// Adds the units that begin at a routine's first line and labels, without their lines: calls need the ids of all of them.
 fn add_label_units<'a>(maker: &mut Maker<'a>, routine: &'a Routine) -> Result<(), AllocError> {
     let name = routine.name.as_bytes();
     for (place, line) in routine.lines.iter().enumerate() {
@@ -140,7 +140,7 @@ fn add_lines<'a>(maker: &mut Maker<'a>, id: UnitId, lines: &'a [Line]) -> Result
     Ok(())
 }
 
-// Adds to the unit `id` that its last line runs into the unit `next`, unless that begins, at `line`, with a formal list.
+// Adds to the unit `id` that its last line continues into the unit `next`, unless that one begins, at `line`, with a formal list.
 fn add_next(
     maker: &mut Maker<'_>,
     id: UnitId,

@@ -1,4 +1,4 @@
-// Lock names, as they are written in a routine.
+// Lock names, as written in a routine.
 
 use crate::word::{Word, Words};
 use mlk_syntax::{Expr, Special, Subscript, Variable};
@@ -8,9 +8,9 @@ use std::alloc::{AllocError, Global};
 /// What is known of a subscript's value.
 #[derive(Clone, Copy, Debug, Drop, PartialEq, Eq, PartialOrd, Ord, Hash)]
 pub enum Symbol {
-    /// this value
+    /// a constant
     Constant(Word),
-    /// the value of this local
+    /// the value of a local
     Local(Word),
     /// the number of the job
     Job,
@@ -46,7 +46,7 @@ impl Symbol {
     }
 }
 
-/// What a lock name begins with: a global's name without its caret, or a local's.
+/// The root of a lock name: a global's name without its caret, or a local's.
 #[derive(Clone, Copy, Debug, Drop, PartialEq, Eq, PartialOrd, Ord, Hash)]
 pub enum LockRoot {
     Global(Word),

@@ -5,32 +5,32 @@ use crate::word::{Word, Words};
 use mlk_text::{LineNumber, push_sparing};
 use std::alloc::{AllocError, Global};
 
-/// A unit of a program, by its place.
+/// A unit of a program, by its index.
 #[derive(Clone, Copy, Debug, Drop, PartialEq, Eq, PartialOrd, Ord, Hash)]
 pub struct UnitId {
     pub(crate) index: usize,
 }
 
 impl UnitId {
-    /// The unit at the place `index`, counted from 0.
+    /// The unit at the index `index`.
     pub fn new(index: usize) -> UnitId {
         UnitId { index }
     }
 
-    /// The place of the unit, counted from 0.
+    /// The index of the unit.
     pub fn index(self) -> usize {
         self.index
     }
 }
 
-/// What begins a unit.
+/// The origin of a unit.
 #[derive(Clone, Copy, Drop, PartialEq, Eq)]
 pub enum Origin<'a> {
     /// the first line of a routine, whatever its label
     First,
     /// a label on a later line
     Label(&'a [u8]),
-    /// a DO without arguments on a line of the unit: this one is the block below that line
+    /// a DO without arguments on a line of the given unit: this one is the block below that line
     Block(UnitId),
 }
 
@@ -47,19 +47,19 @@ pub struct Unit<'a> {
     pub formals: Vec<Word>,
     /// whether its first line has a formal list
     pub has_formals: bool,
-    /// the locals that its NEWs make new
+    /// the locals that its NEWs create
     pub own: Vec<Word>,
-    /// the steps of each line, and at the end a call of the next unit if the last line runs into it
+    /// the steps of each line, and at the end a call of the next unit if the last line continues into it
     pub lines: Vec<Vec<Step<'a>>>,
 }
 
 impl<'a> Unit<'a> {
-    /// Whether it begins at a label or a first line, and not at a block.
+    /// Whether it begins at a label or a first line, and is not a block.
     pub fn is_labelled(&self) -> bool {
         !matches!(self.origin, Origin::Block(_))
     }
 
-    /// A unit without lines, formals and own locals, which begins at `line`.
+    /// A unit that begins at `line`, without lines, formals and own locals.
     pub(crate) fn new(
         alloc: Global,
         origin: Origin<'a>,
@@ -87,12 +87,12 @@ pub struct Program<'a> {
 }
 
 impl<'a> Program<'a> {
-    /// The unit of `id`; `None` if it is of another program.
+    /// The unit with `id`; `None` if it is of another program.
     pub fn unit(&self, id: UnitId) -> Option<&Unit<'a>> {
         self.units.get(id.index)
     }
 
-    /// For each unit those that call it, in the order of their calls. One that calls it twice may be there twice.
+    /// For each unit, those that call it, in the order of their calls. One that calls it twice may be listed twice.
     pub fn callers(&self, alloc: Global) -> Result<Vec<Vec<UnitId>>, AllocError> {
         let mut callers = Vec::with_capacity(alloc, self.units.len())?;
         for _ in &self.units {
@@ -105,7 +105,7 @@ impl<'a> Program<'a> {
     }
 }
 
-// Adds a caller of a unit, unless it is the last of those that are there.
+// Adds a caller of a unit, unless it is the last one already.
 fn add_caller(
     callers: &mut Vec<Vec<UnitId>>,
     called: UnitId,

@@ -1,4 +1,4 @@
-// What a line does, step by step.
+// The steps of a line.
 
 use crate::lock_name::{LockName, Symbol};
 use crate::program::UnitId;
@@ -6,7 +6,7 @@ use crate::word::Word;
 use mlk_names::{Access, Extent};
 use mlk_survey_trees::Position;
 
-/// A use of a global: its name without the caret, its subscripts, whether a node or a tree is touched, and how.
+/// A use of a global: its name without the caret, its subscripts, its extent and its access.
 #[derive(Drop)]
 pub struct Reference {
     pub global: Word,
@@ -18,16 +18,16 @@ pub struct Reference {
 /// What is known of a condition.
 #[derive(Clone, Copy, Debug, Drop, PartialEq, Eq)]
 pub enum Condition {
-    /// it holds where `$TEST` has this value
+    /// it holds if `$TEST` has this value
     Test(bool),
     /// it always has this value
     Always(bool),
-    /// nothing
+    /// not known
     Open,
 }
 
 impl Condition {
-    /// The condition that holds where this one does not.
+    /// The condition that holds if this one does not.
     pub fn opposite(self) -> Condition {
         match self {
             Condition::Test(is_set) => Condition::Test(!is_set),
@@ -37,20 +37,20 @@ impl Condition {
     }
 }
 
-/// What ends a FOR.
+/// How a FOR can end.
 #[derive(Clone, Copy, Debug, Drop, PartialEq, Eq)]
 pub enum Rounds {
-    /// only QUIT
+    /// only by QUIT
     Endless,
-    /// the end of its values, or QUIT
+    /// at the end of its values, or by QUIT
     Limited,
 }
 
-/// What one argument of LOCK claims.
+/// The claim of one argument of LOCK.
 #[derive(Drop)]
 pub struct Claim {
     pub names: Vec<LockName>,
-    /// whether everything that is held is released first, as by `LOCK` without a sign
+    /// whether all held locks are released first, as by `LOCK` without a sign
     pub releases_all: bool,
     pub is_timed: bool,
 }
@@ -66,14 +66,14 @@ pub enum CallKind {
     Block,
     /// JOB
     Job,
-    /// the lines before it run into it
+    /// the lines before it continue into it
     Next,
 }
 
 /// A call of a unit.
 #[derive(Drop)]
 pub struct Call {
-    /// what is called; `None` if it is not among the routines
+    /// the unit that is called; `None` if it is not among the routines
     pub unit: Option<UnitId>,
     pub kind: CallKind,
     pub actuals: Vec<Symbol>,
@@ -81,7 +81,7 @@ pub struct Call {
     pub by_reference: Vec<Word>,
 }
 
-/// A step of a line. What has no step changes neither locals nor locks.
+/// A step of a line. Everything else changes neither locals nor locks.
 #[derive(Drop)]
 pub enum Step<'a> {
     /// a use of a global, at its caret
@@ -96,17 +96,17 @@ pub enum Step<'a> {
     ChangeAll,
     /// `$TEST` may have either value, as after a READ with a timeout
     AnyTest,
-    /// the begin of a choice: of the steps up to its `End` those of one branch are done
+    /// the begin of a choice: of the steps up to its `End`, those of one branch are done
     Begin,
-    /// the begin of a branch, which is taken where the condition holds and no branch before it was taken
+    /// the begin of a branch, which is taken if the condition holds and no branch before it was taken
     When(Condition),
     /// the end of a branch
     Otherwise,
     /// the end of a choice
     End,
-    /// IF with an argument: `$TEST` becomes the condition, and the rest of the line is skipped where it does not hold
+    /// IF with an argument: `$TEST` becomes the condition, and the rest of the line is skipped if it does not hold
     If(Condition),
-    /// IF without arguments or ELSE: the rest of the line is skipped where `$TEST` does not have this value
+    /// IF without arguments, or ELSE: the rest of the line is skipped if `$TEST` does not have this value
     OnTest(bool),
     /// the begin of a FOR's rounds
     For(Rounds),

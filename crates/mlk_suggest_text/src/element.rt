@@ -12,7 +12,7 @@ pub(crate) trait InSection {
     /// The element as an inline table, in a suggestion written from `view`.
     fn element(&self, view: &View<'_>) -> Result<Vec<u8>, AllocError>;
 
-    /// The remark beside it: what speaks for it, and what makes it doubtful.
+    /// The remark beside the element: the evidence for it, and what makes it doubtful.
     fn remark(&self, view: &View<'_>) -> Result<Vec<u8>, AllocError>;
 }
 

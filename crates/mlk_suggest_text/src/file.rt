@@ -7,7 +7,7 @@ use mlk_report_text::Piece::{Made, Number, Words};
 use mlk_report_text::{escape_bytes, push_all};
 use std::alloc::AllocError;
 
-/// The most elements of a section of a rule file.
+/// The maximum number of elements of a section of a rule file.
 const MOST_ELEMENTS: usize = 1024;
 
 // Appends an element of a section with its remark.
@@ -32,7 +32,7 @@ fn push_element<T: InSection>(
     )
 }
 
-// Appends a section with its elements; those past the most that a rule file can have are comments.
+// Appends a section with its elements; those past the maximum of a rule file are comments.
 fn push_section<T: InSection>(
     text: &mut Vec<u8>,
     view: &View<'_>,
@@ -119,7 +119,7 @@ fn push_sections(text: &mut Vec<u8>, view: &View<'_>) -> Result<(), AllocError> 
     )
 }
 
-// Appends what is not decided, and which places don't keep to the rules.
+// Appends the globals that are not decided, and the places that do not follow the rules.
 fn push_lists(text: &mut Vec<u8>, view: &View<'_>) -> Result<(), AllocError> {
     let guess = view.guess;
     push_list(

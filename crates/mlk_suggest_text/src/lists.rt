@@ -1,4 +1,4 @@
-// What is listed below the rules, as comments.
+// The lists below the rules, as comments.
 
 use crate::spelling::push_comment;
 use crate::view::View;
@@ -11,12 +11,12 @@ use mlk_suggest_steps::UnitId;
 use mlk_text::Fault;
 use std::alloc::AllocError;
 
-/// The most lines of a list.
+/// The maximum number of lines of a list.
 const MOST_LINES: usize = 100;
 
-/// What has a line in a list.
+/// An item that has a line in a list.
 pub(crate) trait HasLine {
-    /// The line in a suggestion written from `view`, without its end.
+    /// The line in a suggestion written from `view`, without its terminator.
     fn line(&self, view: &View<'_>) -> Result<Vec<u8>, AllocError>;
 }
 
@@ -59,7 +59,7 @@ impl HasLine for Undecided {
 }
 
 impl<'v> View<'v> {
-    // Appends which lock is held at most writes of a global without a rule.
+    // Appends the lock that is held at most writes of a global without a rule.
     fn push_best(&self, text: &mut Vec<u8>, undecided: &Undecided) -> Result<(), AllocError> {
         let Some((lock, score)) = &undecided.best else {
             return push_all(text, &[Words("no lock that is held there fits")]);
@@ -96,7 +96,7 @@ impl<'v> View<'v> {
         push_all(text, &[Words(does), pattern, Words(" without "), lock])
     }
 
-    // Appends what is held at a place, and how it is reached.
+    // Appends the locks that are held at a place, and how it is reached.
     fn push_way(&self, text: &mut Vec<u8>, suspect: &Suspect) -> Result<(), AllocError> {
         let locks = self.tables.locks(suspect.holding);
         let held = Made(self.locks_text(locks)?);
@@ -136,7 +136,7 @@ impl HasLine for Suspect {
 }
 
 impl<'v> View<'v> {
-    // At how many places a family is claimed while another is held.
+    // The number of places at which a family is claimed while another is held.
     fn nesting(&self, nesting: &Nesting) -> Result<Vec<u8>, AllocError> {
         let held = Made(self.family(nesting.held)?);
         let claimed = Made(self.family(nesting.claimed)?);
@@ -157,7 +157,7 @@ impl<'v> View<'v> {
         )
     }
 
-    // Claims against the ranks, and those the other way round.
+    // The claims against the ranks, and those in the other direction.
     fn inversion(&self, against: &Nesting, other: &Option<Nesting>) -> Result<Vec<u8>, AllocError> {
         let mut text = self.nesting(against)?;
         let Some(other) = other else {

@@ -7,10 +7,10 @@ use mlk_suggest::Spot;
 use mlk_suggest_rules::{CoverGuess, Element, EntryGuess, EntryKind, FamilyGuess, GlobalGuess};
 use std::alloc::AllocError;
 
-/// The most other families that are named beside a family.
+/// The maximum number of other families that are named beside a family.
 const MOST_NAMED: usize = 12;
 
-/// Up to this number writes are too few for a majority.
+/// Up to this number, writes are too few for a majority.
 const FEW_WRITES: usize = 2;
 
 // The word for a number of places.
@@ -47,14 +47,14 @@ impl<'v> View<'v> {
         Ok(())
     }
 
-    /// At how many places `family` is claimed, and which families are claimed while it is held.
+    /// The number of places at which `family` is claimed, and the families that are claimed while it is held.
     pub(crate) fn family_remark(&self, family: &FamilyGuess) -> Result<Vec<u8>, AllocError> {
         let mut text = text_of(self.alloc, &[Words("claimed at "), Number(family.claims)])?;
         self.push_claimed(&mut text, family)?;
         Ok(text)
     }
 
-    /// At how many writes and reads the lock of `cover` is held.
+    /// The number of writes and reads at which the lock of `cover` is held.
     pub(crate) fn cover_remark(&self, cover: &CoverGuess) -> Result<Vec<u8>, AllocError> {
         let score = cover.score;
         let mut text = text_of(
@@ -95,7 +95,7 @@ impl<'v> View<'v> {
         Ok(())
     }
 
-    // What speaks for a private or a readonly global.
+    // The evidence for a private or readonly global.
     fn global_evidence(&self, global: &GlobalGuess) -> Result<Vec<u8>, AllocError> {
         let elements = global.pattern.elements.as_slice();
         if elements.iter().any(|element| *element == Element::Job) {
@@ -117,7 +117,7 @@ impl<'v> View<'v> {
         text_of(self.alloc, &pieces)
     }
 
-    /// What speaks for the rule of the private or readonly `global`, and what makes it doubtful.
+    /// The evidence for the rule of the private or readonly `global`, and what makes it doubtful.
     pub(crate) fn global_remark(&self, global: &GlobalGuess) -> Result<Vec<u8>, AllocError> {
         let mut text = self.global_evidence(global)?;
         if global.locked > 0 {
@@ -130,7 +130,7 @@ impl<'v> View<'v> {
         Ok(text)
     }
 
-    /// Why the label `entry` is taken as an entry.
+    /// Why the label `entry` counts as an entry.
     pub(crate) fn entry_remark(&self, entry: &EntryGuess) -> Result<Vec<u8>, AllocError> {
         let words = match &entry.kind {
             EntryKind::Job(spot) => {

@@ -8,7 +8,7 @@ use mlk_text::Failure;
 use std::alloc::Global;
 use std::marker::Model;
 
-/// The text of a rule file: bytes that `read_rules` takes.
+/// The text of a rule file: bytes that `read_rules` accepts.
 #[derive(Drop)]
 pub struct RuleText {
     bytes: Vec<u8>,
@@ -32,7 +32,7 @@ impl RuleText {
     }
 }
 
-/// The text with `bytes`, which are read as a rule file to see that they are one. An error is that of `read_rules`.
+/// The text of `bytes`, which are read as a rule file to check them. The error is that of `read_rules`.
 pub fn checked_text(alloc: Global, bytes: Vec<u8>) -> Result<RuleText, Failure<RulesFault>>
     ensures { IfOk result (λ text. IsRuleText text) }
 {

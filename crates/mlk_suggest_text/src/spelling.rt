@@ -25,7 +25,7 @@ fn quote(alloc: Global, value: &[u8]) -> Result<Vec<u8>, AllocError> {
     Ok(text)
 }
 
-/// The text `value`, which has only printable characters, as a string of TOML.
+/// The text `value`, which has only printable characters, as a TOML string.
 pub(crate) fn toml_string(alloc: Global, value: &[u8]) -> Result<Vec<u8>, AllocError> {
     let mut text = text_of(alloc, &[Words("\"")])?;
     for byte in value {
@@ -38,7 +38,7 @@ pub(crate) fn toml_string(alloc: Global, value: &[u8]) -> Result<Vec<u8>, AllocE
     Ok(text)
 }
 
-// Texts in parentheses, with commas between them; nothing if there are none.
+// Texts in parentheses, separated by commas; empty if there are none.
 fn in_parentheses(alloc: Global, texts: &[Vec<u8>]) -> Result<Vec<u8>, AllocError> {
     let mut text = Vec::new(alloc);
     if texts.is_empty() {
@@ -52,7 +52,7 @@ fn in_parentheses(alloc: Global, texts: &[Vec<u8>]) -> Result<Vec<u8>, AllocErro
     Ok(text)
 }
 
-// A local's name in small letters; `None` if it has another character than letters and digits, or if it is one of the elements
+// A local's name in small letters; `None` if it has a character other than letters and digits, or if it is one of the elements
 // before.
 fn variable_of(
     alloc: Global,
@@ -121,7 +121,7 @@ impl<'v> View<'v> {
         }
     }
 
-    /// The names of `locks` with commas between them; `nothing` if there are none.
+    /// The names of `locks`, separated by commas; `nothing` if there are none.
     pub(crate) fn locks_text(&self, locks: &[Lock]) -> Result<Vec<u8>, AllocError> {
         let mut text = Vec::new(self.alloc);
         for lock in locks {
@@ -147,7 +147,7 @@ impl<'v> View<'v> {
         text_of(self.alloc, &[root, list])
     }
 
-    // The element of a pattern at a place, after the texts of those before it.
+    // The element of a pattern at an index, given the texts of those before it.
     fn element(
         &self,
         place: usize,
@@ -199,7 +199,7 @@ impl<'v> View<'v> {
         text_of(self.alloc, &[Words("^"), global, list])
     }
 
-    // A subscript of a rule's lock, by the texts of the elements of its pattern.
+    // A subscript of a rule's lock, given the texts of the elements of its pattern.
     fn part(&self, part: Part, elements: &[Vec<u8>]) -> Result<Vec<u8>, AllocError> {
         match part {
             Part::Constant(word) => self.literal(word),
@@ -227,14 +227,14 @@ impl<'v> View<'v> {
         text_of(self.alloc, &[root, list])
     }
 
-    // The entry at which a unit begins that is no block.
+    // The entry at which a unit other than a block begins.
     fn entry_of(&self, unit: &Unit<'_>) -> Result<Vec<u8>, AllocError> {
         let label = Bytes(unit.label.unwrap_or(b""));
         text_of(self.alloc, &[label, Words("^"), Bytes(unit.routine)])
     }
 
-    /// The entry at which the unit `id` begins, as `LABEL^ROUTINE`, or `^ROUTINE` if it has no label; for a block that of the unit
-    /// around it.
+    /// The entry at which the unit `id` begins, as `LABEL^ROUTINE`, or `^ROUTINE` if it has no label; for a block, the entry of
+    /// the unit that contains it.
     pub(crate) fn entry(&self, id: UnitId) -> Result<Vec<u8>, AllocError> {
         let mut at = id;
         for _ in 0..MOST_LEVELS {
@@ -250,7 +250,7 @@ impl<'v> View<'v> {
     }
 }
 
-/// Appends `comment` as a line of a list, with those bytes escaped that a comment can't have.
+/// Appends `comment` as a line of a list, and escapes the bytes that a comment can't have.
 pub(crate) fn push_comment(
     text: &mut Vec<u8>,
     alloc: Global,

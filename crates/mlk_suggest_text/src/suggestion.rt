@@ -71,7 +71,7 @@ fn as_comments(alloc: Global, text: &[u8]) -> Result<Vec<u8>, AllocError> {
     Ok(comments)
 }
 
-// The text, which is read back. If it is not a valid rule file, which would be a bug, its lines become comments.
+// Reads the text back. If it is not a valid rule file, which would be a bug, its lines become comments.
 fn read_back(alloc: Global, text: Vec<u8>) -> Result<RuleText, AllocError>
     ensures { IfOk result (λ text. IsRuleText text) }
 {
@@ -86,8 +86,8 @@ fn read_back(alloc: Global, text: Vec<u8>) -> Result<RuleText, AllocError>
     }
 }
 
-/// The rule file that is suggested for the routines of `sources`, without what `known` has rules for. Lines are cut before what
-/// can't be read. `read_rules` has taken the text before it is returned.
+/// The rule file that is suggested for the routines of `sources`, without rules for what `known` covers. Lines are cut before the
+/// first part that can't be read. `read_rules` has accepted the text before it is returned.
 pub fn suggested_rules(
     alloc: Global,
     sources: &[RoutineText<'_>],

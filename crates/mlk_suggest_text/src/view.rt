@@ -1,4 +1,4 @@
-// What a suggestion is written from.
+// The input of a suggestion's text.
 
 use mlk_suggest::Tables;
 use mlk_suggest_read::PartlyRead;
@@ -6,7 +6,7 @@ use mlk_suggest_rules::Guess;
 use mlk_suggest_steps::Program;
 use std::alloc::Global;
 
-/// What a suggestion is written from: what was read, its program, the tables of its evidence, and the rules that are suggested.
+/// The input of a suggestion's text: what was read, its program, the tables of its evidence, and the rules that are suggested.
 #[derive(Clone, Copy, Drop)]
 pub(crate) struct View<'v> {
     pub(crate) alloc: Global,

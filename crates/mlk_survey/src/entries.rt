@@ -9,9 +9,9 @@ use std::alloc::{AllocError, Global};
 pub struct Entry<'a> {
     pub routine: &'a [u8],
     pub line: LineNumber,
-    /// none where the first line has no label
+    /// `None` if the first line has no label
     pub label: Option<&'a [u8]>,
-    /// none without a formal list
+    /// `None` without a formal list
     pub formals: Option<&'a [Name]>,
 }
 
@@ -49,7 +49,7 @@ fn add_entries<'a>(entries: &mut Vec<Entry<'a>>, routine: &'a Routine) -> Result
     Ok(())
 }
 
-/// The entries of these routines, in the order of their lines.
+/// The entries of `routines`, in the order of their lines.
 pub(crate) fn entries_of<'a>(
     alloc: Global,
     routines: &[&'a Routine],

@@ -1,4 +1,4 @@
-// What a survey finds.
+// The results of a survey.
 
 use crate::entries::{Entry, entries_of};
 use crate::given::Given;
@@ -13,41 +13,41 @@ use mlk_survey_trees::MentionAt;
 use mlk_syntax::Routine;
 use std::alloc::{AllocError, Global};
 
-/// What a survey finds. Each list is in order: of names, or of places in the routines.
+/// The results of a survey. Each list is in order: of names, or of places in the routines.
 #[derive(Drop)]
 pub struct Facts<'a> {
-    /// how many routines were read
+    /// the number of routines that were read
     pub read: usize,
-    /// those that were not, each at its first fault
+    /// those that were refused, each at its first fault
     pub refused: Vec<RefusedRoutine<'a>>,
     /// their further lines that can't be read
     pub further: Vec<RefusedRoutine<'a>>,
     /// the routines that were not read, by the code and the word of their first faults, most first
     pub refusal_counts: Vec<RefusalCount<'a>>,
-    /// what is in those that were read
+    /// the results for those that were read
     pub found: InRoutines<'a>,
 }
 
-/// What is found in the routines that were read.
+/// The results for the routines that were read.
 #[derive(Drop)]
 pub struct InRoutines<'a> {
     /// calls of labels and routines that are not given
     pub missing: Vec<MissingCall<'a>>,
-    /// calls whose actuals don't fit what they name
+    /// calls whose actuals do not fit the called line
     pub misfits: Vec<MisfitCall<'a>>,
     /// the first lines of routines, and those with formal lists
     pub entries: Vec<Entry<'a>>,
     pub globals: Vec<GlobalUse<'a>>,
-    /// what is claimed
+    /// claims, by their roots
     pub locks: Vec<LockUse<'a>>,
-    /// what is claimed under what
+    /// claims of one root while another is held
     pub orders: Vec<LockOrder<'a>>,
-    /// where a system may differ
+    /// places where an implementation may differ
     pub hazards: Vec<HazardAt<'a>>,
 }
 
 impl<'a> InRoutines<'a> {
-    /// What is in these routines, which are in the order of their names and mention this.
+    /// The results for `routines`, which are in the order of their names and contain `mentions`.
     pub(crate) fn of(
         alloc: Global,
         given: &Given<'a>,

@@ -5,7 +5,7 @@ use indexmap::IndexMap;
 use mlk_syntax::{Callee, Line, Routine};
 use std::alloc::{AllocError, Global};
 
-/// What a call names: a routine, and its label, which is empty where the first line is called.
+/// The callee of a call: a routine, and its label, which is empty if the first line is called.
 #[derive(Clone, Copy, Drop, PartialEq, Eq, PartialOrd, Ord, Hash)]
 pub struct CalledLabel<'a> {
     pub routine: &'a [u8],
@@ -13,7 +13,7 @@ pub struct CalledLabel<'a> {
 }
 
 impl<'a> CalledLabel<'a> {
-    /// What a call names that stands in a routine.
+    /// The callee of a call in the routine `routine`.
     pub(crate) fn of(routine: &'a [u8], callee: &'a Callee) -> CalledLabel<'a> {
         let called = match &callee.routine {
             None => routine,
@@ -30,7 +30,7 @@ impl<'a> CalledLabel<'a> {
     }
 }
 
-/// How many items a list of formals or of actuals has.
+/// The length of a list of formals or of actuals.
 #[derive(Clone, Copy, Debug, Drop, PartialEq, Eq)]
 pub enum ListLength {
     /// there is no list
@@ -38,16 +38,16 @@ pub enum ListLength {
     Items(usize),
 }
 
-/// What a call lacks.
+/// What is missing for a call.
 #[derive(Clone, Copy, Drop, PartialEq, Eq)]
 pub enum Lack {
     /// the routine is not given
     Routine,
-    /// the routine was read and has no such line
+    /// the routine was read, and does not have the line
     Label,
 }
 
-// What became of a routine that is given.
+// Whether a routine that is given was read.
 #[derive(Clone, Copy, Drop)]
 enum Reading {
     Read,
@@ -107,7 +107,7 @@ impl<'a> Labels<'a> {
         Ok(given)
     }
 
-    // Adds a line by one of its names.
+    // Adds a line under one of its names.
     fn add(&mut self, called: CalledLabel<'a>, line: &Line) -> Result<(), AllocError> {
         let formals = match line.formals.as_ref() {
             None => ListLength::NoList,
@@ -159,7 +159,7 @@ pub(crate) struct Given<'a> {
 }
 
 impl<'a> Given<'a> {
-    /// These routines, beside those that are refused.
+    /// The routines `routines`, which were read, and those that are refused.
     pub(crate) fn of(
         alloc: Global,
         routines: &[&'a Routine],
@@ -171,12 +171,12 @@ impl<'a> Given<'a> {
         })
     }
 
-    /// The length of the formal list of the line that a call names; `None` if there is no such line.
+    /// The length of the formal list of the called line; `None` if there is no such line.
     pub(crate) fn formals(&self, called: &CalledLabel<'a>) -> Option<ListLength> {
         self.labels.formals(called)
     }
 
-    /// What is lacking for a call of this. Nothing is known of the labels of a routine that was refused.
+    /// What is missing for a call of `called`, or `None`. The labels of a routine that was refused are not known.
     pub(crate) fn lack(&self, called: &CalledLabel<'a>) -> Option<Lack> {
         if self.labels.has(called) {
             return None;

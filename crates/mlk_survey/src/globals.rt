@@ -21,7 +21,7 @@ impl Uses {
         }
     }
 
-    // One more use.
+    // Counts one more use.
     fn add(&mut self, usage: Usage) {
         match usage {
             Usage::Read => self.reads = self.reads.saturating_add(1),
@@ -38,7 +38,7 @@ pub struct GlobalUse<'a> {
     pub uses: Uses,
 }
 
-// The globals that were met.
+// The globals that were found.
 #[derive(Drop)]
 struct Globals<'a> {
     uses: IndexMap<&'a [u8], Uses>,
@@ -51,7 +51,7 @@ impl<'a> Globals<'a> {
         }
     }
 
-    // A global is used once more.
+    // Counts one more use of a global.
     fn add(&mut self, name: &'a [u8], usage: Usage) -> Result<(), AllocError> {
         let mut uses = self.uses.get(name).copied().unwrap_or(Uses::none());
         uses.add(usage);
@@ -61,7 +61,7 @@ impl<'a> Globals<'a> {
         Ok(())
     }
 
-    // The globals by their names.
+    // The globals, by name.
     fn in_order(&self, alloc: Global) -> Result<Vec<GlobalUse<'a>>, AllocError> {
         let mut globals = Vec::with_capacity(alloc, self.uses.len())?;
         for (name, uses) in &self.uses {
@@ -77,7 +77,7 @@ impl<'a> Globals<'a> {
     }
 }
 
-/// The globals that these mentions use, by their names.
+/// The globals that `mentions` use, by name.
 pub(crate) fn globals_in<'a>(
     alloc: Global,
     mentions: &[MentionAt<'a>],

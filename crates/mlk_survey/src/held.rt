@@ -1,11 +1,11 @@
-// What is held in the text.
+// Locks that are held, judged from the text.
 
 use mlk_survey_trees::{Likeness, Mention, MentionAt, likeness_of};
 use mlk_syntax::{LockArgument, Sign, Variable};
 use mlk_text::push_sparing;
 use std::alloc::{AllocError, Global};
 
-// How many claims are taken as held at most: as many as a case of a certificate can list.
+// The maximum number of claims that are tracked: as many as a case of a certificate can list.
 const MOST_HELD: usize = 16;
 
 /// The names that are claimed and not yet released, in the order of the text.
@@ -15,19 +15,19 @@ pub(crate) struct Held<'a> {
 }
 
 impl<'a> Held<'a> {
-    /// Nothing is held.
+    /// No names.
     pub(crate) fn new(alloc: Global) -> Held<'a> {
         Held {
             names: Vec::new(alloc),
         }
     }
 
-    /// The names that are held.
+    /// The held names.
     pub(crate) fn names(&self) -> &[&'a Variable] {
         self.names.as_slice()
     }
 
-    // A name is held, if need be in place of the one that is held longest.
+    // Adds a name, if necessary in place of the one that is held longest.
     fn hold(&mut self, name: &'a Variable) -> Result<(), AllocError> {
         if self.names.len() >= MOST_HELD {
             self.names.remove(0);
@@ -35,7 +35,7 @@ impl<'a> Held<'a> {
         push_sparing(&mut self.names, name)
     }
 
-    // The names of one argument are held.
+    // Adds the names of one argument.
     fn hold_all(&mut self, names: &'a [Variable]) -> Result<(), AllocError> {
         for name in names {
             self.hold(name)?;
@@ -43,7 +43,7 @@ impl<'a> Held<'a> {
         Ok(())
     }
 
-    // The names that are written like one of these are released.
+    // Removes the names that are spelled like one of `names`.
     fn release(&mut self, names: &[Variable]) {
         for name in names {
             self.names
@@ -51,7 +51,7 @@ impl<'a> Held<'a> {
         }
     }
 
-    // What an argument of LOCK does.
+    // Applies an argument of LOCK.
     fn lock(&mut self, argument: &'a LockArgument) -> Result<(), AllocError> {
         let names = argument.names.as_slice();
         match argument.sign {
@@ -67,7 +67,7 @@ impl<'a> Held<'a> {
         }
     }
 
-    /// What a mention does. Where a label begins, nothing counts as held that was claimed before it.
+    /// Applies a mention. A label forgets everything that was claimed before it.
     pub(crate) fn meet(&mut self, at: &MentionAt<'a>) -> Result<(), AllocError> {
         match at.mention {
             Mention::Begin | Mention::Unlock => {

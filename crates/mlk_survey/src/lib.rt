@@ -1,5 +1,6 @@
-//! What a team sees of its routines before it has a rule file: what can't be read and why, what is called and not given,
-//! the entries, the globals, the claims of locks, and places where a real system may differ from the standard.
+//! What a team can learn about its routines before it has a rule file: what can't be read and why, calls of routines and lines
+//! that are not given, the entries, the globals, the claims of locks, and places where a real system may differ from the
+//! standard.
 #![tactic(auto)]
 
 mod entries;

@@ -6,7 +6,7 @@ use mlk_syntax::{LockArgument, Sign, Variable};
 use mlk_text::push_sparing;
 use std::alloc::{AllocError, Global};
 
-/// How many claims there are of names with a root.
+/// The number of claims of names with a given root.
 #[derive(Clone, Copy, Drop)]
 pub struct LockUse<'a> {
     pub root: LockRoot<'a>,
@@ -21,7 +21,7 @@ fn claimed(argument: &LockArgument) -> &[Variable] {
     }
 }
 
-// Counts the roots of these names.
+// Counts the roots of `names`.
 fn add_roots<'a>(roots: &mut Tally<LockRoot<'a>>, names: &'a [Variable]) -> Result<(), AllocError> {
     for name in names {
         if let Some(root) = LockRoot::of(name) {
@@ -31,7 +31,7 @@ fn add_roots<'a>(roots: &mut Tally<LockRoot<'a>>, names: &'a [Variable]) -> Resu
     Ok(())
 }
 
-// How often the names with each root are claimed.
+// The number of claims of each root.
 fn counted<'a>(
     alloc: Global,
     mentions: &[MentionAt<'a>],
@@ -45,7 +45,7 @@ fn counted<'a>(
     roots.in_order(alloc)
 }
 
-/// The roots of what these mentions claim, in order.
+/// The roots of the names that `mentions` claim, in order.
 pub(crate) fn locks_in<'a>(
     alloc: Global,
     mentions: &[MentionAt<'a>],

@@ -1,4 +1,4 @@
-// Calls whose actuals don't fit the formals of what they name.
+// Calls whose actuals do not fit the formals of the called line.
 
 use crate::given::{CalledLabel, Given, ListLength};
 use mlk_program::{CallSite, calls_of};
@@ -7,18 +7,18 @@ use mlk_syntax::{Line, Routine};
 use mlk_text::{LineNumber, push_sparing};
 use std::alloc::{AllocError, Global};
 
-/// A call whose actuals don't fit the formals of the line that it names: 303, once the routines are linked.
+/// A call whose actuals do not fit the formals of the called line: 303 once the routines are linked.
 #[derive(Clone, Copy, Drop)]
 pub struct MisfitCall<'a> {
     pub called: CalledLabel<'a>,
     pub position: Position<'a>,
-    /// how many actuals it has
+    /// the number of actuals
     pub actuals: ListLength,
-    /// how many formals the line has
+    /// the number of formals of the line
     pub formals: ListLength,
 }
 
-// Whether a line with this number of formals takes this number of actuals.
+// Whether a line with the given number of formals accepts the given number of actuals.
 fn takes(formals: ListLength, actuals: ListLength) -> bool {
     match (formals, actuals) {
         (ListLength::NoList, ListLength::NoList) => true,
@@ -28,7 +28,7 @@ fn takes(formals: ListLength, actuals: ListLength) -> bool {
     }
 }
 
-// A call of a line of a routine, if it doesn't fit what it names. Nothing is said of a call of what is not given.
+// A call that does not fit the called line, otherwise `None`. A call of a line that is not given is ignored.
 fn misfit<'a>(
     given: &Given<'a>,
     routine: &'a [u8],
@@ -56,7 +56,7 @@ fn misfit<'a>(
     })
 }
 
-// Adds the calls of a line that don't fit, without those of its block.
+// Adds the calls of a line that do not fit, without those of its block.
 fn add_line<'a>(
     alloc: Global,
     misfits: &mut Vec<MisfitCall<'a>>,
@@ -73,7 +73,7 @@ fn add_line<'a>(
     Ok(())
 }
 
-// Adds those of lines, each with its block.
+// Adds the calls of lines that do not fit, those of their blocks included.
 fn add_lines<'a>(
     alloc: Global,
     misfits: &mut Vec<MisfitCall<'a>>,
@@ -88,7 +88,7 @@ fn add_lines<'a>(
     Ok(())
 }
 
-/// The calls of these routines that don't fit, in the order of their places.
+/// The calls of `routines` that do not fit, in the order of their places.
 pub(crate) fn misfits_in<'a>(
     alloc: Global,
     given: &Given<'a>,

@@ -1,11 +1,11 @@
-// Calls of what is not given.
+// Calls of routines and labels that are not given.
 
 use crate::given::{CalledLabel, Given, Lack};
 use mlk_survey_trees::{Mention, MentionAt, Position};
 use mlk_text::push_sparing;
 use std::alloc::{AllocError, Global};
 
-/// Calls of what is not given: what they name, what is lacking, how many they are, and the first of them.
+/// Calls of one callee that is not given: the callee, what is missing, the number of calls, and the first of them.
 #[derive(Clone, Copy, Drop)]
 pub struct MissingCall<'a> {
     pub called: CalledLabel<'a>,
@@ -14,7 +14,7 @@ pub struct MissingCall<'a> {
     pub first: Position<'a>,
 }
 
-// A mention, where it is a call of what is not given.
+// The call at `at`, if it is one of a callee that is not given.
 fn missing<'a>(given: &Given<'a>, at: &MentionAt<'a>) -> Option<MissingCall<'a>> {
     let Mention::Call(column, callee) = at.mention else {
         return None;
@@ -31,7 +31,7 @@ fn missing<'a>(given: &Given<'a>, at: &MentionAt<'a>) -> Option<MissingCall<'a>>
     }
 }
 
-// The calls of what is not given, each by itself, in the order of what they name, the last first.
+// The calls of callees that are not given, one by one, in the order of the callees, the last first.
 fn single_calls<'a>(
     alloc: Global,
     given: &Given<'a>,
@@ -48,7 +48,7 @@ fn single_calls<'a>(
     Ok(calls)
 }
 
-// How many calls of the same are counted, where it is the last of these.
+// The number of calls of the same callee that are counted already, if it is the last of `joined`.
 fn counted_before(joined: &[MissingCall<'_>], call: &MissingCall<'_>) -> usize {
     match joined.last() {
         Some(last) if last.called == call.called => last.calls,
@@ -56,7 +56,7 @@ fn counted_before(joined: &[MissingCall<'_>], call: &MissingCall<'_>) -> usize {
     }
 }
 
-// Joins the calls of each thing into one, and keeps the last of them here.
+// Joins the calls of each callee into one, and keeps the last of them here.
 fn joined<'a>(
     alloc: Global,
     calls: Vec<MissingCall<'a>>,
@@ -75,7 +75,7 @@ fn joined<'a>(
     Ok(joined)
 }
 
-/// The calls among these mentions of what is not given, in the order of what they name.
+/// The calls among `mentions` of callees that are not given, in the order of the callees.
 pub(crate) fn missing_in<'a>(
     alloc: Global,
     given: &Given<'a>,

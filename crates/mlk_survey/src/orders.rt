@@ -7,7 +7,7 @@ use mlk_syntax::{Sign, Variable};
 use mlk_text::push_sparing;
 use std::alloc::{AllocError, Global};
 
-/// How many claims of names with one root stand, in the text, under one of a name with another that is still held there.
+/// The number of claims, in the text, of names with one root while a name with another root is held.
 #[derive(Clone, Copy, Drop)]
 pub struct LockOrder<'a> {
     pub held: LockRoot<'a>,
@@ -22,7 +22,7 @@ struct LockPair<'a> {
     claimed: LockRoot<'a>,
 }
 
-// Counts a claim under each of these names that are held.
+// Counts a claim for each name that is held.
 fn add_pairs<'a>(
     pairs: &mut Tally<LockPair<'a>>,
     held: &[&'a Variable],
@@ -36,7 +36,7 @@ fn add_pairs<'a>(
     Ok(())
 }
 
-// Counts the claims of these names, which are claimed at once.
+// Counts the claims of `names`, which are claimed at once.
 fn add_claims<'a>(
     pairs: &mut Tally<LockPair<'a>>,
     held: &[&'a Variable],
@@ -50,7 +50,7 @@ fn add_claims<'a>(
     Ok(())
 }
 
-// The names that are claimed under others: an argument without sign releases all others first.
+// The names that are claimed while others are held: an argument without sign releases all others first.
 fn claimed_under<'a>(at: &MentionAt<'a>) -> &'a [Variable] {
     match at.mention {
         Mention::Lock(argument) if argument.sign == Sign::Plus => argument.names.as_slice(),
@@ -58,7 +58,7 @@ fn claimed_under<'a>(at: &MentionAt<'a>) -> &'a [Variable] {
     }
 }
 
-// How often each root is claimed under each other.
+// How often each root is claimed while each other is held.
 fn counted<'a>(
     alloc: Global,
     mentions: &[MentionAt<'a>],
@@ -72,7 +72,7 @@ fn counted<'a>(
     pairs.in_order(alloc)
 }
 
-/// What these mentions claim under what, in order.
+/// The roots that `mentions` claim while others are held, in order.
 pub(crate) fn orders_in<'a>(
     alloc: Global,
     mentions: &[MentionAt<'a>],

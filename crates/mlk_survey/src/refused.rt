@@ -4,7 +4,7 @@ use mlk_survey_trees::Position;
 use mlk_text::{Code, Fault, push_sparing};
 use std::alloc::{AllocError, Global};
 
-/// A routine that is refused: where, by which code, and what is left out, where the code has a word for it.
+/// A routine that is refused: where, with which code, and the part of M that is not read, if the code has a word for it.
 #[derive(Clone, Copy, Drop)]
 pub struct RefusedRoutine<'a> {
     pub position: Position<'a>,
@@ -13,7 +13,7 @@ pub struct RefusedRoutine<'a> {
 }
 
 impl<'a> RefusedRoutine<'a> {
-    /// The refusal of a fault.
+    /// The refusal of `fault`.
     pub(crate) fn of(fault: &'a Fault) -> RefusedRoutine<'a> {
         let word = match &fault.left_out {
             None => None,
@@ -31,7 +31,7 @@ impl<'a> RefusedRoutine<'a> {
     }
 }
 
-/// How many routines are refused by a code and a word.
+/// The number of routines that are refused with a given code and word.
 #[derive(Clone, Copy, Drop)]
 pub struct RefusalCount<'a> {
     pub code: Code,
@@ -39,7 +39,7 @@ pub struct RefusalCount<'a> {
     pub routines: usize,
 }
 
-// The same in the order of codes and words.
+// The refused routines in the order of codes and words.
 fn by_reason<'a>(
     alloc: Global,
     refused: &[RefusedRoutine<'a>],
@@ -51,7 +51,7 @@ fn by_reason<'a>(
     Ok(ordered)
 }
 
-// How many refusals by the same code and word are counted, where they are those of the last of these.
+// The number of refusals with the same code and word that are counted already, if they are the last of `counts`.
 fn counted_before(counts: &[RefusalCount<'_>], routine: &RefusedRoutine<'_>) -> usize {
     match counts.last() {
         Some(last) if last.code == routine.code && last.word == routine.word => last.routines,
@@ -59,7 +59,7 @@ fn counted_before(counts: &[RefusalCount<'_>], routine: &RefusedRoutine<'_>) -> 
     }
 }
 
-// How many routines are refused by each code and word, in the order of these routines.
+// The number of routines that are refused with each code and word, in the order of `refused`.
 fn counted<'a>(
     alloc: Global,
     refused: &[RefusedRoutine<'a>],
@@ -80,7 +80,7 @@ fn counted<'a>(
     Ok(counts)
 }
 
-/// How many routines are refused by each code and word, most first.
+/// The number of routines that are refused with each code and word, the most frequent first.
 pub(crate) fn refusal_counts<'a>(
     alloc: Global,
     refused: &[RefusedRoutine<'a>],

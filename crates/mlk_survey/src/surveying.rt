@@ -1,4 +1,4 @@
-// A survey of routines.
+// The survey of routines.
 
 ghost use Rattle.std.specs.Prelude.{◌≡◌, ◌+◌, length, IfOk, OnOk};
 
@@ -41,7 +41,7 @@ fn parted<'a>(
     Ok((routines, refused))
 }
 
-// The same, in order.
+// `parted`, in order.
 fn parted_in_order<'a>(
     alloc: Global,
     answers: &'a [Result<Routine, Failure<Fault>>],
@@ -54,7 +54,7 @@ fn parted_in_order<'a>(
     Ok((routines, refused))
 }
 
-// The further lines that can't be read, in order.
+// The further faults, in order.
 fn further_in_order<'a>(
     alloc: Global,
     further: &'a [Fault],
@@ -67,7 +67,7 @@ fn further_in_order<'a>(
     Ok(found)
 }
 
-// What is found in these routines, which are in the order of their names, beside those that are refused.
+// The results for `routines`, which are in the order of their names, given those that are refused.
 fn found_in<'a>(
     alloc: Global,
     routines: &[&'a Routine],
@@ -78,8 +78,8 @@ fn found_in<'a>(
     InRoutines::of(alloc, &given, routines, mentions.as_slice())
 }
 
-/// What is found in the texts to which a reader gave these answers. Each text is taken by itself: one that is refused hides
-/// nothing of the others. `further` has the faults of texts that are refused behind their first ones.
+/// Surveys the texts for which a reader returned `answers`. Each text is separate: a refused one does not affect the others.
+/// `further` are the faults of refused texts after their first ones.
 pub fn survey<'a>(
     alloc: Global,
     answers: &'a [Result<Routine, Failure<Fault>>],

@@ -1,24 +1,24 @@
-// How often each thing was met.
+// Counters.
 
 use indexmap::IndexMap;
 use std::alloc::{AllocError, Global};
 use std::hash::Hash;
 
-/// How often each thing was met.
+/// A counter for each thing that was found.
 #[derive(Drop)]
 pub(crate) struct Tally<T: Eq + Hash> {
     counts: IndexMap<T, usize>,
 }
 
 impl<T: Copy + Drop + Eq + Hash + Ord> Tally<T> {
-    /// Nothing was met yet.
+    /// No counters.
     pub(crate) fn new(alloc: Global) -> Tally<T> {
         Tally {
             counts: IndexMap::new(alloc),
         }
     }
 
-    /// A thing is met once more.
+    /// Counts `thing` once more.
     pub(crate) fn add(&mut self, thing: T) -> Result<(), AllocError> {
         let count = self.counts.get(&thing).copied().unwrap_or(0);
         let Ok(_) = self.counts.insert(thing, count.saturating_add(1)) else {
@@ -27,7 +27,7 @@ impl<T: Copy + Drop + Eq + Hash + Ord> Tally<T> {
         Ok(())
     }
 
-    /// The things in their order, each with how often it was met.
+    /// The things in order, each with its count.
     pub(crate) fn in_order(&self, alloc: Global) -> Result<Vec<(T, usize)>, AllocError> {
         let mut counts = Vec::with_capacity(alloc, self.counts.len())?;
         for (thing, count) in &self.counts {

@@ -5,7 +5,7 @@ use mlk_survey::{Facts, InRoutines};
 use serde_json::{Map, Value, put};
 use std::alloc::{AllocError, Global};
 
-// Puts the values of `things`.
+// Adds the values of `things`.
 fn put_values<T: Valued>(
     object: &mut Map<String, Value>,
     alloc: Global,
@@ -15,7 +15,7 @@ fn put_values<T: Valued>(
     put(object, alloc, name, values(alloc, things)?)
 }
 
-// How many routines are read, and what is refused.
+// The number of routines that are read, and the refused ones.
 fn reading_value(alloc: Global, facts: &Facts<'_>) -> Result<Value, AllocError> {
     let mut object = Map::new(alloc);
     put(&mut object, alloc, "read", Value::from(facts.read))?;
@@ -33,7 +33,7 @@ fn reading_value(alloc: Global, facts: &Facts<'_>) -> Result<Value, AllocError> 
     Ok(Value::Object(object))
 }
 
-// What is on the lines that are read.
+// The results for the routines that are read.
 fn found_value(alloc: Global, found: &InRoutines<'_>) -> Result<Value, AllocError> {
     let mut object = Map::new(alloc);
     put_values(&mut object, alloc, "entries", &found.entries)?;
@@ -44,7 +44,7 @@ fn found_value(alloc: Global, found: &InRoutines<'_>) -> Result<Value, AllocErro
     Ok(Value::Object(object))
 }
 
-/// A survey as one JSON object, on lines with indents: the same facts as in the text, and all of them.
+/// A survey as one JSON object on indented lines: all the facts of the text, without a limit on the lists.
 pub fn survey_json(alloc: Global, facts: &Facts<'_>) -> Result<String, AllocError> {
     let mut object = Map::new(alloc);
     put(&mut object, alloc, "routines", reading_value(alloc, facts)?)?;

@@ -1,4 +1,4 @@
-//! What a survey finds, as text and as JSON.
+//! The results of a survey, as text and as JSON.
 #![tactic(auto)]
 
 mod json;

@@ -1,4 +1,4 @@
-// The line of each thing that a survey finds.
+// The text line of each thing in a survey.
 
 use mlk_hazards::HazardAt;
 use mlk_report_text::Piece::{At, Bytes, CodeName, Made, Number, Words};
@@ -11,9 +11,9 @@ use mlk_survey_trees::LockRoot;
 use mlk_text::{Code, Name};
 use std::alloc::{AllocError, Global};
 
-/// What has a line in the text.
+/// A thing that has a line in the text.
 pub(crate) trait TextLine {
-    /// The bytes of the line, without its end.
+    /// The bytes of the line, without a terminator.
     fn line(&self, alloc: Global) -> Result<Vec<u8>, AllocError>;
 }
 
@@ -103,7 +103,7 @@ impl<'a> TextLine for MisfitCall<'a> {
     }
 }
 
-// Names in parentheses, where there is a list of them.
+// Names in parentheses; empty without a list.
 fn formals_text(alloc: Global, formals: Option<&[Name]>) -> Result<Vec<u8>, AllocError> {
     let Some(names) = formals else {
         return Ok(Vec::new(alloc));

@@ -5,7 +5,7 @@ use mlk_report_text::escape_bytes;
 use mlk_survey::Facts;
 use std::alloc::{AllocError, Global};
 
-// A title with how many things there are, and a line for each of the first `most` of them.
+// Appends a title with the number of `things`, and a line for each of the first `most` of them.
 fn push_list<T: TextLine>(
     text: &mut String,
     alloc: Global,
@@ -25,7 +25,7 @@ fn push_list<T: TextLine>(
     Ok(())
 }
 
-// The same, if there are things.
+// `push_list`, if there are things.
 fn push_list_if_any<T: TextLine>(
     text: &mut String,
     alloc: Global,
@@ -39,8 +39,8 @@ fn push_list_if_any<T: TextLine>(
     push_list(text, alloc, title, things, most)
 }
 
-/// The text of a survey: a title for each list with its length, and below it a line for each of its first `most` items. What is
-/// refused comes first, hazards last. The lists of further lines and of calls that don't fit are there if they have items.
+/// The text of a survey: a title for each list with its length, and below it a line for each of its first `most` items. Refusals
+/// are first, hazards last. The lists of further lines and of calls that do not fit are included only if they have items.
 pub fn survey_text(alloc: Global, facts: &Facts<'_>, most: usize) -> Result<String, AllocError> {
     let mut text = format!(in alloc; "routines read {}\n", facts.read)?;
     push_list(&mut text, alloc, "routines refused", &facts.refused, most)?;

@@ -1,4 +1,4 @@
-// The JSON value of each thing that a survey finds.
+// The JSON value of each thing in a survey.
 
 use crate::lines::root_text;
 use mlk_hazards::HazardAt;
@@ -12,13 +12,13 @@ use mlk_text::Name;
 use serde_json::Value;
 use std::alloc::{AllocError, Global};
 
-/// What has a value in JSON.
+/// A thing that has a value in JSON.
 pub(crate) trait Valued {
     /// The value.
     fn value(&self, alloc: Global) -> Result<Value, AllocError>;
 }
 
-/// The values of these, in order.
+/// The values of `things`, in order.
 pub(crate) fn values<T: Valued>(alloc: Global, things: &[T]) -> Result<Value, AllocError> {
     let mut values = Vec::with_capacity(alloc, things.len())?;
     for thing in things {

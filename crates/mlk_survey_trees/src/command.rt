@@ -1,4 +1,4 @@
-// What commands mention.
+// The mentions in commands.
 
 use crate::expr::{Runs, in_expr, in_exprs, in_subscripts};
 use crate::lock_name::subscripts_of;
@@ -10,9 +10,9 @@ use mlk_syntax::{
 use mlk_text::push_sparing;
 use std::alloc::AllocError;
 
-/// What may hold mentions.
+/// A part of a tree that may contain mentions.
 pub(crate) trait HasMentions {
-    /// Adds what it mentions.
+    /// Adds its mentions.
     fn find<'a>(&'a self, found: &mut Vec<Mention<'a>>) -> Result<(), AllocError>;
 }
 
@@ -38,7 +38,7 @@ impl<T: HasMentions> HasMentions for Box<T> {
     }
 }
 
-// Adds what each of these mentions.
+// Adds the mentions in each of `items`.
 fn find_all<'a, T: HasMentions>(
     found: &mut Vec<Mention<'a>>,
     items: &'a [T],
@@ -61,7 +61,7 @@ impl<T: HasMentions> HasMentions for Several<T> {
     }
 }
 
-// Adds a use of a variable, where it is a global.
+// Adds a use of a variable if it is a global.
 fn add_use<'a>(
     found: &mut Vec<Mention<'a>>,
     variable: &'a Variable,
@@ -75,7 +75,7 @@ fn add_use<'a>(
     }
 }
 
-// Adds a use of a variable, and what its subscripts mention.
+// Adds a use of a variable, and the mentions in its subscripts.
 fn find_use<'a>(
     found: &mut Vec<Mention<'a>>,
     variable: &'a Variable,
@@ -182,7 +182,7 @@ impl HasMentions for WriteArgument {
     }
 }
 
-// Adds what the arguments of LOCK mention.
+// Adds the mentions in the arguments of LOCK.
 fn in_lock<'a>(found: &mut Vec<Mention<'a>>, locks: &'a [LockArgument]) -> Result<(), AllocError> {
     if locks.is_empty() {
         return push_sparing(found, Mention::Unlock);
@@ -190,7 +190,7 @@ fn in_lock<'a>(found: &mut Vec<Mention<'a>>, locks: &'a [LockArgument]) -> Resul
     find_all(found, locks)
 }
 
-// Adds what the arguments of JOB mention.
+// Adds the mentions in the arguments of JOB.
 fn in_jobs<'a>(found: &mut Vec<Mention<'a>>, calls: &'a [Call]) -> Result<(), AllocError> {
     for call in calls {
         call.find(found)?;
@@ -247,7 +247,7 @@ impl HasMentions for Control {
     }
 }
 
-/// Adds what the commands of a line mention.
+/// Adds the mentions in the commands of a line.
 pub(crate) fn in_commands<'a>(
     found: &mut Vec<Mention<'a>>,
     commands: &'a Commands,

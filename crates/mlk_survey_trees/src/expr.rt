@@ -1,19 +1,19 @@
-// What expressions mention: uses of globals, and calls.
+// The mentions in expressions: uses of globals, and calls.
 
 use crate::mention::{Mention, Usage};
 use mlk_syntax::{Actual, Callee, Expr, Function, Subscript};
 use mlk_text::{Column, Op, Relation, push_sparing};
 use std::alloc::AllocError;
 
-/// Whether an expression is evaluated wherever the command is run that it stands in.
+/// Whether an expression is evaluated whenever its command runs.
 #[derive(Clone, Copy, Drop, PartialEq, Eq)]
 pub(crate) enum Runs {
     Surely,
-    /// it stands right of an operator that may skip it
+    /// it is to the right of an operator that may skip it
     Perhaps,
 }
 
-// Whether what stands right of an operator is evaluated.
+// Whether the right operand of `op` is evaluated.
 fn right_of(op: Op, runs: Runs) -> Runs {
     match op {
         Op::Is(Relation::And | Relation::Or) | Op::IsNot(Relation::And | Relation::Or) => {
@@ -23,7 +23,7 @@ fn right_of(op: Op, runs: Runs) -> Runs {
     }
 }
 
-/// Adds what an expression mentions. Most have no parts that could mention anything.
+/// Adds the mentions in `e`. Most expressions have no parts that could contain one.
 #[cycle(surveying)]
 #[inline(always)]
 pub(crate) fn in_expr<'a>(
@@ -79,7 +79,7 @@ fn add_call<'a>(
     Ok(())
 }
 
-/// Adds what each of these mentions.
+/// Adds the mentions in each of `es`.
 #[cycle(surveying)]
 pub(crate) fn in_exprs<'a>(
     found: &mut Vec<Mention<'a>>,
@@ -92,7 +92,7 @@ pub(crate) fn in_exprs<'a>(
     Ok(())
 }
 
-// The arguments of $NAME, the first of which names a node that is not read.
+// Adds the mentions in the arguments of $NAME, the first of which names a node that is not read.
 #[cycle(surveying)]
 fn in_spelled<'a>(
     found: &mut Vec<Mention<'a>>,
@@ -108,7 +108,7 @@ fn in_spelled<'a>(
     }
 }
 
-/// Adds what subscripts mention.
+/// Adds the mentions in `subscripts`.
 #[cycle(surveying)]
 pub(crate) fn in_subscripts<'a>(
     found: &mut Vec<Mention<'a>>,

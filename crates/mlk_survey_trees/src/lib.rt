@@ -1,4 +1,4 @@
-//! What a survey asks of the trees of routines: what their lines mention, and where.
+//! The mentions in the trees of routines that a survey collects, and where they are.
 #![tactic(auto)]
 
 mod command;

@@ -6,7 +6,7 @@ use mlk_syntax::{Line, Routine};
 use mlk_text::push_sparing;
 use std::alloc::{AllocError, Global};
 
-// What a line mentions, without its block.
+// The mentions in a line, without its block.
 fn line_mentions<'a>(alloc: Global, line: &'a Line) -> Result<Vec<Mention<'a>>, AllocError> {
     let mut found = Vec::new(alloc);
     if line.label.is_some() {
@@ -16,7 +16,7 @@ fn line_mentions<'a>(alloc: Global, line: &'a Line) -> Result<Vec<Mention<'a>>, 
     Ok(found)
 }
 
-// Adds what a line mentions, without its block.
+// Adds the mentions in a line, without its block.
 fn add_line<'a>(
     alloc: Global,
     found: &mut Vec<MentionAt<'a>>,
@@ -34,7 +34,7 @@ fn add_line<'a>(
     Ok(())
 }
 
-// Adds what lines mention, each with its block.
+// Adds the mentions in lines, each with its block.
 fn add_lines<'a>(
     alloc: Global,
     found: &mut Vec<MentionAt<'a>>,
@@ -48,7 +48,7 @@ fn add_lines<'a>(
     Ok(())
 }
 
-// Adds the begin of a routine, and what its lines mention.
+// Adds the begin of a routine, and the mentions in its lines.
 fn add_routine<'a>(
     alloc: Global,
     found: &mut Vec<MentionAt<'a>>,
@@ -67,7 +67,7 @@ fn add_routine<'a>(
     add_lines(alloc, found, name, routine.lines.as_slice())
 }
 
-/// What these routines mention, in the order of their lines.
+/// The mentions in `routines`, in the order of their lines.
 pub fn mentions_of<'a>(
     alloc: Global,
     routines: &[&'a Routine],

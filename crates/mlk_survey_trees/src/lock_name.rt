@@ -1,9 +1,9 @@
-// The names of locks: what they begin with, and whether two of them are one.
+// Lock names: their roots, and whether two of them are equal.
 
 use mlk_syntax::{Expr, Subscript, Variable};
 use mlk_text::Op;
 
-/// What a lock name begins with: a local's name, or a global's without its caret.
+/// The root of a lock name: a local's name, or a global's without its caret.
 #[derive(Clone, Copy, Drop, PartialEq, Eq, PartialOrd, Ord, Hash)]
 pub enum LockRoot<'a> {
     Global(&'a [u8]),
@@ -11,7 +11,7 @@ pub enum LockRoot<'a> {
 }
 
 impl<'a> LockRoot<'a> {
-    /// The root of a lock name.
+    /// The root of the lock name `name`, or `None` if it is neither a local nor a global.
     pub fn of(name: &'a Variable) -> Option<LockRoot<'a>> {
         match &name.name {
             Expr::Local(local, _) => Some(LockRoot::Local(local.as_bytes())),
@@ -21,18 +21,18 @@ impl<'a> LockRoot<'a> {
     }
 }
 
-/// What the text tells of two names of locks.
+/// How two lock names compare, as far as the text shows.
 #[derive(Clone, Copy, Drop, PartialEq, Eq)]
 pub enum Likeness {
     /// they are surely different
     Different,
-    /// they are one or not
+    /// they may be equal
     Perhaps,
-    /// they are written alike
+    /// they are spelled alike
     Same,
 }
 
-// Whether two expressions without parts are written alike.
+// Whether two expressions without parts are spelled alike.
 fn are_leaves_alike(e: &Expr, other: &Expr) -> bool {
     match (e, other) {
         (Expr::Lit(value), Expr::Lit(another)) => *value == *another,
@@ -42,7 +42,7 @@ fn are_leaves_alike(e: &Expr, other: &Expr) -> bool {
     }
 }
 
-// Whether two expressions are written alike. A `$SELECT` and a call are like nothing.
+// Whether two expressions are spelled alike. A `$SELECT` and a call are like nothing else.
 #[cycle(alike)]
 fn are_alike(e: &Expr, other: &Expr) -> bool {
     match e {
@@ -131,7 +131,7 @@ pub(crate) fn subscripts_of(variable: &Variable) -> &[Subscript] {
     }
 }
 
-// Whether these are two constants that differ.
+// Whether both are constants, and differ.
 fn differ(subscript: &Subscript, other: &Subscript) -> bool {
     match (&subscript.value, &other.value) {
         (Expr::Lit(value), Expr::Lit(another)) => *value != *another,
@@ -139,7 +139,7 @@ fn differ(subscript: &Subscript, other: &Subscript) -> bool {
     }
 }
 
-// Whether two different constants stand in one place.
+// Whether two different constants are at the same index.
 fn have_different_constants(subscripts: &[Subscript], others: &[Subscript]) -> bool {
     subscripts
         .iter()
@@ -147,7 +147,7 @@ fn have_different_constants(subscripts: &[Subscript], others: &[Subscript]) -> b
         .any(|(subscript, other)| differ(subscript, other))
 }
 
-/// What the text tells of two names of locks.
+/// How two lock names compare, as far as the text shows.
 pub fn likeness_of(name: &Variable, other: &Variable) -> Likeness {
     if LockRoot::of(name) != LockRoot::of(other) {
         return Likeness::Different;

@@ -1,10 +1,10 @@
-// What a survey asks for.
+// The mentions that a survey collects.
 
 use crate::position::Position;
 use mlk_syntax::{Callee, LockArgument};
 use mlk_text::{Column, LineNumber, Name};
 
-/// What a command does with a global.
+/// How a command uses a global.
 #[derive(Clone, Copy, Drop)]
 pub enum Usage {
     Read,
@@ -12,7 +12,7 @@ pub enum Usage {
     Kill,
 }
 
-/// Something in the text of a routine that a survey asks for.
+/// Something in the text of a routine that a survey collects.
 #[derive(Clone, Copy, Drop)]
 pub enum Mention<'a> {
     /// a routine or a label begins
@@ -21,9 +21,9 @@ pub enum Mention<'a> {
     Global(Column, &'a Name, Usage),
     /// a call, and the column where it begins
     Call(Column, &'a Callee),
-    /// a call by which a job begins, by the column where it begins; it is mentioned as a call too
+    /// a call that begins a job, with the column where it begins; it is mentioned as a call too
     Job(Column),
-    /// an extrinsic call that a system may skip, by the column where it begins
+    /// an extrinsic call that an implementation may skip, with the column where it begins
     SkippedCall(Column),
     /// an argument of LOCK
     Lock(&'a LockArgument),
@@ -31,7 +31,7 @@ pub enum Mention<'a> {
     Unlock,
 }
 
-/// A mention, and the line on which it stands.
+/// A mention, with its line.
 #[derive(Clone, Copy, Drop)]
 pub struct MentionAt<'a> {
     pub routine: &'a [u8],
@@ -40,7 +40,7 @@ pub struct MentionAt<'a> {
 }
 
 impl<'a> MentionAt<'a> {
-    /// The place in its line with this column.
+    /// The place at `column` of the mention's line.
     pub fn at(&self, column: Column) -> Position<'a> {
         Position {
             routine: self.routine,

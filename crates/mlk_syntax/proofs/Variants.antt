@@ -1,4 +1,4 @@
--- The trees of the code's values, one level taken apart.
+-- The trees of the code's values, taken apart by one level.
 use Rattle.std.proofs.Common.{◌≡◌, ℕ, List, Some, Vec, Box, Global, sym, ap, ◌∙◌}
 use Rattle.mlk_syntax.specs.declared.expr.Callee.{Callee}
 use Rattle.mlk_syntax.specs.declared.expr.Function.{Function}

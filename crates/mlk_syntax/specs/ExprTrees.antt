@@ -1,4 +1,4 @@
--- Syntax trees without where they lie in memory. This project's own.
+-- Syntax trees, without their representation in memory. This project's own.
 use Rattle.std.specs.Prelude.{ℕ, suc, List, [], ◌∷◌, map, Option, Some, None, option_map}
 use Rattle.mlk_text.specs.declared.operator.Op.{Op}
 use Rattle.mlk_text.specs.declared.operator.UnaryOp.{UnaryOp}
@@ -51,7 +51,7 @@ mutual
     no_actuals : Actuals
     actual : (a : ActualTree) → (rest : Actuals) → Actuals
 
--- how many subscripts stand in a list of them, and an actual list as a list
+-- the number of subscripts, and an actual list as a list
 abbrev pub count_subs : Subs → ℕ
 count_subs no_subs = 0
 count_subs (sub column t rest) = suc (count_subs rest)

@@ -1,4 +1,4 @@
--- Syntax trees of routines without where they lie in memory. A `column` is that of the first byte, counted from 1. This
+-- Syntax trees of routines, without their representation in memory. A `column` is that of the first byte, counted from 1. This
 -- project's own.
 use Rattle.std.specs.Prelude.{ℕ, List, Option}
 use Rattle.mlk_syntax.specs.declared.expr.Callee.{Callee}
@@ -10,40 +10,40 @@ use Rattle.mlk_syntax.specs.declared.command.Part.{Part}
 pub data VariableTree : Type 0 where
   Named : (column : ℕ) → (name : Tree) → VariableTree
 
--- what DO and JOB call; without an actual list there are no actuals, not even an empty list of them
+-- a call by DO or JOB; `None` is no actual list, an empty list is `()`
 pub data CallTree : Type 0 where
   Called : (column : ℕ) → (callee : Callee) → (actuals : Option (List ActualTree)) → CallTree
 
--- a call of DO, with its own postconditional
+-- an argument of DO, with its own postconditional
 pub data DoTree : Type 0 where
   DoCall : (call : CallTree) → (condition : Option Tree) → DoTree
 
--- what KILL removes: one, or all locals but these
+-- an argument of KILL: one variable, or all locals except these
 pub data KillTree : Type 0 where
   KillOne : (variable : VariableTree) → KillTree
   KillAllBut : (names : List (List ℕ)) → KillTree
 
--- what NEW makes new: one, or all locals but these
+-- an argument of NEW: one name, or all locals except these
 pub data NewTree : Type 0 where
   NewOne : (column : ℕ) → (name : List ℕ) → NewTree
   NewAllBut : (names : List (List ℕ)) → NewTree
 
--- what LOCK claims or releases
+-- an argument of LOCK
 pub data LockTree : Type 0 where
   LockNames : (sign : Sign) → (names : List VariableTree) → (timeout : Option Tree) → LockTree
 
 pub data MergeTree : Type 0 where
   MergeInto : (target source : VariableTree) → MergeTree
 
--- a prompt; a format with the expression after its `?`; a local with the length that is read at most and a timeout; a
--- local that is given the number of one character, with a timeout
+-- a prompt; a format with the expression after its `?`; a local with the maximum length to read and a timeout; a local that
+-- receives the code of one character, with a timeout
 pub data ReadTree : Type 0 where
   ReadText : (prompt : List ℕ) → ReadTree
   ReadFormat : (tab : Option Tree) → ReadTree
   ReadLine : (variable : VariableTree) → (most timeout : Option Tree) → ReadTree
   ReadCharacter : (variable : VariableTree) → (timeout : Option Tree) → ReadTree
 
--- a variable, or the part of its value that a function of these further arguments names
+-- a variable, or the part of its value that a function with these further arguments selects
 pub data TargetTree : Type 0 where
   SetWhole : (variable : VariableTree) → TargetTree
   SetPart : (part : Part) → (variable : VariableTree) → (arguments : List Tree) → TargetTree
@@ -51,13 +51,13 @@ pub data TargetTree : Type 0 where
 pub data SetTree : Type 0 where
   SetTo : (targets : List TargetTree) → (value : Tree) → SetTree
 
--- a value; a character by its number; a format with the expression after its `?`
+-- a value; a character by its code; a format with the expression after its `?`
 pub data WriteTree : Type 0 where
   WriteValue : (value : Tree) → WriteTree
   WriteCharacter : (value : Tree) → WriteTree
   WriteFormat : (tab : Option Tree) → WriteTree
 
--- what a command does; where it may stand without arguments, an empty list is none
+-- what a command does; if it may have no arguments, an empty list means none
 pub data ActionTree : Type 0 where
   Do : (calls : List DoTree) → ActionTree
   Else : ActionTree
@@ -74,22 +74,22 @@ pub data ActionTree : Type 0 where
   Set : (sets : List SetTree) → ActionTree
   Write : (writes : List WriteTree) → ActionTree
 
--- a command but FOR: the column of its word, its postconditional, what it does
+-- a command other than FOR: the column of its word, its postconditional, its action
 pub data CommandTree : Type 0 where
   Does : (column : ℕ) → (condition : Option Tree) → (action : ActionTree) → CommandTree
 
--- a value; a start and a step without an end; these and a limit
+-- a value; a start and a step without a limit; a start, a step and a limit
 pub data ParameterTree : Type 0 where
   Once : (value : Tree) → ParameterTree
   Endless : (start step : Tree) → ParameterTree
   Limited : (start step limit : Tree) → ParameterTree
 
--- FOR's variable with the column of its name, and what it runs through
+-- FOR's variable with the column of its name, and its parameters
 pub data ControlTree : Type 0 where
   Runs : (column : ℕ) → (variable : List ℕ) → (parameters : List ParameterTree) → ControlTree
 
--- commands; after a FOR, which has the column of its word and is the `index`th of its line, stands what it holds: the
--- rest of the line
+-- commands; a FOR, which has the column of its word and is the `index`th of its line, is followed by the rest of the line, which
+-- it contains
 pub data CommandTrees : Type 0 where
   finished : CommandTrees
   then_command : (first : CommandTree) → (rest : CommandTrees) → CommandTrees

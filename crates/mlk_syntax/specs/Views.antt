@@ -105,7 +105,7 @@ parameter_of (parameter.Limited t u v) = Limited (tree_of t) (tree_of u) (tree_o
 abbrev pub control_of : Control → ControlTree
 control_of c = Runs c.column c.variable (map parameter_of c.parameters.items)
 
--- commands: those before the first FOR, and what that FOR holds
+-- commands: those before the first FOR, and that FOR with the rest of the line
 abbrev pub commands_from : List CommandTree → CommandTrees → CommandTrees
 commands_from [] last = last
 commands_from (c ∷ before) last = then_command c (commands_from before last)

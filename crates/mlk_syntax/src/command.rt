@@ -4,15 +4,15 @@ use crate::expr::{Actual, Callee, Expr};
 use crate::several::Several;
 use mlk_text::{Column, List, Name, Value};
 
-/// A local or a global with its subscripts, as a command names it, and the column where it begins.
+/// A local or a global with its subscripts, as an argument of a command, and the column where it begins.
 #[derive(Drop)]
 pub struct Variable {
     pub column: Column,
     pub name: Expr,
 }
 
-/// What DO and JOB call, and the column where it begins. Without an actual list there are no actuals, not even an empty
-/// list of them.
+/// The label, routine and actuals of a call by DO or JOB, and the column where it begins. `actuals` is `None` if there is no
+/// actual list; `()` is an empty one.
 #[derive(Drop)]
 pub struct Call {
     pub column: Column,
@@ -20,40 +20,40 @@ pub struct Call {
     pub actuals: Option<Vec<Actual>>,
 }
 
-/// A call of DO, with its own postconditional.
+/// An argument of DO, with its own postconditional.
 #[derive(Drop)]
 pub struct DoArgument {
     pub call: Call,
     pub condition: Option<Expr>,
 }
 
-/// What KILL removes.
+/// An argument of KILL.
 #[derive(Drop)]
 pub enum KillArgument {
     One(Variable),
-    /// all locals but these
+    /// all locals except these
     AllBut(List<Name>),
 }
 
-/// What NEW makes new.
+/// An argument of NEW.
 #[derive(Drop)]
 pub enum NewArgument {
-    /// with the column of the name
+    /// a name, with its column
     One(Column, Name),
-    /// all locals but these
+    /// all locals except these
     AllBut(List<Name>),
 }
 
-/// What stands before the names of LOCK.
+/// The sign before the names of LOCK.
 #[derive(Clone, Copy, Debug, Drop, PartialEq, Eq)]
 pub enum Sign {
-    /// nothing: all that is held is released before the claim
+    /// no sign: all held locks are released before the claim
     None,
     Plus,
     Minus,
 }
 
-/// What LOCK claims or releases, with its timeout. Parentheses round one name leave no node.
+/// An argument of LOCK, with its timeout. Parentheses around a single name leave no node.
 #[derive(Drop)]
 pub struct LockArgument {
     pub sign: Sign,
@@ -67,68 +67,68 @@ pub struct MergeArgument {
     pub source: Variable,
 }
 
-/// What READ writes or reads.
+/// An argument of READ.
 #[derive(Drop)]
 pub enum ReadArgument {
     /// a prompt
     Text(Value),
     /// a format, with the expression after its `?`
     Format(Option<Expr>),
-    /// a line: the local, the length that is read at most, the timeout
+    /// a line: the local, the maximum length to read, the timeout
     Line(Variable, Option<Expr>, Option<Expr>),
-    /// one character's number, after `*`: the local and the timeout
+    /// a character code, after `*`: the local and the timeout
     Character(Variable, Option<Expr>),
 }
 
-/// The function of a target that is part of a value.
+/// The function of a target that is a part of a variable's value.
 #[derive(Clone, Copy, Debug, Drop, PartialEq, Eq)]
 pub enum Part {
     Piece,
     Extract,
 }
 
-/// What SET assigns to.
+/// A target of SET.
 #[derive(Drop)]
 pub enum Target {
     Whole(Variable),
-    /// part of a variable's value, with the arguments after its name
+    /// a part of a variable's value, with the arguments after the variable
     Part(Part, Box<Variable>, Vec<Expr>),
 }
 
-/// The targets of SET and their value. Parentheses round one target leave no node.
+/// The targets of SET and their value. Parentheses around a single target leave no node.
 #[derive(Drop)]
 pub struct SetArgument {
     pub targets: Several<Target>,
     pub value: Expr,
 }
 
-/// What WRITE writes.
+/// An argument of WRITE.
 #[derive(Drop)]
 pub enum WriteArgument {
     Value(Expr),
-    /// a character by its number, after `*`
+    /// a character by its code, after `*`
     Character(Expr),
     /// a format, with the expression after its `?`
     Format(Option<Expr>),
 }
 
-/// What a command does. Where a command may stand without arguments, it has an empty list of them.
+/// What a command does. A command that may have no arguments then has an empty list.
 #[derive(Drop)]
 pub enum Action {
-    /// without arguments the block under the line
+    /// without arguments: the block under the line
     Do(Vec<DoArgument>),
     Else,
     Halt,
     Hang(Vec<Expr>),
-    /// without arguments `$TEST` is asked
+    /// without arguments: by `$TEST`
     If(Vec<Expr>),
     Job(Vec<Call>),
-    /// without arguments all locals
+    /// without arguments: all locals
     Kill(Vec<KillArgument>),
-    /// without arguments all locks are released
+    /// without arguments: releases all locks
     Lock(Vec<LockArgument>),
     Merge(Vec<MergeArgument>),
-    /// without arguments all locals
+    /// without arguments: all locals
     New(Vec<NewArgument>),
     Quit(Option<Box<Expr>>),
     Read(Vec<ReadArgument>),
@@ -136,7 +136,7 @@ pub enum Action {
     Write(Vec<WriteArgument>),
 }
 
-/// A command but FOR: the column of its word, its postconditional, what it does.
+/// A command other than FOR: the column of its word, its postconditional, its action.
 #[derive(Drop)]
 pub struct Command {
     pub column: Column,
@@ -144,17 +144,17 @@ pub struct Command {
     pub action: Action,
 }
 
-/// What FOR's variable runs through.
+/// A parameter of FOR: the values that its variable takes.
 #[derive(Drop)]
 pub enum Parameter {
     Once(Expr),
-    /// from a value by steps, without an end
+    /// start and step, without a limit
     Endless(Expr, Expr),
-    /// from a value by steps to a limit
+    /// start, step and limit
     Limited(Expr, Expr, Expr),
 }
 
-/// FOR's variable, with the column of its name, and what it runs through.
+/// FOR's variable, with the column of its name, and its parameters.
 #[derive(Drop)]
 pub struct Control {
     pub column: Column,
@@ -162,7 +162,7 @@ pub struct Control {
     pub parameters: Vec<Parameter>,
 }
 
-/// The commands of a line, or of what is left of it: all before the first FOR, and that FOR, if there is one.
+/// The commands of a line, or of the rest of one: all before the first FOR, and that FOR, if there is one.
 #[derive(Drop)]
 #[cycle(commands)]
 pub struct Commands {
@@ -170,15 +170,15 @@ pub struct Commands {
     pub last: Option<Box<For>>,
 }
 
-/// A FOR holds the rest of its line.
+/// A FOR with the rest of its line.
 #[derive(Drop)]
 #[cycle(commands)]
 pub struct For {
     /// the column of its word
     pub column: Column,
-    /// which FOR of its line it is, counted from 1
+    /// the number of this FOR in its line, counted from 1
     pub index: usize,
-    /// none where it has no argument
+    /// `None` if it has no argument
     pub control: Option<Control>,
     pub rest: Commands,
 }

@@ -19,7 +19,7 @@ pub enum Special {
     Y,
 }
 
-/// A function of one or more arguments; `$SELECT` has a tree of its own.
+/// A function of one or more arguments; `$SELECT` has its own kind of node.
 #[derive(Clone, Copy, Debug, Drop, PartialEq, Eq)]
 pub enum Function {
     Ascii,
@@ -42,7 +42,7 @@ pub enum Function {
     Translate,
 }
 
-/// What a call names: a label, a routine, or both. A label may be digits.
+/// The label of a call, its routine, or both. A label may be digits.
 #[derive(Drop, Debug)]
 pub struct Callee {
     pub label: Option<Name>,
@@ -57,14 +57,14 @@ pub struct Subscript {
     pub value: Expr,
 }
 
-/// What stands in an actual list.
+/// An item of an actual list.
 #[derive(Drop)]
 #[cycle(syntax)]
 pub enum Actual {
     Value(Expr),
     /// a name after a point, with the column of the point
     ByRef(Column, Name),
-    /// nothing
+    /// an empty item
     Missing,
 }
 
@@ -74,20 +74,20 @@ pub enum Actual {
 pub enum Expr {
     /// the value of a string literal, or the canonical text of a numeric one
     Lit(Value),
-    /// a numeric literal without a canonical text: it may denote any value
+    /// a numeric literal without a canonical text: its value is unknown
     Free,
     Local(Name, Vec<Subscript>),
-    /// with the column of its `^`
+    /// a global, with the column of its `^`
     Global(Column, Name, Vec<Subscript>),
     Special(Special),
     Unary(UnaryOp, Box<Expr>),
-    /// The first operand, and each further one after its operator. It means the tree that is assigned from the left.
+    /// The first operand, and each further operand with the operator before it. It denotes the left-associative tree.
     Binary(Box<Expr>, Vec<(Op, Expr)>),
-    /// the atoms of a pattern as they are written: the operand of `?` and `'?` alone
+    /// the atoms of a pattern, as written: only as the operand of `?` and `'?`
     Pattern(Value),
     Func(Function, Vec<Expr>),
     /// the conditions of `$SELECT`, each with its value
     Select(Vec<(Expr, Expr)>),
-    /// with the column of its `$$`; without an actual list there are no actuals, not even an empty list of them
+    /// a call, with the column of its `$$`; `None` if there is no actual list, `()` is an empty one
     Call(Column, Box<Callee>, Option<Vec<Actual>>),
 }

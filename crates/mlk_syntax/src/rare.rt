@@ -1,11 +1,11 @@
-// What is seldom there.
+// Optional items that are seldom present.
 
 ghost use Rattle.std.specs.Prelude.{◌≡◌, IfOk, is_some, option_copied};
 
 use std::alloc::{AllocError, Global};
 use std::marker::Model;
 
-/// An item, or none, as mostly: then it takes as little room as a reference. A contract sees the item or none.
+/// An item that is usually absent. It takes no more room than a reference. A contract sees the optional item.
 #[derive(Drop)]
 pub struct Rare<T> {
     kept: Option<Box<T>>,
@@ -23,7 +23,7 @@ impl<T> Model for Rare<T> {
 }
 
 impl<T> Rare<T> {
-    /// The item, or none.
+    /// Stores `item`.
     pub fn of(alloc: Global, item: Option<T>) -> Result<Rare<T>, AllocError>
     where
         T: Drop,
@@ -36,7 +36,7 @@ impl<T> Rare<T> {
         Ok(Rare { kept })
     }
 
-    /// The item, if it is there.
+    /// A reference to the item, or `None` if there is none.
     pub fn as_ref(&self) -> Option<&T>
         ensures { option_copied result ≡ self.now }
     {
@@ -46,7 +46,7 @@ impl<T> Rare<T> {
         }
     }
 
-    /// Whether the item is there.
+    /// Whether there is an item.
     pub fn is_some(&self) -> bool
         ensures { result ≡ is_some self.now }
     {

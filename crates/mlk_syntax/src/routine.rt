@@ -1,4 +1,4 @@
-// Routines: lines, and blocks under the lines that head them.
+// Routines: lines, each with the block below it.
 
 use crate::command::Commands;
 use crate::rare::Rare;
@@ -14,7 +14,7 @@ pub struct Line {
     /// one more than the number of its periods
     pub level: usize,
     pub label: Rare<Name>,
-    /// none without a formal list; `()` is an empty one
+    /// absent without a formal list; `()` is an empty one
     pub formals: Rare<List<Name>>,
     pub commands: Commands,
     pub block: Vec<Line>,

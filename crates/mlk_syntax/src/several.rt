@@ -4,14 +4,14 @@ ghost use Rattle.std.specs.Prelude.{◌≡◌, ◌∷◌, []};
 
 use std::marker::Model;
 
-// Where the items stand: a single one in place.
+// The storage of the items: a single one is stored inline.
 #[derive(Drop)]
 pub(crate) enum OneOrMore<T> {
     One([T; 1]),
     More(Vec<T>),
 }
 
-/// One or more items. A single one, as there mostly is, takes no memory beside the list itself. A contract sees the list of them.
+/// One or more items. A single one, which is the usual case, needs no memory beside the list itself. A contract sees the list.
 #[derive(Drop)]
 pub struct Several<T> {
     items: OneOrMore<T>,
@@ -30,7 +30,7 @@ impl<T> Model for Several<T> {
 }
 
 impl<T> Several<T> {
-    /// A single item.
+    /// A list of the single item `item`.
     pub fn one(item: T) -> Several<T>
         ensures { result ≡ item ∷ [] }
     {
@@ -39,7 +39,7 @@ impl<T> Several<T> {
         }
     }
 
-    /// The items of a vector.
+    /// The list of the items `items`.
     pub fn of(items: Vec<T>) -> Several<T>
         ensures { result ≡ items.items }
     {

@@ -18,7 +18,7 @@ pub byte-takes : (b : ℕ) → Takes (byte_at b)
 byte-takes b c xs ys h = let e = byte-is b c xs ys h in
     rw e (after-one b ys, omega arith)
 
--- a name stands before what is after it, and has a byte
+-- a name precedes what is after it, and has a byte
 pub name-is : (text xs ys : List ℕ) → name_at xs ≡ Some (text, ys) → (text ++ ys ≡ xs) × (0 < length text)
 unfolding name_at
 name-is text [] ys h = cc h
@@ -187,7 +187,7 @@ list-exact = record {
     literals : Exact (separated (byte_at 44) literal_at) (Separated (byte_at 44) IsLiteral)
     literals = separated-exact (byte_at 44) literal_at IsLiteral (byte-takes 44) literal-exact
 
--- what the code's loop rests on
+-- needed by the code's loop
 pub literal-leaves : Leaves literal_at
 literal-leaves value xs ys h = after_length xs ys (literal-exact.after value xs ys (literal-exact.sound value xs ys h))
 

@@ -1,4 +1,4 @@
--- A text in quotes is read up to its first quote at once.
+-- A quoted text is read up to its first quote at once.
 use Rattle.std.proofs.Common.{◌≡◌, ◌+◌, ℕ, List, [], ◌∷◌, take, drop, suc, Some, None, refl, sym, ap, ◌∙◌, arith, inl, inr, append-nil}
 use Rattle.std.specs.Prelude.{Option, ◌==◌}
 use Rattle.std.proofs.lemmas.Bool.{cases_Bool}
@@ -15,7 +15,7 @@ put-none (Some r) = refl
 one-more : (n : ℕ) → 1 + n ≡ suc n
 one-more n = omega (arith)
 
--- what stands before the next quote is read at once
+-- what precedes the next quote is read at once
 pub inside_plain : (bytes : List ℕ)
     → put (take (plain_bytes bytes) bytes) (inside (drop (plain_bytes bytes) bytes)) ≡ inside bytes
 inside_plain [] = put-none (inside [])
@@ -30,7 +30,7 @@ inside_plain (b ∷ bytes) = elim (cases_Bool (b == 34)) [
   ]
 ]
 
--- and where that quote stands alone, it is the last
+-- and if that quote is not doubled, it is the last
 pub inside_once : (bytes after : List ℕ) → byte_at 34 (drop (plain_bytes bytes) bytes) ≡ Some (34, after)
     → byte_at 34 after ≡ None → inside bytes ≡ Some (take (plain_bytes bytes) bytes, after)
 inside_once bytes after here alone = sym (inside_plain bytes)

@@ -4,7 +4,7 @@ use Rattle.std.specs.Prelude.{Option, ◌⊎◌}
 use Rattle.std.proofs.lemmas.Option.{same_Some}
 use Rattle.mlk_text.specs.Reading.{◌>>=◌, with, put, many, many_by, Many, separated, Separated, Begins}
 
--- a chain that gives something: each part gave something
+-- a chain that yields something: each part yielded something
 pub then_some : {A B : Type 0} (o : Option A) (f : A → Option B) (y : B) → (o >>= f) ≡ Some y → (x : A) × (o ≡ Some x) × (f x ≡ Some y)
 then_some None f y h = cc h
 then_some (Some x) f y h = (x, refl, h)
@@ -20,7 +20,7 @@ pub put_put : {A : Type 0} (front more : List A) (o : Option (List A × List ℕ
 put_put front more None = refl
 put_put front more (Some r) = ap (λ l. Some (l, r.1)) (sym (append_assoc front more r.0))
 
--- the first list stands at the end of the second
+-- the first list is a tail of the second
 abbrev pub After : List ℕ → List ℕ → Type 0
 After ys xs = (front : List ℕ) × (front ++ ys ≡ xs)
 
@@ -36,7 +36,7 @@ after_then xs ys zs f g = (f.0 ++ g.0, append_assoc f.0 g.0 zs ∙ ap (λ l. f.0
 pub after_length : (xs ys : List ℕ) → After ys xs → length ys ≤ length xs
 after_length xs ys f = let e : length f.0 + length ys ≡ length xs = sym (length-append f.0 ys) ∙ ap length f.1 in omega arith
 
--- A reader reads what is spelled, all of it, and no more than is there.
+-- A reader reads exactly what is spelled.
 pub record Exact {A : Type 0} (read : List ℕ → Option (A × List ℕ)) (Is : A → List ℕ → List ℕ → Type 0) : Type 0 where
   pub sound : (a : A) (xs ys : List ℕ) → read xs ≡ Some (a, ys) → Is a xs ys
   pub complete : (a : A) (xs ys : List ℕ) → Is a xs ys → read xs ≡ Some (a, ys)
@@ -47,7 +47,7 @@ pub one_reading : {A : Type 0} (read : List ℕ → Option (A × List ℕ)) (Is 
     → (a b : A) (xs ys zs : List ℕ) → Is a xs ys → Is b xs zs → (a ≡ b) × (ys ≡ zs)
 one_reading read Is e a b xs ys zs f g = pair_parts a b ys zs (sym (e.complete a xs ys f) ∙ e.complete b xs zs g)
 
--- A head is never empty.
+-- A head is not empty.
 abbrev pub Takes : {B : Type 0} → (List ℕ → Option (B × List ℕ)) → Type 0
 Takes {B = B} head = (b : B) (xs ys : List ℕ) → head xs ≡ Some (b, ys) → After ys xs × (length ys < length xs)
 
@@ -100,7 +100,7 @@ separated-exact {A = A} next item Item t e = record {
       after_then xs m ys (e.after first xs m one) (many_after next (λ _. item) (λ _. Item) t (λ _. e) others m ys more);
 }
 
--- Steps of a loop that keeps `put` of its items before what is left: no head stands there,
+-- Steps of a loop that keeps `put` of its items before what is left: no head follows,
 pub many_stops : {A B : Type 0} (head : List ℕ → Option (B × List ℕ)) (item : B → List ℕ → Option (A × List ℕ)) (front : List A) (n : ℕ) (xs : List ℕ) (whole : Option (List A × List ℕ))
     → head xs ≡ None → length xs < n → put front (many head item n xs) ≡ whole → whole ≡ Some (front, xs)
 unfolding many
@@ -117,14 +117,14 @@ many_goes head item front (suc n) xs whole b m a rest is one shorter less h =
     let step : many_by item (many head item n) xs (head xs) ≡ put (a ∷ []) (many head item n rest) = rw is (rw one refl) in
     (n, omega arith, sym (put_put front (a ∷ []) (many head item n rest)) ∙ ap (put front) (sym step) ∙ h)
 
--- or none stands after the head
+-- or no item follows the head
 pub many_fails : {A B : Type 0} (head : List ℕ → Option (B × List ℕ)) (item : B → List ℕ → Option (A × List ℕ)) (front : List A) (n : ℕ) (xs : List ℕ) (whole : Option (List A × List ℕ))
     (b : B) (m : List ℕ) → head xs ≡ Some (b, m) → item b m ≡ None → length xs < n → put front (many head item n xs) ≡ whole → whole ≡ None
 unfolding many
 many_fails head item front zero xs whole b m is one less h = absurd (omega arith)
 many_fails head item front (suc n) xs whole b m is one less h = sym h ∙ rw is (rw one refl)
 
--- Items at the front, whatever stands after them: one more,
+-- Items at the front, whatever follows them: one more,
 pub begins_more : {A B : Type 0} (head : List ℕ → Option (B × List ℕ)) (Item : B → A → List ℕ → List ℕ → Type 0) (items : List A) (a : A) (b : B) (xs m n p : List ℕ)
     → Begins head Item items xs m → head m ≡ Some (b, n) → Item b a n p → Begins head Item (items ++ a ∷ []) xs p
 begins_more head Item [] a b xs m n p f is one = (b, n, p, ap head f ∙ is, one, refl)
@@ -141,7 +141,7 @@ pub begins_of : {A B : Type 0} (head : List ℕ → Option (B × List ℕ)) (Ite
 begins_of head Item [] xs ys f = (f.0, sym (ap head f.0) ∙ f.1)
 begins_of head Item (a ∷ items) xs ys (b, m, n, is, one, rest) = let r = begins_of head Item items n ys rest in ((b, m, n, is, one, r.0), r.1)
 
--- two readings of an item and its head are one
+-- an item and its head have only one reading
 same_item : {A B : Type 0} (head : List ℕ → Option (B × List ℕ)) (item : B → List ℕ → Option (A × List ℕ)) (Item : B → A → List ℕ → List ℕ → Type 0)
     → ((b : B) → Exact (item b) (Item b)) → (xs : List ℕ) (a c : A) (b d : B) (m n p q : List ℕ)
     → head xs ≡ Some (b, m) → Item b a m n → head xs ≡ Some (d, p) → Item d c p q → (a ≡ c) × (n ≡ q)
@@ -160,7 +160,7 @@ begins_many head item Item e (a ∷ items) (c ∷ all) xs ys zs (b, m, n, is, on
     let r = begins_many head item Item e items all n ys zs rest (subst (λ l. Many head Item all l zs) (sym same.1) others) in
     (r.0, ap (λ z. z ∷ all) (sym same.0) ∙ ap (λ l. a ∷ l) r.1, r.2)
 
--- a place where a head stands and no item after it
+-- a place with a head and no item after it
 abbrev pub Stuck : {A B : Type 0} → (List ℕ → Option (B × List ℕ)) → (B → List ℕ → Option (A × List ℕ)) → List ℕ → Type 0
 Stuck {B = B} head item xs = (b : B) × (m : List ℕ) × (head xs ≡ Some (b, m)) × (item b m ≡ None)
 
@@ -197,7 +197,7 @@ begins_stuck head item Item e (a ∷ items) (c ∷ others) xs ys zs (b, m, n, is
     let r = begins_stuck head item Item e items others n ys zs rest s (subst (λ l. Begins head Item others l zs) (sym same.1) more) in
     (r.0, ap (λ z. z ∷ items) same.0 ∙ ap (λ l. c ∷ l) r.1)
 
--- and none where all are read
+-- and none if all are read
 pub stuck_many : {A B : Type 0} (head : List ℕ → Option (B × List ℕ)) (item : B → List ℕ → Option (A × List ℕ)) (Item : B → A → List ℕ → List ℕ → Type 0)
     → ((b : B) → Exact (item b) (Item b)) → (items all : List A) (xs ys zs : List ℕ) → Begins head Item items xs ys → Stuck head item ys → Many head Item all xs zs → ⊥
 stuck_many {A = A} head item Item e items all xs ys zs f s g = let r = begins_many head item Item e items all xs ys zs f g in go r.0 r.2

@@ -1,4 +1,4 @@
--- Names, words, labels, roots and entries: what is written is read as far as it goes, and what is read is written.
+-- Names, words, labels, roots and entries: what is spelled is read to its end, and what is read is spelled there.
 use Rattle.std.proofs.Common.{◌≡◌, ◌<◌, ◌≤◌, ℕ, ◌++◌, List, [], ◌∷◌, length, take, drop, Some, None, true, false, refl, sym, ap, ◌∙◌, arith, subst, inl, inr, leb-true, le-leb}
 use Rattle.std.specs.Prelude.{Option, ◌==◌, ◌&&◌, ◌||◌, nat_le}
 use Rattle.std.specs.List.{list_all}
@@ -24,7 +24,7 @@ pub name-from : (b : ℕ) (more : List ℕ) → (is_letter b || (b == 37)) ≡ t
 name-from b more first all few = and_from (is_letter b || (b == 37)) (nat_le (length more) 30 && list_all is_name_byte more) first
     (and_from (nat_le (length more) 30) (list_all is_name_byte more) (le-leb (length more) 30 few) all)
 
--- a name is read as far as it goes
+-- a name is read to its end
 pub name-reads : (name ys : List ℕ) → IsName name → stops is_name_byte ys ≡ true → name_at (name ++ ys) ≡ Some (name, ys)
 unfolding name_at
 name-reads [] ys h stop = cc h
@@ -33,7 +33,7 @@ name-reads (b ∷ more) ys h stop =
     let size : name_bytes (more ++ ys) ≡ length more = run-length is_name_byte more ys all stop in
     rw size (rw (first, le-leb (length more) 30 few) (rw (take-append_seam more ys, drop-append_seam more ys) refl))
 
--- the name that is read stands there
+-- a name that is read is spelled there
 pub name-spelled : (name xs ys : List ℕ) → name_at xs ≡ Some (name, ys) → IsName name × (xs ≡ name ++ ys) × (stops is_name_byte ys ≡ true)
 unfolding name_at
 name-spelled name [] ys h = cc h
@@ -50,13 +50,13 @@ name-spelled name (b ∷ xs) ys h = elim (cases_Bool ((is_letter b || (b == 37))
       (subst IsName named (name-from b front q.0 all few), ap (λ l. b ∷ l) is ∙ ap (λ l. b ∷ (front ++ l)) after ∙ ap (λ l. l ++ ys) named, subst (λ l. stops is_name_byte l ≡ true) after stop)
 ]
 
--- a word is read as far as it goes
+-- a word is read to its end
 pub word-reads : (w ys : List ℕ) → IsWord w → stops is_letter ys ≡ true → word_at (w ++ ys) ≡ (w, ys)
 word-reads w ys h stop =
     let p = parted (letters (w ++ ys)) w ys (w ++ ys) refl (run-length is_letter w ys h stop) in
     rw (p.0, p.1) refl
 
--- the word that is read stands there
+-- a word that is read is spelled there
 pub word-spelled : (w xs ys : List ℕ) → word_at xs ≡ (w, ys) → IsWord w × (xs ≡ w ++ ys)
 word-spelled w xs ys h =
     let (front, rest, is, all, stop, size) = run-is is_letter xs in
@@ -79,14 +79,14 @@ pub name-digits : (ys : List ℕ) → stops is_name_byte ys ≡ true → stops i
 name-digits [] h = refl
 name-digits (b ∷ ys) h = grind (arith, nat_tests)
 
--- a label is read as far as it goes
+-- a label is read to its end
 pub label-reads : (label ys : List ℕ) → IsLabel label → stops is_name_byte ys ≡ true → label_at (label ++ ys) ≡ Some (label, ys)
 unfolding label_at digits_at
 label-reads label ys (inl name) stop = rw (name-reads label ys name stop) refl
 label-reads label ys (inr (all, some)) stop =
     rw (digit-no-name label ys all some) (cut-reads (digits (label ++ ys)) label ys (run-length is_digit label ys all (name-digits ys stop)) some)
 
--- the label that is read stands there
+-- a label that is read is spelled there
 pub label-spelled : (label xs ys : List ℕ) → label_at xs ≡ Some (label, ys) → IsLabel label × (xs ≡ label ++ ys)
 unfolding label_at digits_at
 label-spelled label xs ys h = go (name_at xs) refl h
@@ -106,13 +106,13 @@ no-caret (b ∷ bs) ys h =
     let none : (b == 94) ≡ false = grind (arith, nat_tests) in
     rw none refl
 
--- a root is read as far as it goes
+-- a root is read to its end
 pub root-reads : (r : Root) (text ys : List ℕ) → IsRoot r text → stops is_name_byte ys ≡ true → root_at (text ++ ys) ≡ Some (r, ys)
 unfolding root_at
 root-reads (root.Global name) text ys (good, is) stop = rw is (rw (name-reads name ys good stop) refl)
 root-reads (root.Local name) text ys (good, is) stop = rw is (rw (no-caret name ys good) (rw (name-reads name ys good stop) refl))
 
--- the root that is read stands there
+-- a root that is read is spelled there
 pub root-spelled : (r : Root) (xs ys : List ℕ) → root_at xs ≡ Some (r, ys) → (text : List ℕ) × IsRoot r text × (xs ≡ text ++ ys)
 unfolding root_at
 root-spelled r xs ys h = go (byte_at 94 xs) refl h

@@ -1,4 +1,4 @@
--- The numbers of the codes, and the names that are printed after them. This project's own choice.
+-- The numbers of the codes, and the words that are printed after them. This project's own choice.
 use Rattle.std.specs.Prelude.{◌≡◌, ℕ, List, codes}
 use Rattle.mlk_text.specs.declared.code.Code.{Code}
 use Rattle.mlk_text.specs.declared.code.Code.TheVariants.{ExprForm, ExprLeftOut, ExprDeep, NameLong, Byte, LineForm, LabelTwice, LevelJump, UnknownCommand, CommandLeftOut, ArgumentForm, Spacing, BlockUnreached, TooLarge, RoutineName, RoutineTwice, UnknownLabel, Arity, TooMany, Toml, Key, Pattern, TemplateVariable, FamiliesMeet, RulesLimit, NotEnabled, BadChoice, UnknownJob, EventForm, Head, Form, Order, EntryTwice, CertLimit, NoEnd, CaseUnused, Unruled, Uncovered, ReadOnly, NotPrivate, Pinned, NotHeld, Unranked, RankOrder, HeldAtEnd, CaseNotListed, NeedMissing, SummaryShort, NoCertificate, SharedName, UnknownSubscript, FallsIntoFormals, TooManyCases, NameEscapes, DropsFrame, GaveUp, EntryMissing, Workers, GateShut}
@@ -64,7 +64,7 @@ number_of EntryMissing = 901
 number_of Workers = 902
 number_of GateShut = 903
 
--- no number stands twice
+-- no two codes have the same number
 abbrev pub OneCode : Type 0
 OneCode = (a b : Code) → number_of a ≡ number_of b → a ≡ b
 

@@ -1,4 +1,4 @@
--- The bytes that a text stands for. For private clauses alone. This project's own.
+-- The bytes of a text. For private clauses only. This project's own.
 use Rattle.std.specs.Prelude.{ℕ, List}
 use Rattle.mlk_text.specs.declared.text.Text.{Text}
 use Rattle.mlk_text.specs.declared.text.Text.TheVariants.{Short, Long}

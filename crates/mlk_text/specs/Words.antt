@@ -1,4 +1,4 @@
--- The words that are printed for what a routine may not use. This project's own choice.
+-- The words that are printed for parts of M that are not read. This project's own choice.
 use Rattle.std.specs.Prelude.{ℕ, List, codes}
 use Rattle.mlk_text.specs.declared.fault.LeftOut.{LeftOut}
 use Rattle.mlk_text.specs.declared.fault.LeftOut.TheVariants.{Indirection, Naked, Environment, Ssvn, External, Offset, Function, Special, Order, GlobalRead, ForVariable, QuitValue, Timeout, Command}

@@ -7,53 +7,53 @@ ghost use Rattle.mlk_text.specs.Codes.{number_of, word_of};
 /// 5xx events, 6xx the certificate, 7xx the walk, 8xx the maker, 9xx the whole run.
 #[derive(Clone, Copy, Debug, Drop, PartialEq, Eq, PartialOrd, Ord)]
 pub enum Code {
-    /// 101: an expression is expected here, broken off, or followed by what ends none
+    /// 101: an expression is missing or broken off here, or followed by something that can't end one
     ExprForm = 101,
-    /// 102: an expression uses something that is left out; a word says what
+    /// 102: an expression uses a part of M that `mlock` does not read; a word says which
     ExprLeftOut = 102,
     /// 103: an expression is nested more than 64 deep
     ExprDeep = 103,
     /// 104: a name has more than 31 characters
     NameLong = 104,
-    /// 201: a byte that may not stand at its place
+    /// 201: a byte that is not allowed at its place
     Byte = 201,
-    /// 202: a label, a formal list or a line start of another form
+    /// 202: a label, a formal list or a line start of a wrong form
     LineForm = 202,
-    /// 203: a label stands twice
+    /// 203: two lines have the same label
     LabelTwice = 203,
     /// 204: a line more than one level deeper than the line before
     LevelJump = 204,
-    /// 205: a word that is no command
+    /// 205: a word that is not a command
     UnknownCommand = 205,
-    /// 206: a command that is left out; its full word is named
+    /// 206: a command that `mlock` does not read; its full word is named
     CommandLeftOut = 206,
-    /// 207: an argument of another form
+    /// 207: an argument of a wrong form
     ArgumentForm = 207,
-    /// 208: spacing that is not that of commands
+    /// 208: a space too many or too few after a command
     Spacing = 208,
     /// 209: a block whose head line has no argumentless DO
     BlockUnreached = 209,
     /// 210: a routine past one of its limits: bytes, lines, levels, FORs on a line
     TooLarge = 210,
-    /// 211: a file whose stem is no name
+    /// 211: a file whose stem is not a routine's name
     RoutineName = 211,
-    /// 301: two routines of one name
+    /// 301: two routines with the same name
     RoutineTwice = 301,
-    /// 302: a call of a label or a routine that is not there
+    /// 302: a call of a label or a routine that does not exist
     UnknownLabel = 302,
-    /// 303: a call whose actual list does not fit the formal list
+    /// 303: a call whose actuals do not fit the label's formals
     Arity = 303,
     /// 304: more than 65,535 routines or 1,048,575 entries
     TooMany = 304,
-    /// 401: a rule file that is no TOML
+    /// 401: a rule file that is not TOML
     Toml = 401,
     /// 402: a key that is unknown, missing or of another type
     Key = 402,
-    /// 403: a pattern, a lock name or an entry of another form
+    /// 403: a pattern, a lock name or an entry of a wrong form
     Pattern = 403,
-    /// 404: a variable in a lock that its pattern lacks
+    /// 404: a variable in a cover's lock that is not in its pattern
     TemplateVariable = 404,
-    /// 405: one family is a prefix of another
+    /// 405: one family is another, or lies above it
     FamiliesMeet = 405,
     /// 406: a section, a pattern, a name or a rank past its limit
     RulesLimit = 406,
@@ -63,11 +63,11 @@ pub enum Code {
     BadChoice = 502,
     /// 503: an event of a job that never began
     UnknownJob = 503,
-    /// 504: a line of another form in an event file
+    /// 504: a line of a wrong form in an event file
     EventForm = 504,
     /// 601: a certificate without its head line
     Head = 601,
-    /// 602: a line of another form in a certificate
+    /// 602: a line of a wrong form in a certificate
     Form = 602,
     /// 603: lines or items of a certificate out of order
     Order = 603,
@@ -77,7 +77,7 @@ pub enum Code {
     CertLimit = 605,
     /// 606: a certificate that ends before its end line
     NoEnd = 606,
-    /// 607: a case in front of a certificate that no point names
+    /// 607: a case at the front of a certificate that no point uses
     CaseUnused = 607,
     /// 701: a reference that does not surely lie in a rule
     Unruled = 701,
@@ -119,23 +119,23 @@ pub enum Code {
     DropsFrame = 719,
     /// 801: the maker found no certificate
     GaveUp = 801,
-    /// 901: a declared or certified entry that the routines lack
+    /// 901: a declared or certified entry that is not in the routines
     EntryMissing = 901,
     /// 902: no worker, or more than 64
     Workers = 902,
-    /// 903: a task whose gate stayed shut
+    /// 903: a task whose gate was shut
     GateShut = 903,
 }
 
 impl Code {
-    /// The number that is printed.
+    /// The number, as it is printed.
     pub fn number(self) -> u16
         ensures { result ≡ number_of self }
     {
         self as u16
     }
 
-    /// The name that is printed after the number.
+    /// The word that is printed after the number.
     pub fn word(self) -> &'static [u8]
         ensures { result.now ≡ word_of self }
     {

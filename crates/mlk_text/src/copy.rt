@@ -4,7 +4,7 @@ ghost use Rattle.std.specs.Prelude.{◌≡◌, IfOk};
 
 use std::alloc::AllocError;
 
-/// An equal value. A derived `clone` promises this part by part; here it is an equation.
+/// Copies `value`. A derived `clone` promises equality part by part; here it is one equation.
 #[inline(always)]
 pub fn copy_of<T: Clone>(value: &T) -> Result<T, AllocError>
     requires { (x y : T) → T.is_clone x y → y ≡ x }

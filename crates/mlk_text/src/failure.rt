@@ -1,4 +1,4 @@
-// Why something was not done: no memory, or a reason.
+// Why a call failed: out of memory, or for a reason.
 
 ghost use Rattle.mlk_text.specs.declared.failure.Failure.TheVariants.{OutOfMemory};
 ghost use Rattle.mlk_text.specs.Failures.{IsTurned};
@@ -8,7 +8,7 @@ use std::alloc::{AllocError, AllocFailed};
 use std::fmt::Display;
 use thiserror::Error;
 
-/// Why something was not done: memory ran out, which says nothing of what was asked, or there is a reason.
+/// Why a call failed: `OutOfMemory`, which says nothing about the input, or `Refused` with the reason.
 #[derive(Debug, Drop, Error)]
 #[error_bound(E: Display)]
 pub enum Failure<E> {
@@ -34,8 +34,8 @@ impl<T: Drop, E> From<AllocFailed<T>> for Failure<E> {
     }
 }
 
-/// The same failure, where what was read before it is given up. It is given back here, and not in what reads: a function
-/// clears all its places when it begins, those for giving back too.
+/// Drops `_read`, which was read before the failure, and returns `failure`. The value is freed here and not in the reader,
+/// because a function clears all its slots on entry, those for dropping included.
 #[inline(always)]
 pub fn giving_up<T: Drop, E: Drop>(_read: T, failure: E) -> E
     ensures { result ≡ failure }
@@ -44,7 +44,7 @@ pub fn giving_up<T: Drop, E: Drop>(_read: T, failure: E) -> E
 }
 
 impl<E> Failure<E> {
-    /// The failure with another reason in place of its own, such as one that has a place.
+    /// Replaces the reason by `turn` of it, for example by one that has a place.
     pub fn map<F, M: FnOnce(E) -> F>(self, turn: M) -> Failure<F>
     where
         M: Drop,

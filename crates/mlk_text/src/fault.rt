@@ -8,7 +8,7 @@ use crate::place::Place;
 use crate::value::Value;
 use thiserror::Error;
 
-/// What a fault of 102 or 206 leaves out.
+/// The part of M that `mlock` does not read, for a fault of 102 or 206.
 #[derive(Drop, Debug)]
 pub enum LeftOut {
     /// `@`
@@ -23,11 +23,11 @@ pub enum LeftOut {
     External,
     /// `label+`
     Offset,
-    /// a function that is left out
+    /// a function that is not read
     Function,
-    /// a special variable that is left out, or SET or NEW of one
+    /// a special variable that is not read, or SET or NEW of one
     Special,
-    /// a global reference or a call where the order of evaluation is not certain
+    /// a global reference or a call in a position whose evaluation order is not certain
     Order,
     /// READ into a global
     GlobalRead,
@@ -37,7 +37,7 @@ pub enum LeftOut {
     QuitValue,
     /// `:` after an argument of JOB or of LOCK with a minus
     Timeout,
-    /// a command, by its full word in upper case
+    /// a command, with its full word in upper case
     Command(Value),
 }
 
@@ -71,6 +71,6 @@ impl LeftOut {
 pub struct Fault {
     pub code: Code,
     pub place: Place,
-    /// What is left out, for `Code::ExprLeftOut` and `Code::CommandLeftOut`.
+    /// The part that is not read, for `Code::ExprLeftOut` and `Code::CommandLeftOut`.
     pub left_out: Option<LeftOut>,
 }

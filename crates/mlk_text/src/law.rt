@@ -1,4 +1,4 @@
-// What codes and texts of entries keep to.
+// Laws of codes and of the texts of entries.
 
 ghost use Rattle.mlk_text.specs.Codes.{OneCode};
 ghost use Rattle.mlk_text.specs.SpellingLaws.{EntriesWritten};

@@ -1,4 +1,4 @@
-//! Names, values, places, codes and faults: what every other crate speaks of.
+//! Names, values, places, codes and faults: the vocabulary of all other crates.
 #![tactic(auto)]
 
 mod code;

@@ -24,7 +24,7 @@ impl<T> Model for List<T> {
 }
 
 impl<T> List<T> {
-    /// No elements.
+    /// An empty list.
     pub fn new(alloc: Global) -> List<T>
         ensures { result ≡ [] }
     {
@@ -40,14 +40,14 @@ impl<T> List<T> {
         self.items.as_slice()
     }
 
-    /// How many elements there are.
+    /// The number of elements.
     pub fn len(&self) -> usize
         ensures { result ≡ length self.now }
     {
         self.items.len()
     }
 
-    /// Takes the last element away, if there is one. Its room stays.
+    /// Removes the last element and returns it, or `None` if the list is empty. The capacity is kept.
     pub fn pop(&mut self) -> Option<T>
         ensures items { self.old ≡ self.new ++ option_to_list result }
         ensures variant { IsSome result ↔ (0 < length self.old) }
@@ -55,7 +55,7 @@ impl<T> List<T> {
         self.items.pop()
     }
 
-    /// The first so many elements stay, or all where there are fewer. The room of the others stays too.
+    /// Keeps the first `count` elements, or all if there are fewer. The capacity is kept.
     pub fn truncate(&mut self, count: usize)
     where
         T: Drop,
@@ -72,7 +72,7 @@ impl<T> List<T> {
         items
     }
 
-    /// One more element, at the end.
+    /// Appends `item`.
     #[inline(always)]
     pub fn push(&mut self, item: T) -> Result<(), AllocError>
     where
@@ -87,7 +87,7 @@ impl<T> List<T> {
 }
 
 impl<T: Drop> List<T> {
-    /// One more element, at the end, where most lists stay short: see `push_sparing`.
+    /// Appends `item` to a list that usually stays short: see the function `push_sparing`.
     pub fn push_sparing(&mut self, item: T) -> Result<(), AllocError>
         ensures { OnOk result (self.new ≡ self.old ++ item ∷ []) }
     {
@@ -96,7 +96,7 @@ impl<T: Drop> List<T> {
 }
 
 impl<T> List<T> {
-    /// The elements of a vector.
+    /// The list of the elements of `items`.
     pub fn of(items: Vec<T>) -> List<T>
         ensures { result ≡ items.items }
     {
@@ -104,7 +104,7 @@ impl<T> List<T> {
     }
 }
 
-/// Whether two lists have the same elements in the same order.
+/// Whether `items` and `others` are equal element by element.
 pub fn are_equal<T: PartialEq>(items: &[T], others: &[T]) -> bool
     ensures { result ≡ pointwise T.eq items.now others.now }
 {
@@ -123,8 +123,8 @@ pub fn are_equal<T: PartialEq>(items: &[T], others: &[T]) -> bool
     left_others.is_empty()
 }
 
-/// Makes room for one more item at the end: for one first, and then for as many as there are, since most lists of a routine
-/// have one item or two.
+/// Reserves room for one more item: for exactly one in an empty list, and for as many as there are in a full one, since most
+/// lists of a routine have one or two items.
 #[inline(always)]
 pub fn make_room<T: Drop>(items: &mut Vec<T>) -> Result<(), AllocError>
     ensures same { OnOk result (items.new.items ≡ items.old.items) }
@@ -136,8 +136,8 @@ pub fn make_room<T: Drop>(items: &mut Vec<T>) -> Result<(), AllocError>
     Ok(())
 }
 
-/// Adds an item at the end, with room as `make_room` makes it. What reads an item makes room before it does, so that nothing
-/// that was read has to be given back where there is no memory.
+/// Appends `item` with the room that `make_room` reserves. A reader calls `make_room` before it reads the item, so that
+/// nothing that was read has to be dropped if memory runs out.
 #[inline(always)]
 pub fn push_sparing<T: Drop>(items: &mut Vec<T>, item: T) -> Result<(), AllocError>
     ensures { OnOk result (items.new.items ≡ items.old.items ++ item ∷ []) }
@@ -147,11 +147,12 @@ pub fn push_sparing<T: Drop>(items: &mut Vec<T>, item: T) -> Result<(), AllocErr
     Ok(())
 }
 
-// How far a list is looked through for how long it may be.
+// How many bytes are looked at to guess the length of a list.
 const MOST_LOOKED_AT: usize = 128;
 
-/// How many items a list seems to have whose first stands before these bytes, with this byte between items and that one
-/// after the last: so most lists of a text take no more memory than they need. It may be wrong, and costs little.
+/// A guess of the number of items of a list, where `bytes` are those from its first item on or after it, `between` separates
+/// items and `end` follows the last. With it, most lists of a text are allocated in their final size. A wrong guess costs
+/// little.
 pub fn likely_length(between: u8, end: u8, bytes: &[u8]) -> usize {
     bytes
         .iter()

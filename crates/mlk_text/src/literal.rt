@@ -15,7 +15,7 @@ use crate::spelling::NotThere;
 use crate::value::Value;
 use std::alloc::Global;
 
-/// How many zeros stand at the front.
+/// The number of zeros at the front of `bytes`.
 pub fn zeros(bytes: &[u8]) -> usize
     ensures value { result ≡ zeros bytes.now }
     ensures within { result ≤ length bytes.now }
@@ -23,7 +23,7 @@ pub fn zeros(bytes: &[u8]) -> usize
     bytes.iter().take_while(|b| **b == b'0').count()
 }
 
-/// The length without the zeros at the end.
+/// The length of `bytes` without the zeros at the end.
 pub fn to_last(bytes: &[u8]) -> usize
     ensures { result ≡ to_last bytes.now }
 {
@@ -42,7 +42,7 @@ fn is_exact(digits: &[u8], kept: &[u8]) -> bool
     digits.len() <= MOST_DIGITS && to_last(kept) <= MOST_SIGNIFICANT
 }
 
-/// The value of the digits at the front, and what is after them.
+/// Reads the digits at the front: their value, and the rest. `NotThere` if there are none.
 #[tactic(auto, unfolding(crate::specs::Lexemes::exact_digits_at, crate::specs::Lexemes::digits_at, crate::specs::Lexemes::canonical, crate::specs::Lexemes::is_exact))]
 fn number(alloc: Global, bytes: &[u8]) -> Result<(Value, &[u8]), Failure<NotThere>>
     ensures { Reads (λ x. (x.0, x.1.now)) result (exact_digits_at bytes.now) }
@@ -62,7 +62,7 @@ fn number(alloc: Global, bytes: &[u8]) -> Result<(Value, &[u8]), Failure<NotTher
     Ok((Value::of(alloc, kept)?, rest))
 }
 
-// How many bytes stand before the next quote, or before a byte that may not stand in a text.
+// The number of bytes before the next quote, or before a byte that is not allowed in a text.
 fn plain_bytes(bytes: &[u8]) -> usize
     ensures value { result ≡ plain_bytes bytes.now }
     ensures within { result ≤ length bytes.now }
@@ -73,7 +73,7 @@ fn plain_bytes(bytes: &[u8]) -> usize
         .count()
 }
 
-// The value up to the closing quote, where these bytes of it were read, and what is after it.
+// Reads the value up to the closing quote, where `before` has been read already: the value, and the rest.
 fn quoted_after<'a>(
     alloc: Global,
     before: &[u8],
@@ -101,7 +101,7 @@ fn quoted_after<'a>(
     Err(Failure::Refused(NotThere))
 }
 
-/// The value up to the closing quote, and what is after it.
+/// Reads the value up to the closing quote: the value, and the rest. `NotThere` if it is not closed.
 #[tactic(auto, using(crate::proofs::Quoted::inside_once, crate::proofs::Quoted::inside_plain))]
 #[inline(always)]
 pub fn quoted(alloc: Global, bytes: &[u8]) -> Result<(Value, &[u8]), Failure<NotThere>>
@@ -116,7 +116,7 @@ pub fn quoted(alloc: Global, bytes: &[u8]) -> Result<(Value, &[u8]), Failure<Not
     quoted_after(alloc, plain, rest)
 }
 
-/// The value of the literal at the front, and what is after it.
+/// Reads the literal at the front: its value, and the rest. `NotThere` if there is none.
 #[tactic(auto, unfolding(crate::specs::Lexemes::literal_at))]
 pub fn literal(alloc: Global, bytes: &[u8]) -> Result<(Value, &[u8]), Failure<NotThere>>
     ensures { Reads (λ x. (x.0, x.1.now)) result (literal_at bytes.now) }
@@ -130,7 +130,7 @@ pub fn literal(alloc: Global, bytes: &[u8]) -> Result<(Value, &[u8]), Failure<No
     number(alloc, bytes)
 }
 
-// Literals with commas between them.
+// Literals separated by commas.
 struct Literals;
 
 impl Items for Literals {
@@ -170,7 +170,7 @@ fn list(alloc: Global, bytes: &[u8]) -> Result<(Vec<Value>, &[u8]), Failure<NotT
     Ok((items, rest))
 }
 
-/// The subscripts at the front, which may be none, and what is after them.
+/// Reads the subscripts at the front: their values, and the rest. Without a parenthesis there are none.
 #[tactic(auto, unfolding(crate::specs::Lexemes::subs_at))]
 pub fn subscripts(alloc: Global, bytes: &[u8]) -> Result<(List<Value>, &[u8]), Failure<NotThere>>
     ensures { Reads (λ x. (x.0, x.1.now)) result (subs_at bytes.now) }

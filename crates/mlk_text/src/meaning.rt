@@ -1,4 +1,4 @@
-// What each code means, as a sentence for people. The program prints numbers and words.
+// What each code means, as a sentence for people. The program itself prints numbers and words.
 
 use crate::code::Code;
 use std::fmt::{self, Display, Formatter, Write};

@@ -7,9 +7,9 @@ use std::alloc::{AllocError, Global};
 use std::hash::{Hash, Hasher};
 use std::marker::Model;
 
-/// A name of M, without the `^` of a global: `%` or a letter, then letters and digits; case matters.
+/// A name in M, without the `^` of a global: `%` or a letter, then letters and digits; case matters.
 ///
-/// A label may be digits instead. Readers make names; the type itself takes any bytes.
+/// A label may be digits instead. The readers ensure this form; the type itself takes any bytes.
 #[derive(Drop, Debug)]
 pub struct Name {
     text: NameText,
@@ -25,7 +25,7 @@ impl Model for Name {
 }
 
 impl Name {
-    /// The name with these bytes. Up to 14 of them take no memory beside the name itself.
+    /// The name with the bytes `bytes`. Up to 14 bytes need no heap memory.
     #[inline(always)]
     pub fn of(alloc: Global, bytes: &[u8]) -> Result<Name, AllocError>
         ensures { IfOk result (λ name. name ≡ bytes.now) }
@@ -42,7 +42,7 @@ impl Name {
         self.text.as_bytes()
     }
 
-    /// An equal name, on the same allocator.
+    /// Copies the name, in the same allocator.
     #[inline(always)]
     pub fn copy(&self) -> Result<Name, AllocError>
         ensures { IfOk result (λ copy. copy ≡ self.now) }
@@ -77,7 +77,7 @@ impl PartialEq for Name {
     }
 }
 
-// A name is written whole, so it is hashed at once.
+// A name is hashed in one piece.
 impl Hash for Name {
     ghost use Rattle.std.specs.Prelude.{[], ◌∷◌};
     ghost use Rattle.std.specs.Cmp.Rules.{comparing};

@@ -1,6 +1,6 @@
 // The operators of M's expressions.
 
-/// A relation between two values. Its opposite is written with `'` before it.
+/// A relation between two values. `'` before it negates it.
 #[derive(Clone, Copy, Debug, Drop, PartialEq, Eq)]
 pub enum Relation {
     /// `=`
@@ -19,11 +19,11 @@ pub enum Relation {
     And,
     /// `!`
     Or,
-    /// `?`, whose right side is a pattern
+    /// `?`, whose right operand is a pattern
     Matches,
 }
 
-/// An operator between two operands.
+/// A binary operator.
 #[derive(Clone, Copy, Debug, Drop, PartialEq, Eq)]
 pub enum Op {
     /// `+`
@@ -42,13 +42,13 @@ pub enum Op {
     Power,
     /// `_`
     Concatenate,
-    /// a relation that is to hold
+    /// a relation that must hold
     Is(Relation),
-    /// a relation that is not to hold
+    /// a relation that must not hold
     IsNot(Relation),
 }
 
-/// An operator before its operand.
+/// A unary operator.
 #[derive(Clone, Copy, Debug, Drop, PartialEq, Eq)]
 pub enum UnaryOp {
     /// `+`

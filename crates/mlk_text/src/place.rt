@@ -24,7 +24,7 @@ impl Model for LineNumber {
 }
 
 impl LineNumber {
-    /// The line with this number.
+    /// The line number `number`.
     pub fn new(number: u32) -> LineNumber
         ensures { result ≡ number }
     {
@@ -45,7 +45,7 @@ impl Display for LineNumber {
     }
 }
 
-/// The place of a byte in its line, counted from 1. What is past the greatest column counts as that one.
+/// The place of a byte in its line, counted from 1. Places past the greatest column count as the greatest.
 #[derive(Clone, Copy, Debug, Drop, PartialEq, Eq, PartialOrd, Ord)]
 pub struct Column {
     number: u32,
@@ -62,14 +62,14 @@ impl Model for Column {
 }
 
 impl Column {
-    /// The column with this number.
+    /// The column `number`.
     pub fn new(number: u32) -> Column
         ensures { result ≡ number }
     {
         Column { number }
     }
 
-    /// The column of the byte that is this one of its line, counted from 1.
+    /// The column of byte number `place` of a line, counted from 1.
     pub fn at(place: usize) -> Column
         ensures { result ≡ column_at place }
     {
@@ -99,7 +99,7 @@ impl Display for Column {
 /// A place in a routine text.
 #[derive(Drop, Debug)]
 pub struct Place {
-    /// The routine's name as the program prints it: a text, since a stem may be no name.
+    /// The routine's name as the program prints it: a text, since a file's stem may not be a name.
     pub routine: Value,
     pub line: LineNumber,
     pub column: Column,

@@ -1,4 +1,4 @@
-// Lists: an item, and more items, each after a separator.
+// Lists: an item, then more items, each after a separator.
 
 ghost use Rattle.std.specs.Prelude.{◌≡◌, ℕ, List, Option, option_map};
 ghost use Rattle.mlk_text.specs.Failures.{Reads};
@@ -7,7 +7,7 @@ ghost use Rattle.mlk_text.specs.Reading.{Leaves, Shortens, separated};
 use crate::failure::Failure;
 use std::alloc::Global;
 
-/// What reads the items of a list and what separates them.
+/// The readers of a list's items and of its separators.
 pub trait Items {
     type Item: Drop;
 
@@ -19,7 +19,7 @@ pub trait Items {
 
     ghost separator: { ℕ };
 
-    /// The item at the front, and what is after it.
+    /// Reads the item at the front: the item, and the rest.
     fn item<'a>(
         &self,
         alloc: Global,
@@ -27,12 +27,12 @@ pub trait Items {
     ) -> Result<(Self::Item, &'a [u8]), Failure<Self::Reason>>
         ensures { Reads (λ x. (x.0, x.1.now)) result (item_at self.now bytes.now) };
 
-    /// What is after the separator at the front, where one stands there.
+    /// The rest after the separator at the front, or `None` if `bytes` do not begin with one.
     fn after_separator<'a>(&self, bytes: &'a [u8]) -> Option<&'a [u8]>
         ensures { option_map (λ x. (separator, x.now)) result ≡ separator_at self.now bytes.now };
 }
 
-/// One item or more, and what is after them. After a separator an item must stand.
+/// Reads one or more items: the items, and the rest. Each separator must be followed by an item.
 pub fn separated<'a, R: Items>(
     alloc: Global,
     items: &R,

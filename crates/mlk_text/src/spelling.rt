@@ -14,15 +14,15 @@ use crate::root::Root;
 use std::alloc::Global;
 use thiserror::Error;
 
-/// What was asked for does not stand there; whoever asked knows what that means.
+/// There is no such text here; the caller knows what that means.
 #[derive(Clone, Copy, Debug, Drop, PartialEq, Eq, Error)]
 #[error("nothing of this kind stands here")]
 pub struct NotThere;
 
-/// The label and the routine of an entry, as they are written.
+/// The label and the routine of an entry, as written.
 #[derive(Clone, Copy, Debug, Drop)]
 pub struct EntryText<'a> {
-    /// Empty where the entry is the routine's first line.
+    /// Empty if the entry is the routine's first line.
     pub label: &'a [u8],
     pub routine: &'a [u8],
 }
@@ -33,7 +33,7 @@ fn are_name_bytes(bytes: &[u8]) -> bool
     bytes.iter().all(|b| is_name_byte(*b))
 }
 
-/// Whether the text is a name. It takes no memory.
+/// Whether `text` is a name. Allocates nothing.
 pub fn is_name(text: &[u8]) -> bool
     ensures { result ≡ is_name text.now }
 {
@@ -43,7 +43,7 @@ pub fn is_name(text: &[u8]) -> bool
     (is_letter(*first) || *first == b'%') && (rest.len() < LONGEST_NAME && are_name_bytes(rest))
 }
 
-/// The text of the name at the front, and what is after it. It takes no memory.
+/// Reads the name at the front: its text, and the rest. `None` if there is none. Allocates nothing.
 #[tactic(auto, unfolding(crate::specs::Lexemes::name_at))]
 pub fn name_text(bytes: &[u8]) -> Option<(&[u8], &[u8])>
     ensures { option_map (λ x. (x.0.now, x.1.now)) result ≡ name_at bytes.now }
@@ -61,7 +61,7 @@ pub fn name_text(bytes: &[u8]) -> Option<(&[u8], &[u8])>
     Some(bytes.split_at(n + 1))
 }
 
-/// The name at the front, and what is after it.
+/// Reads the name at the front: the name, and the rest. `NotThere` if there is none.
 pub fn name(alloc: Global, bytes: &[u8]) -> Result<(Name, &[u8]), Failure<NotThere>>
     ensures { Reads (λ x. (x.0, x.1.now)) result (name_at bytes.now) }
 {
@@ -71,7 +71,7 @@ pub fn name(alloc: Global, bytes: &[u8]) -> Result<(Name, &[u8]), Failure<NotThe
     Ok((Name::of(alloc, text)?, rest))
 }
 
-/// The text of the label at the front, a name or digits, and what is after it. It takes no memory.
+/// Reads the label at the front, a name or digits: its text, and the rest. `None` if there is none. Allocates nothing.
 #[tactic(auto, unfolding(crate::specs::Lexemes::label_at, crate::specs::Lexemes::digits_at))]
 pub fn label_text(bytes: &[u8]) -> Option<(&[u8], &[u8])>
     ensures { option_map (λ x. (x.0.now, x.1.now)) result ≡ label_at bytes.now }
@@ -86,7 +86,8 @@ pub fn label_text(bytes: &[u8]) -> Option<(&[u8], &[u8])>
     Some(bytes.split_at(n))
 }
 
-/// The root of a lock name at the front, a global's name after its caret or a local's, and what is after it.
+/// Reads the root of a lock name at the front, a caret with a global's name or a local's name: the root, and the rest.
+/// `NotThere` if there is none.
 #[tactic(auto, unfolding(crate::specs::Lexemes::root_at))]
 pub fn root(alloc: Global, bytes: &[u8]) -> Result<(Root, &[u8]), Failure<NotThere>>
     ensures { Reads (λ x. (x.0, x.1.now)) result (root_at bytes.now) }
@@ -99,8 +100,8 @@ pub fn root(alloc: Global, bytes: &[u8]) -> Result<(Root, &[u8]), Failure<NotThe
     Ok((Root::Global(global), rest))
 }
 
-/// The parts of the text of an entry, where it is one: a label that may be missing, a caret and a routine's name. It
-/// takes no memory.
+/// Splits the text of an entry: an optional label, a caret and a routine's name. `None` if `text` is not an entry. Allocates
+/// nothing.
 #[tactic(auto, unfolding(crate::specs::Lexemes::entry_of))]
 pub fn entry(text: &[u8]) -> Option<EntryText<'_>>
     ensures { option_map (λ e. (e.label.now, e.routine.now)) result ≡ entry_of text.now }

@@ -1,4 +1,4 @@
-// Subscripts: short lists, most of which stand in the struct itself.
+// Subscripts: short lists, most of which are stored inline.
 
 ghost use Rattle.std.specs.Prelude.{◌≡◌, ◌∷◌, ◌++◌, [], OnOk};
 
@@ -8,7 +8,7 @@ use std::alloc::{AllocError, Global};
 use std::default::MadeWith;
 use std::marker::Model;
 
-/// The subscripts of a name, a term or a reference; up to N of them stand in place. A contract sees the list of them.
+/// The subscripts of a name, a term or a reference; up to `N` of them are stored inline. A contract sees the list of them.
 #[derive(Drop, Debug)]
 pub struct Subscripts<T, const N: usize> {
     items: SmallVec<T, N>,
@@ -26,7 +26,7 @@ impl<T, const N: usize> Model for Subscripts<T, N> {
 }
 
 impl<T: MadeWith<Global> + Drop, const N: usize> Subscripts<T, N> {
-    /// No subscripts.
+    /// An empty list.
     pub fn new(alloc: Global) -> Subscripts<T, N>
         ensures { result ≡ [] }
     {
@@ -35,7 +35,7 @@ impl<T: MadeWith<Global> + Drop, const N: usize> Subscripts<T, N> {
         }
     }
 
-    /// The subscripts of a vector.
+    /// The list of the subscripts `items`.
     pub fn of(items: Vec<T>) -> Subscripts<T, N>
         ensures { result ≡ items.items }
     {
@@ -44,7 +44,7 @@ impl<T: MadeWith<Global> + Drop, const N: usize> Subscripts<T, N> {
         }
     }
 
-    /// One more subscript, at the end.
+    /// Appends `item`.
     pub fn push(&mut self, item: T) -> Result<(), AllocError>
         ensures ok { OnOk result (self.new ≡ self.old ++ item ∷ []) }
     {

@@ -1,4 +1,4 @@
-// The bytes of names and values. Most are short, and then stand in the struct itself.
+// The bytes of names and values. Most are short and are stored inline.
 
 ghost use Rattle.std.specs.Prelude.{◌≡◌, ◌≤◌, IfOk, length, take, bytes_eq};
 ghost use Rattle.std.specs.Int.{w64, to_le_bytes};
@@ -7,20 +7,20 @@ ghost use Rattle.mlk_text.specs.Texts.{bytes_of, name_bytes_of};
 use std::alloc::{AllocError, Global};
 use std::marker::Model;
 
-// How many bytes of a value stand in the struct itself.
+// How many bytes of a value are stored inline.
 const MOST_SHORT: usize = 16;
 
-// How many bytes of a name do: most are shorter, and a tree of a routine has very many of them.
+// How many bytes of a name are stored inline: most names are shorter, and a routine's tree has a great many of them.
 const MOST_SHORT_NAME: usize = 14;
 
-// Whether the bytes are the same.
+// Whether `bytes` and `others` are equal.
 fn are_same(bytes: &[u8], others: &[u8]) -> bool
     ensures { result ≡ bytes_eq bytes.now others.now }
 {
     bytes == others
 }
 
-// The first eight bytes as one number.
+// The first eight bytes as one little-endian number.
 #[inline(always)]
 fn first_word(bytes: &[u8]) -> u64
     requires { 8 ≤ length bytes.now }
@@ -32,7 +32,7 @@ fn first_word(bytes: &[u8]) -> u64
     }
 }
 
-/// Up to N bytes, eight at least. What stands after them is zero, so that few of them can be compared as one number.
+/// Up to `N` bytes, with `N` at least 8. The bytes after them are zero, so that a short text is compared as one number.
 #[derive(Debug, Drop)]
 pub(crate) struct Short<const N: usize> {
     bytes: [u8; N],
@@ -73,7 +73,7 @@ impl<const N: usize> Short<N> {
         front
     }
 
-    // Whether the bytes are the same. Most are eight at most, with what stands after them.
+    // Whether the two are equal. Most are at most eight bytes long and are compared with the zeros after them.
     #[inline(always)]
     fn is_same(&self, other: &Short<N>) -> bool
         ensures { result ≡ bytes_eq self.now other.now }
@@ -98,8 +98,8 @@ impl<const N: usize> Short<N> {
     }
 }
 
-/// Up to 16 bytes of a value. What stands after them is zero. Their number has a word of its own, so that all is handed on
-/// in whole words: what was written in other pieces than it is read waits until it has reached the memory.
+/// Up to 16 bytes of a value. The bytes after them are zero. The length has a word of its own, so that everything is moved in
+/// whole words: a load of another width than the store before it waits until the store has reached memory.
 #[derive(Debug, Drop)]
 pub(crate) struct ShortValue {
     length: usize,
@@ -138,7 +138,7 @@ impl ShortValue {
         front
     }
 
-    // Whether the bytes are the same. Most are eight at most, with what stands after them.
+    // Whether the two are equal. Most are at most eight bytes long and are compared with the zeros after them.
     #[inline(always)]
     fn is_same(&self, other: &ShortValue) -> bool
         ensures { result ≡ bytes_eq self.now other.now }
@@ -163,7 +163,7 @@ impl ShortValue {
     }
 }
 
-/// The bytes of a value: any.
+/// The bytes of a value: any bytes.
 #[derive(Debug, Drop)]
 pub(crate) enum Text {
     Short(ShortValue),
@@ -171,7 +171,7 @@ pub(crate) enum Text {
 }
 
 impl Text {
-    /// The text with these bytes.
+    /// The text with the bytes `bytes`.
     #[inline(always)]
     pub(crate) fn new(alloc: Global, bytes: &[u8]) -> Result<Text, AllocError>
         ensures { IfOk result (λ t. bytes_of t ≡ bytes.now) }
@@ -192,7 +192,7 @@ impl Text {
         }
     }
 
-    /// Whether the bytes are the same.
+    /// Whether the two texts are equal.
     pub(crate) fn is_same(&self, other: &Text) -> bool
         ensures { result ≡ bytes_eq (bytes_of self.now) (bytes_of other.now) }
     {
@@ -202,7 +202,7 @@ impl Text {
         }
     }
 
-    /// An equal text, on the same allocator.
+    /// Copies the text, in the same allocator.
     #[inline(always)]
     pub(crate) fn copy(&self) -> Result<Text, AllocError>
         ensures { IfOk result (λ t. bytes_of t ≡ bytes_of self.now) }
@@ -214,7 +214,7 @@ impl Text {
     }
 }
 
-/// The bytes of a name: any, though few names have many.
+/// The bytes of a name: any bytes, though few names have many.
 #[derive(Debug, Drop)]
 pub(crate) enum NameText {
     Short(Short<MOST_SHORT_NAME>),
@@ -222,7 +222,7 @@ pub(crate) enum NameText {
 }
 
 impl NameText {
-    /// The text with these bytes.
+    /// The text with the bytes `bytes`.
     #[inline(always)]
     pub(crate) fn new(alloc: Global, bytes: &[u8]) -> Result<NameText, AllocError>
         ensures { IfOk result (λ t. name_bytes_of t ≡ bytes.now) }
@@ -243,7 +243,7 @@ impl NameText {
         }
     }
 
-    /// Whether the bytes are the same.
+    /// Whether the two texts are equal.
     #[inline(always)]
     pub(crate) fn is_same(&self, other: &NameText) -> bool
         ensures { result ≡ bytes_eq (name_bytes_of self.now) (name_bytes_of other.now) }
@@ -254,7 +254,7 @@ impl NameText {
         }
     }
 
-    /// An equal text, on the same allocator.
+    /// Copies the text, in the same allocator.
     #[inline(always)]
     pub(crate) fn copy(&self) -> Result<NameText, AllocError>
         ensures { IfOk result (λ t. name_bytes_of t ≡ name_bytes_of self.now) }

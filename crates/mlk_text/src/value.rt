@@ -7,7 +7,7 @@ use std::alloc::{AllocError, Global};
 use std::default::MadeWith;
 use std::marker::Model;
 
-/// A value of M: a text of any bytes. A number is its canonical text.
+/// A value in M: a text of any bytes. A number is its canonical text.
 #[derive(Drop, Debug)]
 pub struct Value {
     text: Text,
@@ -23,7 +23,7 @@ impl Model for Value {
 }
 
 impl Value {
-    /// The value with these bytes.
+    /// The value with the bytes `bytes`.
     pub fn new(bytes: Vec<u8>) -> Value
         ensures { result ≡ bytes.items }
     {
@@ -32,7 +32,7 @@ impl Value {
         }
     }
 
-    /// The value with these bytes. Up to 16 of them take no memory beside the value itself.
+    /// The value with the bytes `bytes`. Up to 16 bytes need no heap memory.
     #[inline(always)]
     pub fn of(alloc: Global, bytes: &[u8]) -> Result<Value, AllocError>
         ensures { IfOk result (λ value. value ≡ bytes.now) }
@@ -49,7 +49,7 @@ impl Value {
         self.text.as_bytes()
     }
 
-    /// An equal value, on the same allocator.
+    /// Copies the value, in the same allocator.
     #[inline(always)]
     pub fn copy(&self) -> Result<Value, AllocError>
         ensures { IfOk result (λ copy. copy ≡ self.now) }
@@ -58,7 +58,7 @@ impl Value {
     }
 }
 
-// What stands where a list has no subscript yet.
+// The filler of inline slots that hold no subscript yet.
 impl MadeWith<Global> for Value {
     fn made_with(alloc: Global) -> Value {
         Value::new(Vec::new(alloc))

@@ -1,4 +1,4 @@
--- Faults in order: what the code's set of faults is, and faults that are put one after another.
+-- Faults in order: the code's set of faults, and faults that are added one after another.
 use Rattle.std.proofs.Common.{◌≡◌, List, [], ◌∷◌, ◌++◌, map, refl, ap, ◌∙◌}
 use Rattle.std.specs.Ordering.{match_ordering, nat_cmp, ordering_then}
 use Rattle.std.specs.declared.cmp.Ordering.{Ordering}
@@ -9,7 +9,7 @@ use Rattle.mlk_walk_exprs.specs.declared.walk.Fault.{Fault}
 use Rattle.mlk_walk.specs.Faults.{fault_cmp, put_fault, put_faults}
 use Rattle.mlk_walk.proofs.CodeOrder.{by_number}
 
--- The order of faults as it is derived is by line, column and number,
+-- The derived order of faults is by line, column and number,
 compared : (f g : Fault) → ghosts.cmp f g ≡ fault_cmp f g
 unfolding fault_cmp
 compared f g = ap (λ o. ordering_then (nat_cmp f.line g.line) (ordering_then (nat_cmp f.column g.column) o)) (by_number f.code g.code)
@@ -33,7 +33,7 @@ pub put_both : (faults more others : List Fault) → put_faults (faults ++ more)
 put_both [] more others = refl
 put_both (f ∷ faults) more others = ap (put_fault f) (put_both faults more others)
 
--- the last of items whose faults are put
+-- the last of items whose faults are added
 pub put_last_of : {A : Type 0} (fault : A → Fault) (items : List A) (a : A) (others : List Fault)
     → put_faults (map fault (items ++ a ∷ [])) others ≡ put_faults (map fault items) (put_fault (fault a) others)
 put_last_of fault [] a others = refl

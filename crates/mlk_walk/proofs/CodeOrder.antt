@@ -83,7 +83,7 @@ numbered EntryMissing = refl
 numbered Workers = refl
 numbered GateShut = refl
 
--- numbers are compared as whole numbers are
+-- the numbers are compared like natural numbers
 positive : (a b : ℕ) → int_cmp (pos a) (pos b) ≡ nat_cmp a b
 positive a b = onto (nat_cmp a b) (ranks a b)
   where

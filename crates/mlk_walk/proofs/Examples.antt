@@ -105,7 +105,7 @@ row routine entry number column code = record {
 }
 
 -- `^ACCT(id,...)` is covered by `^ACCT(id)`, of rank 10, and `^LOG(...)` by `^LOG`, of rank 20; each job has its own part
--- of `^TMP`, and `^CONF` is read alone
+-- of `^TMP`, and `^CONF` is read only
 abbrev pub base_rules : List (List ℕ) → RuleLists
 base_rules entries = (rules_of ((family (lock_name (root.Global (codes "ACCT")) ([])) 10) ∷ (family (lock_name (root.Global (codes "LOG")) ([])) 20) ∷ []) ((cover (pattern_of (codes "ACCT") (element.Variable ∷ []) extent.Tree) (template (root.Global (codes "ACCT")) ((part_of.Place 0) ∷ []))) ∷ (cover (pattern_of (codes "LOG") ([]) extent.Tree) (template (root.Global (codes "LOG")) ([]))) ∷ []) ((pattern_of (codes "TMP") (element.Job ∷ []) extent.Tree) ∷ []) ((pattern_of (codes "CONF") ([]) extent.Tree) ∷ []) entries)
 
@@ -337,7 +337,7 @@ pub literal-subscripts : report literal-subscripts-routines (rules_of ((family (
 unfolding report entry_faults fault_cmp answer same_term same_case includes leaves_by same_state too_many few certified declared fold_between fold_before byte_text digits entry_of label_at name_at digits_at is_among have spares whole
 literal-subscripts = refl
 
--- what the walk of its line 4 alone finds
+-- the walk of its line 4 by itself
 pub literal-subscripts-line : line_faults literal-subscripts-routines (rules_of ((family (lock_name (root.Global (codes "A")) ([])) 5) ∷ []) ((cover (pattern_of (codes "A") (element.Variable ∷ []) extent.Tree) (template (root.Global (codes "A")) ((part_of.Place 0) ∷ []))) ∷ []) ([]) ([]) ((codes "E^LIT") ∷ [])) (known literal-subscripts-routines (rules_of ((family (lock_name (root.Global (codes "A")) ([])) 5) ∷ []) ((cover (pattern_of (codes "A") (element.Variable ∷ []) extent.Tree) (template (root.Global (codes "A")) ((part_of.Place 0) ∷ []))) ∷ []) ([]) ([]) ((codes "E^LIT") ∷ [])) literal-subscripts-blocks) (record { routine = 0; line = 0 }) 4 ≡ record { line = 4; column = 6; code = Uncovered } ∷ []
 unfolding line_faults answer same_term same_case includes leaves_by same_state too_many few certified declared fold_between fold_before byte_text digits entry_of label_at name_at digits_at is_among have spares whole
 literal-subscripts-line = refl
@@ -553,7 +553,7 @@ shared-elsewhere-blocks = ((block (codes "S^PRV") [] (Some 10) false []
     ((exit_of Any [] []) ∷ [])
     ((point_of 3 0 ((case_of Any [] [] [] []) ∷ [])) ∷ [])) ∷ [])
 
--- the X that is passed on is another frame's
+-- the X that is passed on belongs to another frame
 pub shared-elsewhere : report shared-elsewhere-routines (base_rules ((codes "S^PRV") ∷ [])) shared-elsewhere-blocks ≡ []
 unfolding report entry_faults fault_cmp answer same_term same_case includes leaves_by same_state too_many few certified declared fold_between fold_before byte_text digits entry_of label_at name_at digits_at is_among have spares whole
 shared-elsewhere = refl
@@ -721,7 +721,7 @@ pub extrinsic-call-keeps-test : report extrinsic-call-keeps-test-routines (base_
 unfolding report entry_faults fault_cmp answer same_term same_case includes leaves_by same_state too_many few certified declared fold_between fold_before byte_text digits entry_of label_at name_at digits_at is_among have spares whole
 extrinsic-call-keeps-test = refl
 
--- a subscript that is captured is unknown once a call has changed its name:
+-- a captured subscript is unknown once a call has changed its name:
 -- E NEW X SET X=1 SET ^ACCT(X)=$$F()+$$G() LOCK -^ACCT(X) QUIT
 -- F() SET X=$RANDOM(9) QUIT 1
 -- G() LOCK +^ACCT(X) QUIT 1
@@ -1336,7 +1336,7 @@ pub write-that-may-meet-readonly : report write-that-may-meet-readonly-routines 
 unfolding report entry_faults fault_cmp answer same_term same_case includes leaves_by same_state too_many few certified declared fold_between fold_before byte_text digits entry_of label_at name_at digits_at is_among have spares whole
 write-that-may-meet-readonly = refl
 
--- of the branches of `$SELECT` the calls in each count:
+-- in each branch of `$SELECT` the calls count:
 -- E SET Z=$SELECT($RANDOM(2):$$F,1:$$F)
 --  LOCK -^LOG QUIT
 -- F LOCK +^LOG QUIT 1
@@ -1363,7 +1363,7 @@ pub select-with-calls : report select-with-calls-routines (base_rules ((codes "E
 unfolding report entry_faults fault_cmp answer same_term same_case includes leaves_by same_state too_many few certified declared fold_between fold_before byte_text digits entry_of label_at name_at digits_at is_among have spares whole
 select-with-calls = refl
 
--- READ with a timeout gives both values of `$TEST`:
+-- READ with a timeout sets `$TEST` to either value:
 -- E READ X:5 ELSE  QUIT
 --  LOCK -^LOG QUIT
 abbrev read-with-timeout-routines : List RoutineTree
@@ -1401,7 +1401,7 @@ pub merge-of-trees : report merge-of-trees-routines (base_rules ((codes "E^MRG")
 unfolding report entry_faults fault_cmp answer same_term same_case includes leaves_by same_state too_many few certified declared fold_between fold_before byte_text digits entry_of label_at name_at digits_at is_among have spares whole
 merge-of-trees = refl
 
--- a name below a held one needs no order, another one does:
+-- a name below a held one needs no order, any other does:
 -- C LOCK +(^LOG,^LOG(5)) LOCK +^LOG(5) LOCK +^ACCT(1) LOCK  QUIT
 abbrev order-below-a-held-name-routines : List RoutineTree
 order-below-a-held-name-routines = ((Named_routine (codes "RANK") (line (LineHead 1 1 63 (Some (codes "C")) None
@@ -1418,7 +1418,7 @@ pub order-below-a-held-name : report order-below-a-held-name-routines (base_rule
 unfolding report entry_faults fault_cmp answer same_term same_case includes leaves_by same_state too_many few certified declared fold_between fold_before byte_text digits entry_of label_at name_at digits_at is_among have spares whole
 order-below-a-held-name = refl
 
--- each name of `LOCK -` is one less:
+-- each name of `LOCK -` releases one:
 -- E LOCK +^LOG LOCK -(^LOG,^LOG) QUIT
 abbrev claim-twice-give-back-twice-routines : List RoutineTree
 claim-twice-give-back-twice-routines = ((Named_routine (codes "GIV") (line (LineHead 1 1 36 (Some (codes "E")) None
@@ -1435,7 +1435,7 @@ pub claim-twice-give-back-twice : report claim-twice-give-back-twice-routines (b
 unfolding report entry_faults fault_cmp answer same_term same_case includes leaves_by same_state too_many few certified declared fold_between fold_before byte_text digits entry_of label_at name_at digits_at is_among have spares whole
 claim-twice-give-back-twice = refl
 
--- an unsigned LOCK releases first, and the summary has to say so:
+-- an unsigned LOCK releases first, and the summary must list it:
 -- E LOCK ^LOG LOCK -^LOG QUIT
 abbrev unsigned-lock-without-drops-routines : List RoutineTree
 unsigned-lock-without-drops-routines = ((Named_routine (codes "UNS") (line (LineHead 1 1 28 (Some (codes "E")) None
@@ -1473,7 +1473,7 @@ pub job-of-undeclared-entry : report job-of-undeclared-entry-routines (base_rule
 unfolding report entry_faults fault_cmp answer same_term same_case includes leaves_by same_state too_many few certified declared fold_between fold_before byte_text digits entry_of label_at name_at digits_at is_among have spares whole
 job-of-undeclared-entry = refl
 
--- KILL of all but some wants one item that has them all:
+-- KILL of all but some needs one listed item with all of these names:
 -- E(A) NEW (B,A) KILL (A,B) KILL (A) QUIT
 abbrev exclusive-new-and-kill-routines : List RoutineTree
 exclusive-new-and-kill-routines = ((Named_routine (codes "EXC") (line (LineHead 1 1 40 (Some (codes "E")) (Some ((codes "A") ∷ []))
@@ -1490,7 +1490,7 @@ pub exclusive-new-and-kill : report exclusive-new-and-kill-routines (base_rules 
 unfolding report entry_faults fault_cmp answer same_term same_case includes leaves_by same_state too_many few certified declared fold_between fold_before byte_text digits entry_of label_at name_at digits_at is_among have spares whole
 exclusive-new-and-kill = refl
 
--- a case of a block that saves no `$TEST` describes nothing:
+-- a case of a block without a saved `$TEST` describes nothing:
 -- E DO
 --  . NEW X
 --  QUIT
@@ -1540,7 +1540,7 @@ pub name-escapes-its-block : report name-escapes-its-block-routines (base_rules 
 unfolding report entry_faults fault_cmp answer same_term same_case includes leaves_by same_state too_many few certified declared fold_between fold_before byte_text digits entry_of label_at name_at digits_at is_among have spares whole
 name-escapes-its-block = refl
 
--- FOR without a limit ends by QUIT alone:
+-- FOR without a limit ends only by QUIT:
 -- E FOR I=1:1 QUIT:I>9
 --  QUIT
 abbrev loop-without-limit-routines : List RoutineTree
@@ -1561,7 +1561,7 @@ pub loop-without-limit : report loop-without-limit-routines (base_rules ((codes 
 unfolding report entry_faults fault_cmp answer same_term same_case includes leaves_by same_state too_many few certified declared fold_between fold_before byte_text digits entry_of label_at name_at digits_at is_among have spares whole
 loop-without-limit = refl
 
--- the rounds of a value are listed, or it is 710 at the word:
+-- the rounds of a value are listed; otherwise it is 710 at the word:
 -- E FOR I=1,2 WRITE I
 --  QUIT
 abbrev loop-of-values-routines : List RoutineTree

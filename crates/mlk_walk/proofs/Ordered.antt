@@ -1,4 +1,4 @@
--- Faults that are put in order ascend, and are the same faults.
+-- Faults that are sorted ascend, and are the same faults.
 use Rattle.std.proofs.Common.{◌≡◌, ℕ, List, [], ◌∷◌, refl, ap, ◌∙◌, ⊎_elim, inl, inr}
 use Rattle.std.specs.Prelude.{◌⊎◌}
 use Rattle.std.specs.Ordering.{nat_cmp, ordering_then, ordering_reverse, match_ordering}
@@ -36,7 +36,7 @@ fault_exact f g h =
 flipped : (f g : Fault) → fault_cmp f g ≡ Greater → fault_cmp g f ≡ Less
 flipped f g h = fault_total.antisymm g f ∙ ap ordering_reverse h
 
--- a fault that is put ascends with the others,
+-- an inserted fault ascends with the others,
 pub put_ascends : (f : Fault) (faults : List Fault) → IsAscending faults → IsAscending (put_fault f faults)
 put_ascends f [] h = tt
 put_ascends f (x ∷ []) h = one (fault_cmp f x) refl
@@ -54,7 +54,7 @@ put_ascends f (x ∷ y ∷ ys) h = more (fault_cmp f x) (fault_cmp f y) refl (pu
     more Greater Equal e k = (h.0, k)
     more Greater Greater e k = (h.0, k)
 
--- and is one of them, beside those that were there.
+-- and is one of them, besides those that were there.
 put_in : (g f : Fault) (faults : List Fault) → Among g (put_fault f faults) → (g ≡ f) ⊎ Among g faults
 put_in g f [] a = a
 put_in g f (x ∷ xs) a = by (fault_cmp f x) (put_in g f xs) a

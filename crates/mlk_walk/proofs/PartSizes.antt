@@ -1,4 +1,4 @@
--- How many lines stand in trees: halves together have as many as the whole, and the block of one line has fewer.
+-- The number of lines in trees: halves have together as many as the whole, and the block of one line has fewer.
 use Rattle.std.proofs.Common.{◌≡◌, ◌<◌, ◌+◌, ◌++◌, ◌∙◌, ℕ, ap, refl, [], ◌∷◌, List, map, arith, subst, sym}
 use Rattle.std.proofs.lemmas.List.{map-append}
 use Rattle.mlk_syntax.specs.Trees.{HeadTree, LineTrees, no_lines, line}
@@ -22,7 +22,7 @@ trees_both [] back = none_before (count_in (lines_from back))
 trees_both (l ∷ front) back =
     one_before (count_in l.1) (count_in (lines_from (front ++ back))) (count_in (lines_from front)) (count_in (lines_from back)) (trees_both front back)
 
--- how many lines stand in lines and their blocks
+-- the number of lines, including those of their blocks
 abbrev pub lines_in : List Line → ℕ
 lines_in lines = count_in (lines_from (map line_of lines))
 

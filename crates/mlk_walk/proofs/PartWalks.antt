@@ -1,4 +1,4 @@
--- The walk of a part by its halves, and the walk of one line after that of its block.
+-- The walk of a part from those of its halves, and the walk of one line after that of its block.
 use Rattle.std.proofs.Common.{◌≡◌, ◌∙◌, ◌++◌, ap, refl, sym, subst, [], ◌∷◌, List, ℕ, Option, None, map}
 use Rattle.std.proofs.lemmas.List.{map-append, append-nil}
 use Rattle.mlk_syntax.specs.Trees.{HeadTree, LineTrees}
@@ -27,11 +27,11 @@ cut_lines sc around after lines front back h =
     ∙ ap (λ z. part_walk sc around after (lines_from z)) (map-append line_of front back)
     ∙ cut sc around after (map line_of front) (map line_of back)
 
--- the faults that notes are beside
+-- the faults without their notes
 abbrev faults_of : List (LineFault × Note) → List LineFault
 faults_of noted = map (λ f. f.0) noted
 
--- two walks, one after the other
+-- two walks, one after another
 pub joined_walks : (first second : Walked) (f s w : PartWalk) → IsWalk first f → IsWalk second s
     → w.faults.items ≡ f.faults.items ++ s.faults.items → w.ends.items ≡ f.ends.items ++ s.ends.items → IsWalk (joined first second) w
 joined_walks first second f s w h k faults ends = (

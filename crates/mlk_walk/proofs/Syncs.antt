@@ -1,4 +1,4 @@
--- Trees, and what a check looks into, may be seen by several threads at once.
+-- Several threads may share trees and the input of a check.
 use denote.Param.Send.{IsSend, IsSync, recorded_sync, struct_sync, enum_sync, sendable}
 use denote.Ref.{NamedLft}
 use denote.Enum.Declared as enums
@@ -48,7 +48,7 @@ use Rattle.mlk_walk.specs.contracts.check.Checks as Checks
 use Rattle.mlk_walk_lines.specs.contracts.line_end.Around as Around
 use Rattle.mlk_walk.specs.contracts.parts.Part as Part
 
--- what is plain, and lists, boxes and options of what several threads may see
+-- plain values, and lists, boxes and options of what several threads may share
 ruleset crossing = (crosses, sendable, OptionSends.the_field_sync, OptionSends.the_sync, CalleeSends.the_sync, PartSends.the_sync, ValueSends.the_sync, ListSends.the_sync, RareSends.the_sync, SeveralSends.the_sync)
 
 ruleset with_exprs = (crossing, ExprKnot.crosses)
@@ -131,15 +131,15 @@ directory κ = search (crosses, sendable, routine, TableSyncs.the_sync) depth 60
 pub program : (κ : NamedLft) → IsSync (Program.the_row κ)
 program κ = search (crosses, sendable, directory, SharedSyncs.the_sync, FramesSyncs.the_sync) depth 60 fits 20000
 
--- what a check looks into
+-- the input of a check
 pub checks : (κ : NamedLft) → IsSync (Checks.the_row κ)
 checks κ = search (crosses, sendable, program, RulesSyncs.the_sync, EntriesSyncs.the_sync) depth 60 fits 20000
 
--- what the walk of lines is given
+-- the input of the walk of lines
 pub scope : (κ : NamedLft) → IsSync (Scope.the_row κ)
 scope κ = recorded_sync (Scope.the_field κ).row _ _ (Scope.the_type κ).to_one (struct_sync (structs.shape (Scope.the_type κ)) (search (sendable, program), (search (sendable, RulesSyncs.the_sync), (search (sendable, EntriesSyncs.the_sync), (search sendable, (search (sendable, EntryCertSyncs.the_sync), (search (sendable, OwnSyncs.the_sync), (search sendable, (search (sendable, PointSyncs.the_sync), tt)))))))))
 
--- a part of lines, and what stands around them
+-- a part of lines, and what is around them
 around : (κ : NamedLft) → IsSend (Around.the_row κ)
 around κ = search (crosses, sendable, OptionSends.the_send, line) depth 60 fits 20000
 

@@ -10,12 +10,12 @@ unfoldable pub fault_cmp : Fault → Fault → Ordering
 fault_cmp f g = ordering_then (nat_cmp f.line g.line)
     (ordering_then (nat_cmp f.column g.column) (nat_cmp (number_of f.code) (number_of g.code)))
 
--- a fault in its place among faults that ascend; it is left out where it stands there
+-- inserts a fault into faults that ascend, unless it is there
 abbrev pub put_fault : Fault → List Fault → List Fault
 put_fault f [] = f ∷ []
 put_fault f (g ∷ faults) = match_ordering (fault_cmp f g) (f ∷ g ∷ faults) (g ∷ faults) (g ∷ put_fault f faults)
 
--- faults among others that ascend
+-- inserts faults into others that ascend
 abbrev pub put_faults : List Fault → List Fault → List Fault
 put_faults [] others = others
 put_faults (f ∷ faults) others = put_fault f (put_faults faults others)

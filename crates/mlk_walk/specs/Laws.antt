@@ -1,11 +1,11 @@
--- What a verdict is: the faults of its entry as a set, each once, in order.
+-- Verdicts: the faults of an entry as a set, each once, in order.
 use Rattle.std.specs.Prelude.{◌≡◌, ◌↔◌, ◌⊎◌, List, [], ◌∷◌}
 use Rattle.std.specs.declared.cmp.Ordering.TheVariants.{Less}
 use Rattle.mlk_names.specs.Lists.{Among}
 use Rattle.mlk_walk_exprs.specs.declared.walk.Fault.{Fault}
 use Rattle.mlk_walk.specs.Faults.{fault_cmp, ascending}
 
--- each is below the next, so none stands twice
+-- each is below the next, so there are no duplicates
 abbrev pub IsAscending : List Fault → Type 0
 IsAscending [] = Unit {0}
 IsAscending (f ∷ []) = Unit {0}

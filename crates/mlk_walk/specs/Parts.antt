@@ -1,4 +1,4 @@
--- Parts of lines, as the code has them. It serves private clauses only.
+-- Parts of lines, as the code has them. For private clauses only.
 use Rattle.std.specs.Prelude.{◌≡◌, ◌++◌, List, map, Option, option_map, option_copied}
 use Rattle.mlk_syntax.specs.Trees.{HeadTree, LineTrees, RoutineTree}
 use Rattle.mlk_syntax.specs.Views.{line_of, lines_from}
@@ -23,7 +23,7 @@ walk_of sc part = part_walk sc (around_of part.around) (after_of part) (trees_of
 abbrev pub IsWalk : Walked → PartWalk → Type 0
 IsWalk walked w = (map (λ f. f.0) w.faults.items ≡ walked.faults) × (w.ends.items ≡ walked.ends)
 
--- what two parts come to, one after the other
+-- the results of two parts, the first before the second
 abbrev pub IsJoined : PartWalk → PartWalk → PartWalk → Type 0
 IsJoined front back w = (w.faults.items ≡ front.faults.items ++ back.faults.items) × (w.ends.items ≡ front.ends.items ++ back.ends.items)
 

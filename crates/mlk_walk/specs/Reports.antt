@@ -1,5 +1,5 @@
--- The report of a program: of each entry that is certified or declared, in the program's order, the faults of its
--- verdict. This project's own choice.
+-- The report of a program: for each entry that is certified or declared, in the program's order, the faults of its verdict. This
+-- project's own choice.
 use Rattle.std.specs.Prelude.{ℕ, suc, Bool, ◌||◌, ◌==◌, if◌then◌else◌, List, [], ◌∷◌, ◌++◌, map, flat_map, is_some, is_none, find}
 use Rattle.std.specs.Prelude.{Option}
 use Rattle.mlk_text.specs.Lexemes.{or_else}
@@ -29,7 +29,7 @@ abbrev pub entries_from : ℕ → List RoutineTree → List EntryId
 entries_from routine [] = []
 entries_from routine (tree ∷ routines) = line_entries routine 0 (lines_in tree) ++ entries_from (suc routine) routines
 
--- what is reported of an entry: nothing where it is neither certified nor declared
+-- the rows of an entry: none if it is neither certified nor declared
 abbrev pub is_checked : List (EntryId × EntryCert) × List EntryId → EntryId → Bool
 is_checked entries e = is_some (block_at entries.0 e) || has_entry entries.1 e
 
@@ -40,11 +40,11 @@ abbrev pub rows_of : List RoutineTree → RuleLists → List (EntryId × EntryCe
 rows_of routines rules entries e =
     if is_checked entries e then map (row_of e) (verdict routines rules entries e) else []
 
--- The rows of a report; it is `yes` where there are none.
+-- The rows of a report; it is `yes` if there are none.
 unfoldable pub report : List RoutineTree → RuleLists → List EntryCert → List Row
 report routines rules blocks = flat_map (rows_of routines rules (known routines rules blocks)) (entries_from 0 routines)
 
--- The first entry text of the rules, else of the certificate, that names no entry of the program.
+-- The first entry text of the rules, or if there is none of the certificate, that does not name an entry of the program.
 abbrev pub is_missing : List RoutineTree → List ℕ → Bool
 is_missing routines text = is_none (entry_by routines text)
 

@@ -29,7 +29,7 @@ use Rattle.mlk_walk.specs.Faults.{ascending}
 abbrev pub fault_at : ℕ → ℕ → Code → Fault
 fault_at number column code = record { line = number; column = column; code = code }
 
--- The case in which an entry begins: its needs are held, its formals are new and have their values.
+-- The case in which an entry begins: its needs are held, its formals are own and kept.
 abbrev pub own_formal : List ℕ → Own
 own_formal name = record { level = 1; names = Only name }
 
@@ -42,12 +42,12 @@ begin_case summary formals = record {
   saved = [];
 }
 
--- 710 where the entry's line lists no case for its begin
+-- 710 if the case in which the entry begins is not listed at its line
 abbrev pub begin_faults : Scope → ℕ → List (List ℕ) → List Fault
 begin_faults sc number formals =
     if is_listed (listed sc number 0) (begin_case sc.summary formals) then [] else fault_at number 1 CaseNotListed ∷ []
 
--- A declared entry needs nothing: 711; and no exit of it leaves a lock held: 709.
+-- A declared entry has no needs: 711; and no exit of it leaves a lock held: 709.
 abbrev pub need_faults : Scope → ℕ → List Fault
 need_faults sc number = if sc.declared && holds_some sc.summary.need then fault_at number 1 NeedMissing ∷ [] else []
 
@@ -62,12 +62,12 @@ abbrev pub own_faults : Scope → ℕ → List (List ℕ) → List Fault
 own_faults sc number formals =
     begin_faults sc number formals ++ (need_faults sc number ++ exit_faults sc number)
 
--- The line after an entry's lines, which has a formal list; there is none where they go to the routine's end.
+-- The line after an entry's lines, which has a formal list; there is none if they extend to the routine's end.
 abbrev pub head_after : List RoutineTree → EntryId → Option HeadTree
 head_after routines e = option_map (λ l. l.0)
     (line_of_entry routines (record e { line = e.line + length (lines_of routines e) }))
 
--- what the walk of an entry's lines finds
+-- the result of the walk of an entry's lines
 abbrev pub entry_walk : List RoutineTree → EntryId → Scope → Walked
 entry_walk routines e sc = walk_lines sc (OfFrame (head_after routines e)) (lines_from (lines_of routines e))
 
@@ -101,7 +101,7 @@ entry_faults routines rules entries e = faults_with routines rules entries e (bl
 abbrev pub verdict : List RoutineTree → RuleLists → List (EntryId × EntryCert) × List EntryId → EntryId → List Fault
 verdict routines rules entries e = ascending (entry_faults routines rules entries e)
 
--- Those of its faults that the walk of one line gives, none for a line that the entry lacks.
+-- The faults of an entry that the walk of one line finds, none for a line that is not one of the entry's.
 abbrev pub is_of : ℕ → LineFault → Bool
 is_of number f = f.walked == number
 

@@ -42,7 +42,7 @@ fn begin_case(alloc: Global, summary: &Summary, formals: &[Name]) -> Result<Case
     })
 }
 
-// Where an entry's line lists no case for its begin.
+// Adds a fault if the case in which the entry begins is not listed at its line.
 fn add_begin(
     alloc: Global,
     scope: &Scope,
@@ -64,7 +64,7 @@ fn add_begin(
     faults.push(fault, Note::of(Mend::Listed(line, 0, case)))
 }
 
-// A declared entry needs nothing.
+// Adds a fault if the entry is declared and has needs.
 fn add_need(scope: &Scope, line: LineNumber, faults: &mut Faults) -> Result<(), AllocError>
     ensures { OnOk result (faults.new ≡ faults.old ++ need_faults (scope_of scope.now) line) }
 {
@@ -91,7 +91,7 @@ fn some_leaves(exits: &[ExitCase]) -> bool
     exits.iter().any(|exit| leaves_some(exit))
 }
 
-// No exit of a declared entry leaves a lock held.
+// Adds a fault if the entry is declared and an exit leaves a lock held.
 fn add_exits(scope: &Scope, line: LineNumber, faults: &mut Faults) -> Result<(), AllocError>
     ensures { OnOk result (faults.new ≡ faults.old ++ exit_faults (scope_of scope.now) line) }
 {
@@ -106,7 +106,7 @@ fn add_exits(scope: &Scope, line: LineNumber, faults: &mut Faults) -> Result<(),
     faults.push(fault, Note::of(Mend::Nothing))
 }
 
-/// What is wrong with an entry's begin and its exits, at its line.
+/// The faults of an entry's begin and its exits, at its line.
 pub(crate) fn own_faults(
     alloc: Global,
     scope: &Scope,

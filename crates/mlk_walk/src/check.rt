@@ -21,17 +21,16 @@ use mlk_text::{Code, Column};
 use mlk_walk_exprs::{Fault, Mend, Note};
 use std::alloc::{AllocError, Global};
 
-/// What a check looks into: a program, its rules, and what is known of its entries.
+/// The input of a check: a program, its rules, and what is known of its entries.
 #[derive(Clone, Copy, Drop)]
 pub struct Checks<'a> {
     pub program: &'a Program<'a>,
     pub rules: &'a Rules,
-    /// those of this program and these rules, and of a certificate
+    /// the entries of this program, these rules and a certificate
     pub entries: &'a Entries<'a>,
 }
 
-/// The verdict of an entry, walked by `block` in place of the one that `checks` has for it: what would be found if the
-/// certificate said so.
+/// The verdict of `entry` if the certificate had `block` for it instead of its own one.
 pub fn verdict_by(
     alloc: Global,
     checks: &Checks<'_>,
@@ -49,7 +48,7 @@ pub fn verdict_by(
     Ok(verdict)
 }
 
-// The fault of an entry that no block certifies.
+// The fault of an entry without a block.
 fn uncertified(program: &Program, entry: EntryId) -> Fault
     ensures { result ≡ fault_at (entry_number (line_of_entry (map routine_of program.now) entry)) 1 NoCertificate }
 {
@@ -60,7 +59,7 @@ fn uncertified(program: &Program, entry: EntryId) -> Fault
     }
 }
 
-/// The faults of an entry, as `check_entry` gives them, by what is known of all entries already.
+/// The faults of an entry, as `check_entry` returns them, given what is known of all entries.
 #[tactic(auto, unfolding(crate::specs::Verdicts::entry_faults))]
 pub fn verdict_of(alloc: Global, checks: &Checks<'_>, entry: EntryId) -> Result<Verdict, AllocError>
     ensures { IfOk result (λ v. v ≡ verdict (map routine_of checks.now.program.now) checks.now.rules.now
@@ -74,11 +73,11 @@ pub fn verdict_of(alloc: Global, checks: &Checks<'_>, entry: EntryId) -> Result<
     Ok(verdict)
 }
 
-/// The faults of an entry: those of its begin and its exits, and those of the lines that it runs, walked from the cases
-/// of the first block that names it.
+/// The faults of an entry: those of its begin and its exits, and those of the lines that it runs, walked from the cases of the
+/// first block that names it.
 ///
-/// Without a block it has the one fault `Code::NoCertificate` at its line, column 1. It looks into the whole
-/// certificate first; for many entries make `Checks` once, and ask `verdict_of`.
+/// Without a block it has the single fault `Code::NoCertificate`, at its line, column 1. This function reads the whole
+/// certificate first; for many entries, construct `Checks` once and call `verdict_of`.
 pub fn check_entry(
     alloc: Global,
     program: &Program<'_>,
@@ -104,7 +103,7 @@ fn is_checked(entries: &Entries<'_>, entry: EntryId) -> bool
     entries.block(entry).is_some() || entries.is_declared(entry)
 }
 
-// Checks an entry, where it is certified or declared.
+// Checks an entry if it is certified or declared.
 fn check_one(
     alloc: Global,
     checks: &Checks<'_>,

@@ -17,14 +17,14 @@ use mlk_walk_exprs::Faults;
 use mlk_walk_lines::{Around, LineFaults, walk_lines};
 use std::alloc::{AllocError, Global};
 
-/// What is found of an entry: at its line, and by the walks of its lines.
+/// The result of an entry's walk: the faults at its line, and those that the walks of its lines found.
 #[derive(Drop)]
 pub(crate) struct EntryWalk {
     pub(crate) own: Faults,
     pub(crate) lines: LineFaults,
 }
 
-/// The line after an entry's lines.
+/// The line after the lines of `entry`, or `None`.
 pub(crate) fn line_after<'a>(
     program: &Program<'a>,
     entry: EntryId,
@@ -50,7 +50,7 @@ pub(crate) fn formals_of<'a>(line: Option<&'a Line>) -> &'a [Name]
     }
 }
 
-// The number of an entry's line.
+// The number of an entry's line, 1 if it has none.
 pub(crate) fn number_of(line: Option<&Line>) -> LineNumber
     ensures { result ≡ entry_number (option_map line_of (option_copied line.entry)) }
 {
@@ -60,7 +60,7 @@ pub(crate) fn number_of(line: Option<&Line>) -> LineNumber
     }
 }
 
-/// What the walks of an entry's lines find.
+/// Walks the lines of an entry.
 #[tactic(auto, using(mlk_walk_lines::proofs::Parts::entry_whole))]
 pub(crate) fn walk_all<'a>(
     alloc: Global,
@@ -77,7 +77,7 @@ pub(crate) fn walk_all<'a>(
     Ok(found)
 }
 
-/// The walk of an entry in its scope: what is wrong at its line, and what the walks of its lines find.
+/// Walks an entry in its scope: the faults at its line, and those that the walks of its lines find.
 pub(crate) fn walk_entry<'a>(
     alloc: Global,
     program: &'a Program<'a>,

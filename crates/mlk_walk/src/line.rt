@@ -17,7 +17,7 @@ use mlk_walk_exprs::Faults;
 use mlk_walk_lines::LineFaults;
 use std::alloc::{AllocError, Global};
 
-// Those of the faults that the walk of a line found.
+// The faults that the walk of `line` found.
 fn faults_of(alloc: Global, found: LineFaults, line: LineNumber) -> Result<Faults, AllocError>
     ensures { IfOk result (λ f. f ≡ map fault_in (filter (is_of line) found)) }
 {
@@ -30,7 +30,7 @@ fn faults_of(alloc: Global, found: LineFaults, line: LineNumber) -> Result<Fault
     Ok(faults)
 }
 
-// The same of an entry that is certified by a block.
+// The faults of a line of an entry that is certified by `block`.
 fn faults_by(
     alloc: Global,
     checks: &Checks<'_>,
@@ -62,8 +62,8 @@ fn line_faults(
     }
 }
 
-/// The faults of an entry that the walk of one of its lines gives, in the order in which they were found, each with its note;
-/// none for a line that is not one of the entry's. The line is counted from 1 in its routine.
+/// The faults that the walk of line `line` of the entry finds, in the order in which they are found, each with its note; empty if
+/// the line is not one of the entry's. `line` is counted from 1 in its routine.
 ///
 /// The whole entry is walked for it.
 pub fn walk_line(

@@ -1,4 +1,4 @@
-// Entry texts that name no entry of a program.
+// Entry texts that do not name an entry of a program.
 
 ghost use Rattle.std.specs.Prelude.{◌≡◌, option_map, find, map};
 ghost use Rattle.mlk_syntax.specs.Views.{routine_of};
@@ -36,7 +36,8 @@ fn first_missing_block<'a>(program: &Program<'_>, blocks: &'a [EntryCert]) -> Op
     None
 }
 
-/// The first entry text that names no entry of the program: of the rules, else of the certificate. It takes no memory.
+/// The first entry text that does not name an entry of the program: one of the rules, otherwise one of the certificate; `None`
+/// if there is none. Allocates nothing.
 pub fn missing_entry<'a>(
     program: &Program<'_>,
     rules: &'a Rules,

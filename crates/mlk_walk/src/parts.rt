@@ -1,4 +1,4 @@
-// The walk of lines in parts, side by side.
+// The walk of lines in parts, in parallel.
 
 ghost use Rattle.std.specs.Prelude.{◌≡◌, ◌∷◌, ◌++◌, [], IfOk, IfSome, map, option_map, option_copied};
 ghost use Rattle.std.specs.Thread.{IsSync};
@@ -19,13 +19,13 @@ use std::alloc::{AllocError, Global};
 use std::thread;
 use std::thread::Threads;
 
-/// Who sees into which lists of lines a walk is cut.
+/// An observer of the lists of lines into which a walk is cut.
 pub trait Pieces {
-    /// The walk of a list that is not cut further begins, of which this is the first line.
+    /// Called when the walk of a list that is not cut further begins; `line` is the list's first line.
     fn begun(&self, line: LineNumber);
 }
 
-/// Nobody sees it.
+/// An observer that ignores everything.
 #[derive(Clone, Copy, Drop)]
 pub struct Unseen;
 
@@ -33,24 +33,24 @@ impl Pieces for Unseen {
     fn begun(&self, _line: LineNumber) {}
 }
 
-/// Lines of one level that follow one another.
+/// Consecutive lines of one level.
 #[derive(Clone, Copy, Drop)]
 pub(crate) struct Part<'a> {
     pub(crate) lines: &'a [Line],
     pub(crate) around: Around<'a>,
-    /// the line that comes after them, where there is one
+    /// the line that follows them, if there is one
     pub(crate) after: Option<&'a Line>,
 }
 
-/// What the walk of a part comes to: the faults in the order in which they were found, each with its note, and the cases in
-/// which the lines' own block may end.
+/// The result of a part's walk: the faults in the order in which they were found, with their notes, and the cases in which the
+/// block that contains the lines may end.
 #[derive(Drop)]
 pub(crate) struct PartWalk {
     pub(crate) faults: Vec<(LineFault, Note)>,
     pub(crate) ends: Vec<Case>,
 }
 
-// The line that comes next before these later lines of a part.
+// The line that follows before `later`, the remaining lines of a part.
 fn next_of<'a>(part: Part<'a>, later: &'a [Line]) -> Option<&'a Line>
     ensures { option_map head_of (option_copied result)
         ≡ first_or (after_of part.entry) (lines_from (map line_of later.now)) }
@@ -82,7 +82,7 @@ fn halves<'a>(part: Part<'a>) -> (Part<'a>, Part<'a>)
     (first, second)
 }
 
-// The line of a list that has one alone.
+// The line of a list that has exactly one, otherwise `None`.
 fn only_line(lines: &[Line]) -> Option<&Line>
     ensures { IfSome result (λ l. lines.now ≡ l.now ∷ []) }
 {
@@ -92,7 +92,7 @@ fn only_line(lines: &[Line]) -> Option<&Line>
     }
 }
 
-// Two parts, one after the other.
+// Joins the results of two parts, the first before the second.
 fn joined(front: PartWalk, back: PartWalk) -> Result<PartWalk, AllocError>
     ensures { IfOk result (IsJoined front back) }
 {
@@ -106,7 +106,7 @@ fn joined(front: PartWalk, back: PartWalk) -> Result<PartWalk, AllocError>
     Ok(PartWalk { faults, ends })
 }
 
-// The walk of a part that is not cut.
+// Walks a part that is not cut.
 fn walk_whole<'a>(
     alloc: Global,
     scope: &'a Scope<'a>,
@@ -129,7 +129,7 @@ fn walk_whole<'a>(
     })
 }
 
-// The walk of a part of this one line, whose block comes to this.
+// Walks the part of the single line `line`, given the result of its block.
 fn walk_head<'a>(
     alloc: Global,
     scope: &'a Scope<'a>,
@@ -160,7 +160,7 @@ fn walk_head<'a>(
     Ok(PartWalk { faults: all, ends })
 }
 
-// The walk of a part of this one line, whose block is cut in its turn.
+// Walks the part of the single line `line`, whose block may be cut.
 #[cycle(split)]
 fn walk_one<'a, P: Pieces + Sync, R: Threads + Sync>(
     rt: &R,
@@ -183,7 +183,7 @@ fn walk_one<'a, P: Pieces + Sync, R: Threads + Sync>(
     walk_head(alloc, scope, part, line, inner)
 }
 
-// The walks of two parts, side by side.
+// Walks two parts in parallel.
 #[cycle(split)]
 fn walk_both<'a, P: Pieces + Sync, R: Threads + Sync>(
     rt: &R,
@@ -208,7 +208,7 @@ fn walk_both<'a, P: Pieces + Sync, R: Threads + Sync>(
     thread::join(rt, front, back)
 }
 
-// The walk of a part by its halves, side by side.
+// Walks a part by its halves, in parallel.
 #[cycle(split)]
 fn walk_halves<'a, P: Pieces + Sync, R: Threads + Sync>(
     rt: &R,
@@ -227,8 +227,8 @@ fn walk_halves<'a, P: Pieces + Sync, R: Threads + Sync>(
     joined(front, back)
 }
 
-/// The walk of a part. It is cut in halves, which are walked side by side, and these in halves again, so deep as is said;
-/// where one line is left, its block is cut in its turn. The caller walks the half for which no thread starts.
+/// Walks a part. It is cut into halves, which are walked in parallel and cut again, up to `depth` times; if a single line is
+/// left, its block is cut instead. If no thread starts, the caller walks that half.
 #[cycle(split)]
 pub(crate) fn walk_part<'a, P: Pieces + Sync, R: Threads + Sync>(
     rt: &R,

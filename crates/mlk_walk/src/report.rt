@@ -9,14 +9,14 @@ use mlk_walk_exprs::{Fault, Note};
 use std::alloc::{AllocError, Global};
 use std::marker::Model;
 
-/// A row of a report: an entry, and a fault of its walk.
+/// A row of a report: an entry and a fault of it.
 #[derive(Clone, Copy, Debug, Drop, PartialEq, Eq)]
 pub struct Row {
     pub entry: EntryId,
     pub fault: Fault,
 }
 
-/// The faults of a program's entries, and a note beside each. A contract sees the rows.
+/// The faults of a program's entries, each with a note. A contract sees the rows.
 #[derive(Drop)]
 pub struct Report {
     rows: Vec<Row>,
@@ -50,19 +50,19 @@ impl Report {
         self.rows.as_slice()
     }
 
-    /// The notes, in the order of the rows that they are beside.
+    /// The notes, in the order of their rows.
     pub fn notes(&self) -> &[Note] {
         self.notes.as_slice()
     }
 
-    /// Whether there is no row.
+    /// Whether the report has no rows.
     pub fn is_yes(&self) -> bool
         ensures { IsTrue result ↔ (self.now ≡ []) }
     {
         self.rows.is_empty()
     }
 
-    /// The faults of an entry, after the others.
+    /// Appends the faults of an entry.
     pub fn add(&mut self, entry: EntryId, verdict: Verdict) -> Result<(), AllocError>
         ensures { OnOk result (self.new ≡ self.old ++ map (row_of entry) verdict) }
     {

@@ -1,4 +1,4 @@
-// The check of an entry whose lines are walked in parts, side by side.
+// The check of an entry whose lines are walked in parts, in parallel.
 
 ghost use Rattle.std.specs.Prelude.{◌≡◌, ◌≤◌, IfOk, map};
 ghost use Rattle.mlk_syntax.specs.Views.{routine_of};
@@ -21,7 +21,7 @@ use mlk_walk_lines::Around;
 use std::alloc::{AllocError, Global};
 use std::thread::Threads;
 
-/// How often a list of lines is cut at most, so that it is walked in up to 64 parts.
+/// How often a list of lines is cut at most: into up to 64 parts.
 pub const DEEPEST_CUT: u32 = 6;
 
 // The lines of an entry.
@@ -61,7 +61,7 @@ fn verdict_by<P: Pieces + Sync, R: Threads + Sync>(
     Ok(verdict)
 }
 
-/// The faults of an entry, as `check_entry_split` gives them, by what is known of all entries already.
+/// The faults of an entry, as `check_entry_split` returns them, given what is known of all entries.
 #[tactic(auto, unfolding(crate::specs::Verdicts::entry_faults))]
 pub fn verdict_split<P: Pieces + Sync, R: Threads + Sync>(
     rt: &R,
@@ -81,10 +81,9 @@ pub fn verdict_split<P: Pieces + Sync, R: Threads + Sync>(
     }
 }
 
-/// The faults of an entry that `check_entry` gives, by a walk of its lines in parts. A list of more than one line is cut after
-/// its half, rounded up; both halves are walked side by side, and each is cut in its turn, so deep as is said: 0 cuts nothing, 6
-/// makes up to 64 parts of each list. The block of a line that is left alone is cut likewise. Where no thread starts, the caller
-/// walks that half itself.
+/// The faults of an entry that `check_entry` returns, by a walk of its lines in parts. A list of more than one line is cut into
+/// halves, the first rounded up, which are walked in parallel and cut again, up to `depth` times: 0 cuts nothing, 6 makes up to
+/// 64 parts of each list. The block of a single line is cut likewise. If no thread starts, the caller walks that half itself.
 pub fn check_entry_split<P: Pieces + Sync, R: Threads + Sync>(
     rt: &R,
     alloc: Global,

@@ -12,8 +12,8 @@ use std::collections::BTreeMap;
 use std::collections::btree_map::Keys;
 use std::marker::Model;
 
-/// The faults of an entry, each once, ascending by line, column and number, and a note beside each: of a fault that several
-/// cases have, that of the first. A contract sees the faults.
+/// The faults of an entry, each once, ascending by line, column and number, each with a note: if several cases have the same
+/// fault, with the note of the first. A contract sees the faults.
 #[derive(Drop)]
 pub struct Verdict {
     notes: BTreeMap<Fault, Note>,
@@ -42,7 +42,7 @@ impl Verdict {
         }
     }
 
-    /// One more fault. Its note takes the place of an older one.
+    /// Adds a fault. Its note replaces an older one.
     #[tactic(auto, using(crate::proofs::Ordered::put_ascends))]
     pub(crate) fn put(&mut self, fault: Fault, note: Note) -> Result<(), AllocError>
         ensures { OnOk result (self.new ≡ put_fault fault self.old) }
@@ -51,7 +51,7 @@ impl Verdict {
         Ok(())
     }
 
-    /// The faults of an entry's line too.
+    /// Adds the faults of an entry's line.
     #[tactic(auto, using(crate::proofs::Ascending::put_last_of))]
     pub(crate) fn put_own(&mut self, faults: Faults) -> Result<(), AllocError>
         ensures { OnOk result (self.new ≡ put_faults faults self.old) }
@@ -63,7 +63,7 @@ impl Verdict {
         Ok(())
     }
 
-    /// The faults that the walks of lines found too.
+    /// Adds the faults that the walks of lines found.
     #[tactic(auto, using(crate::proofs::Ascending::put_last_of))]
     pub(crate) fn put_found(&mut self, faults: Vec<(LineFault, Note)>) -> Result<(), AllocError>
         ensures { OnOk result (self.new ≡ put_faults (map fault_in (map (λ f. f.0) faults.items)) self.old) }
@@ -82,7 +82,7 @@ impl Verdict {
         self.notes.keys()
     }
 
-    /// The faults, in order, each with its note.
+    /// The faults with their notes, in order.
     pub fn into_notes(self) -> BTreeMap<Fault, Note>
         ensures { keys result ≡ self }
     {

@@ -1,4 +1,4 @@
--- Walks that are one but for states of which there are too many: the line is over with either.
+-- Walks that differ only in states that are too many: with either, the walk of the line is over.
 use Rattle.std.proofs.Common.{◌≡◌, ◌⊎◌, ◌∙◌, ℕ, suc, true, false, List, [], ◌∷◌, ◌++◌, length, refl, ap, sym, inl, inr, ⊎_elim, arith}
 use Rattle.std.specs.Prelude.{nat_lt, flat_map}
 use Rattle.std.specs.List.{list_any}
@@ -11,7 +11,7 @@ use Rattle.mlk_walk_state.proofs.CaseTests.{same_decides}
 use Rattle.mlk_walk_exprs.specs.declared.walk.Walk.{Walk}
 use Rattle.mlk_walk_exprs.specs.Walks.{Outcome, Goes, Skips, Quits, Refused, put_state, add, add_all, with_states, each, is_large, too_many, overfull, few}
 
--- more states are too many where those before them are
+-- one more state is too many if those before it are
 nat_more : (n : ℕ) → nat_lt 16 n ≡ true → nat_lt 16 (suc n) ≡ true
 nat_more n h = grind (arith, nat_tests)
 

@@ -1,4 +1,4 @@
--- Worked arguments of DO, JOB and IF, by computation: F wants `^ACCT(Y)` of its formal Y, and gives it back.
+-- Worked arguments of DO, JOB and IF, shown by computation: F needs `^ACCT(Y)` for its formal Y, and releases it.
 use Rattle.std.proofs.Common.{◌≡◌, ℕ, List, [], ◌∷◌, refl}
 use Rattle.std.specs.Prelude.{codes, Option, Some, None}
 use Rattle.std.specs.Fmt.{digits}
@@ -48,7 +48,7 @@ no_certificate : called (call_of (codes "G") (Given x)) None (holds []) ≡ refu
 unfolding answer same_term same_state same_case byte_text digits have is_among spares
 no_certificate = refl
 
--- `DO F(X):$TEST`, where `$TEST` is 1, 0 or not known
+-- `DO F(X):$TEST`, with `$TEST` 1, 0 or unknown
 abbrev do_if_test : Test → List LockTerm → Walk
 do_if_test test held = called f_of_x (Some (SpecialName special.Test)) (case test held [] [])
 
@@ -73,7 +73,7 @@ a_job_is_not_declared : job_argument spot (call_of (codes "G") (Given x)) (begin
 unfolding answer same_term same_state same_case byte_text digits have is_among spares
 a_job_is_not_declared = refl
 
--- `IF X`, which is not known, `IF 0`, `IF 1`, `IF $TEST` and `IF '$TEST`
+-- `IF X` with an unknown value, `IF 0`, `IF 1`, `IF $TEST` and `IF '$TEST`
 abbrev if_test : Test → Tree → Walk
 if_test test t = if_argument spot t (begin (case test [] [] [] ∷ []))
 

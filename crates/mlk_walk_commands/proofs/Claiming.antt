@@ -92,7 +92,7 @@ module _ (p : Spot) (timed : Bool) (names : List VariableTree) where
       by (Some terms) = sign_alike sg terms left
       by None = all_same (lock_terms held_too p sg timed names left None)
 
-  -- so the line is over with either
+  -- so with either, the walk of the line is over
   pub either_way : (sg : Sign) (line word : ℕ) (w : Walk) → few line word (each (lock_row held_quickly p sg timed names) w)
       ≡ few line word (each (lock_row held_too p sg timed names) w)
   either_way sg line word w = each_alike (lock_row held_quickly p sg timed names) (lock_row held_too p sg timed names) (row_alike sg) line word w

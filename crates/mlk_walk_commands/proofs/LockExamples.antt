@@ -1,4 +1,4 @@
--- Worked arguments of LOCK, by computation.
+-- Worked arguments of LOCK, shown by computation.
 use Rattle.std.proofs.Common.{◌≡◌, ℕ, List, [], ◌∷◌, ◌++◌, refl}
 use Rattle.std.specs.Prelude.{codes, Some, None, true, false}
 use Rattle.std.specs.Fmt.{digits}
@@ -21,7 +21,7 @@ use Rattle.mlk_walk_exprs.specs.Walks.{begin, each, few, too_many}
 use Rattle.mlk_walk_commands.specs.Locks.{lock_argument, release}
 use Rattle.mlk_walk_commands.proofs.Worked.{of_x, whole, log, scope, spot_in, spot, x, local, account_tree, account, plain, case, holds, passes, refused}
 
--- LOCK of these names with this sign, while these are held
+-- LOCK of these names with this sign, with these terms held
 abbrev lock : Sign → List VariableTree → List LockTerm → Walk
 lock s names held = lock_argument spot (LockNames s names None) (begin (holds held ∷ []))
 
@@ -44,22 +44,22 @@ a_timed_claim : timed (account 4 x ∷ []) [] ≡ passes (case One (of_x ∷ [])
 unfolding answer same_term same_state same_case byte_text digits few too_many
 a_timed_claim = refl
 
--- a name that stands twice is held twice
+-- a name that occurs twice is held twice
 a_name_counts_twice : lock sign.Plus (account 5 x ∷ account 14 x ∷ []) [] ≡ passes (holds (of_x ∷ of_x ∷ []) ∷ []) []
 unfolding answer same_term same_state same_case byte_text digits few too_many
 a_name_counts_twice = refl
 
--- names of one claim stand in their order, and are no obstacle to each other
+-- names of one claim are sorted, and do not block each other
 names_of_one_claim : lock sign.Plus (the_log 5 ∷ account 10 x ∷ []) [] ≡ passes (holds (of_x ∷ log ∷ []) ∷ []) []
 unfolding answer same_term same_state same_case byte_text digits few too_many
 names_of_one_claim = refl
 
--- a name that no family has, with a timeout too; the first that is refused is told
+-- a name that no family has, with a timeout too; the first refusal is reported
 an_unranked_name : timed (the_log 5 ∷ local (codes "X") ∷ []) [] ≡ refused 4 Unranked
 unfolding answer same_term same_state same_case byte_text digits few too_many
 an_unranked_name = refl
 
--- `^ACCT(X)` is not above `^LOG` in rank; with a timeout, and below a held name, that is not asked
+-- `^ACCT(X)` is not above `^LOG` in rank; with a timeout, or below a held name, the order is not checked
 a_rank_below_a_held_one : lock sign.Plus (account 4 x ∷ []) (log ∷ []) ≡ refused 4 RankOrder
 unfolding answer same_term same_state same_case byte_text digits few too_many
 a_rank_below_a_held_one = refl
@@ -78,7 +78,7 @@ a_rank_that_is_not_listed : lock_in (scope [] (Some 20) false) sign.Plus (accoun
 unfolding answer same_term same_state same_case byte_text digits few too_many
 a_rank_that_is_not_listed = refl
 
--- seventeen names at once are too many: the line is over
+-- seventeen names at once are too many: the walk of the line is over
 abbrev seventeen : List VariableTree → List VariableTree
 seventeen four = the_log 5 ∷ four ++ four ++ four ++ four
 
@@ -87,7 +87,7 @@ too_many_at_once : lock sign.Plus (seventeen (the_log 5 ∷ the_log 5 ∷ the_lo
 unfolding answer same_term same_state same_case byte_text digits few too_many
 too_many_at_once = refl
 
--- subscripts: `LOCK +(^ACCT(X),^ACCT($HOROLOG))`, `LOCK +^ACCT(S)` and `LOCK -^ACCT(S(1))`, where S is shared
+-- subscripts: `LOCK +(^ACCT(X),^ACCT($HOROLOG))`, `LOCK +^ACCT(S)` and `LOCK -^ACCT(S(1))`, with S shared
 an_unknown_subscript : lock sign.Plus (account 5 x ∷ account 14 (SpecialName special.Horolog) ∷ []) [] ≡ refused 20 UnknownSubscript
 unfolding answer same_term same_state same_case byte_text digits few too_many
 an_unknown_subscript = refl
@@ -100,7 +100,7 @@ a_subscripted_name : lock sign.Minus (account 4 (LocalName (codes "S") (sub 12 (
 unfolding answer same_term same_state same_case byte_text digits few too_many
 a_subscripted_name = refl
 
--- subscripts are asked before the timeout is evaluated, and that before the claim: `LOCK +^ACCT(X):^ACCT(X)`
+-- subscripts are checked before the timeout is evaluated, and that before the claim: `LOCK +^ACCT(X):^ACCT(X)`
 abbrev timed_by : Tree → Tree → Walk
 timed_by name timeout = lock_argument spot (LockNames sign.Plus (account 4 name ∷ []) (Some timeout)) (begin (holds [] ∷ []))
 
@@ -112,7 +112,7 @@ subscripts_come_first : timed_by (LocalName (codes "S") no_subs) (account_tree 1
 unfolding answer same_term same_state same_case byte_text digits few too_many
 subscripts_come_first = refl
 
--- `LOCK -(^ACCT(X),^ACCT(X))` takes two
+-- `LOCK -(^ACCT(X),^ACCT(X))` releases two
 two_are_given_back : lock sign.Minus (account 5 x ∷ account 14 x ∷ []) (of_x ∷ of_x ∷ log ∷ []) ≡ passes (holds (log ∷ []) ∷ []) []
 unfolding answer same_term same_state same_case byte_text digits few too_many
 two_are_given_back = refl
@@ -121,7 +121,7 @@ the_second_is_not_held : lock sign.Minus (account 5 x ∷ account 14 x ∷ []) (
 unfolding answer same_term same_state same_case byte_text digits few too_many
 the_second_is_not_held = refl
 
--- `LOCK ^ACCT(X)` releases all first, which the summary has to list; what was held is no obstacle then
+-- `LOCK ^ACCT(X)` releases all first, which the summary must list; what was held does not block it then
 a_release_has_to_be_listed : lock sign.None (account 4 x ∷ []) [] ≡ refused 2 SummaryShort
 unfolding answer same_term same_state same_case byte_text digits few too_many
 a_release_has_to_be_listed = refl

@@ -1,4 +1,4 @@
--- What is made of variables, by the kinds of their names.
+-- The walk of variables, by the kinds of their names.
 use Rattle.std.proofs.Common.{◌≡◌, ◌∙◌, refl, ap, ℕ, suc, length, Bool, List, [], ◌∷◌, Vec, Global}
 use Rattle.mlk_text.specs.declared.root.Root.TheVariants as root
 use Rattle.mlk_syntax.specs.declared.expr.Subscript.{Subscript}
@@ -17,7 +17,7 @@ use Rattle.mlk_walk_commands.specs.Variables.{subs_of, change_local}
 use Rattle.mlk_walk_commands.specs.Locks.{root_of, unknown_code}
 use Rattle.mlk_walk_commands.specs.Arguments.{kill_row, read_row, merge_from, symbols_at, write_variable, read_part}
 
--- a slice of subscripts has as many as their trees
+-- a slice of subscripts has the length of their trees
 pub counted : (subs : List Subscript) → count_subs (subs_from (sub_trees subs)) ≡ length subs
 counted [] = refl
 counted (s ∷ subs) = ap suc (counted subs)

@@ -1,4 +1,4 @@
--- Names in their order, as a tree of their bytes has them.
+-- Names in their order, as in a tree of their bytes.
 use Rattle.std.proofs.Common.{◌≡◌, ℕ, List, [], ◌∷◌, refl, ap, map, Vec, Global}
 use Rattle.std.specs.BTreeSet.{insert_key}
 use Rattle.std.specs.Ordering.{nat_cmp, match_ordering}

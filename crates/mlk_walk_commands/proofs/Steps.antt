@@ -1,4 +1,4 @@
--- Walks that are made step by step.
+-- Walks, step by step.
 use Rattle.std.proofs.Common.{◌≡◌, Result, subst}
 use Rattle.std.specs.Prelude.{OnOk}
 use Rattle.mlk_walk_exprs.specs.declared.walk.Walk.{Walk}

@@ -1,4 +1,4 @@
--- The targets of SET, one after the other.
+-- The targets of SET, one after another.
 use Rattle.std.proofs.Common.{◌≡◌, ◌<◌, ◌+◌, ℕ, List, length, drop, map, slice_index_or, ap, sym, ◌∙◌}
 use Rattle.mlk_syntax.specs.declared.command.Target.{Target}
 use Rattle.mlk_syntax.specs.Views.{target_of}
@@ -9,7 +9,7 @@ use Rattle.mlk_walk_exprs.specs.Expressions.{values}
 use Rattle.mlk_walk_commands.specs.Arguments.{variable_in, arguments_in, capture_targets}
 use Rattle.mlk_walk_commands.specs.Variables.{capture_variable}
 
--- one turn of the loop over them
+-- one iteration of the loop over them
 pub target_turn : (p : Spot) (targets : List Target) (i : ℕ) (t : Target) (w captured valued whole : Walk)
     → i < length targets → t ≡ slice_index_or targets i t
     → captured ≡ capture_variable p (variable_in (target_of t)) w → valued ≡ values p (arguments_in (target_of t)) captured

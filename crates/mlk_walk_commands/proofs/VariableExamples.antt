@@ -1,4 +1,4 @@
--- Worked arguments of SET, KILL, NEW, READ, MERGE and WRITE, by computation.
+-- Worked arguments of SET, KILL, NEW, READ, MERGE and WRITE, shown by computation.
 use Rattle.std.proofs.Common.{◌≡◌, ℕ, List, [], ◌∷◌, refl}
 use Rattle.std.specs.Prelude.{codes, Some, None, false}
 use Rattle.std.specs.Fmt.{digits}
@@ -24,7 +24,7 @@ use Rattle.mlk_walk_commands.specs.News.{in_order}
 use Rattle.mlk_walk_commands.specs.Arguments.{set_argument, kill_argument, new_argument, read_argument, merge_argument, write_argument}
 use Rattle.mlk_walk_commands.proofs.Worked.{name_x, of_x, of_one, whole, scope, spot_in, spot, x, local, y_of_one, account_tree, account, plain, case, holds, passes, refused}
 
--- X and Y have the values of the call's begin; the names that are own
+-- X and Y have the values of the call's begin; the own names
 abbrev kept : Case
 kept = case Any [] [] (name_x ∷ codes "Y" ∷ [])
 
@@ -38,7 +38,7 @@ set targets c = set_argument spot (SetTo targets (Lit (codes "1"))) (begin (c �
 abbrev piece : VariableTree → TargetTree
 piece v = SetPart Piece v (Lit (codes ",") ∷ Lit (codes "2") ∷ [])
 
--- `SET ^ACCT(X)=1` writes under the node's lock alone
+-- `SET ^ACCT(X)=1` writes only under the node's lock
 a_write_under_its_lock : set (SetWhole (account 4 x) ∷ []) (holds (of_x ∷ [])) ≡ passes (holds (of_x ∷ []) ∷ []) []
 unfolding answer same_term same_state same_case byte_text digits have is_among spares
 a_write_under_its_lock = refl
@@ -53,7 +53,7 @@ each_target_has_its_subscripts : set (SetWhole (account 5 (Lit (codes "1"))) ∷
 unfolding answer same_term same_state same_case byte_text digits have is_among spares
 each_target_has_its_subscripts = refl
 
--- `SET $PIECE(^CODE,",",2)=1` may read, and not write; without a lock it may not even read
+-- `SET $PIECE(^CODE,",",2)=1` may read, but not write; without a lock it may not even read
 a_part_is_read_first : set (piece (plain 11 (codes "CODE")) ∷ []) (holds []) ≡ refused 11 ReadOnly
 unfolding answer same_term same_state same_case byte_text digits have is_among spares
 a_part_is_read_first = refl
@@ -71,7 +71,7 @@ a_held_name_stays : set (SetWhole (local name_x) ∷ []) (holds (of_x ∷ [])) �
 unfolding answer same_term same_state same_case byte_text digits have is_among spares
 a_held_name_stays = refl
 
--- Y is not listed; it may be new; and `SET Y(1)=1` changes nothing that is known
+-- Y is not listed; it may be own; and `SET Y(1)=1` changes nothing that is known
 a_name_has_to_be_listed : set (SetWhole (local (codes "Y")) ∷ []) (holds []) ≡ refused 4 SummaryShort
 unfolding answer same_term same_state same_case byte_text digits have is_among spares
 a_name_has_to_be_listed = refl
@@ -85,7 +85,7 @@ a_subscripted_local_stays : set (SetWhole y_of_one ∷ []) kept ≡ passes (kept
 unfolding answer same_term same_state same_case byte_text digits have is_among spares
 a_subscripted_local_stays = refl
 
--- `SET (X,^ACCT(X))=1` writes the node of the X before it, of which nothing is known any more
+-- `SET (X,^ACCT(X))=1` writes the node of the old X, whose value is no longer known
 under_the_whole_it_is_covered : set (SetWhole (local name_x) ∷ SetWhole (account 6 x) ∷ []) (holds (whole ∷ []))
     ≡ passes (holds (whole ∷ []) ∷ []) []
 unfolding answer same_term same_state same_case byte_text digits have is_among spares
@@ -128,7 +128,7 @@ all_names_have_to_be_listed : kill_others [] (holds []) ≡ refused 2 SummarySho
 unfolding answer same_term same_state same_case byte_text digits have is_among spares
 all_names_have_to_be_listed = refl
 
--- NEW: a name need not be listed, and is own from then on; names and items stand in order, none twice
+-- NEW: a name need not be listed, and is own from then on; names and items are sorted, without duplicates
 a_name_is_new : new_argument spot (NewOne 6 (codes "Y")) (begin (case Any [] (new (Only name_x) ∷ new (Only (codes "Z")) ∷ []) (codes "Y" ∷ []) ∷ []))
     ≡ passes (case Any [] (new (Only name_x) ∷ new (Only (codes "Y")) ∷ new (Only (codes "Z")) ∷ []) [] ∷ []) []
 unfolding answer same_term same_state same_case byte_text digits have is_among spares

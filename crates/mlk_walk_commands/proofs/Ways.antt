@@ -1,4 +1,4 @@
--- Two ways, one after the other.
+-- Two ways, one after another.
 use Rattle.std.proofs.Common.{◌≡◌, Bool, true, false, List, refl, ap, sym, ◌∙◌}
 use Rattle.mlk_syntax.specs.ExprTrees.{Tree}
 use Rattle.mlk_walk_state.specs.declared.state.State.{State}
@@ -8,11 +8,11 @@ use Rattle.mlk_walk_exprs.specs.Walks.{both_ways, with_states, joined}
 use Rattle.mlk_walk_exprs.specs.Expressions.{where_it_may_be, by_condition}
 
 module _ (one other : Walk → Walk) (these those : List State) (w : Walk) where
-  -- the line is over after the first
+  -- the walk of the line is over after the first
   pub first_over : (one (with_states these w)).over ≡ true → both_ways one these other those w ≡ one (with_states these w)
   first_over e = rw e refl
 
-  -- or both are walked
+  -- or both ways are walked
   pub both_walked : (one (with_states these w)).over ≡ false → both_ways one these other those w
       ≡ joined (one (with_states these w)).going (other (with_states those (one (with_states these w))))
   both_walked e = rw e refl

@@ -1,5 +1,5 @@
--- What worked arguments are given: `^ACCT` has the rank 10 and `^LOG` the rank 20; `^ACCT(id,...)` is under `^ACCT(id)`;
--- `^CODE` is only read; the local S is shared; and there is one routine, of the line `F(Y)`.
+-- The input of worked arguments: `^ACCT` has the rank 10 and `^LOG` the rank 20; `^ACCT(id,...)` is under `^ACCT(id)`;
+-- `^CODE` is only read; the local S is shared; and there is one routine, with the line `F(Y)`.
 use Rattle.std.proofs.Common.{ℕ, List, [], ◌∷◌}
 use Rattle.std.specs.Prelude.{codes, bytes_eq, ◌+◌, Option, Some, None, Bool, false}
 use Rattle.mlk_text.specs.declared.code.Code.{Code}
@@ -48,7 +48,7 @@ log = global (codes "LOG") []
 abbrev pub entry : EntryId
 entry = record { routine = 0; line = 0 }
 
--- F wants `^ACCT(Y)`, and gives it back
+-- F needs `^ACCT(Y)`, and releases it
 abbrev pub summary_of_f : Summary
 summary_of_f = record {
   need = global (codes "ACCT") (known.Local (codes "Y") ∷ []) ∷ [];
@@ -62,7 +62,7 @@ abbrev pub routine : RoutineTree
 routine = Named_routine (codes "R")
     (line (LineHead 1 1 10 (Some (codes "F")) (Some (codes "Y" ∷ [])) finished) no_lines no_lines)
 
--- the walked entry may change these names, claim from this rank on, and release all locks or not
+-- the walked entry may change these names, claims from this rank on, and releases all locks or not
 abbrev pub scope : List NameSet → Option ℕ → Bool → Scope
 scope mods low drops = record {
   routines = routine ∷ [];
@@ -88,11 +88,11 @@ scope mods low drops = record {
   is_shared = λ own name. bytes_eq name (codes "S");
 }
 
--- line 4 of level 1, at a command whose word stands at column 2
+-- line 4 of level 1, at a command whose word is at column 2
 abbrev pub spot_in : Scope → Spot
 spot_in sc = record { scope = sc; line = 4; level = 1; block = None; word = 2 }
 
--- the entry may change X, claims from 10 on, and doesn't release all
+-- the entry may change X, claims from 10 on, and does not release all
 abbrev pub spot : Spot
 spot = spot_in (scope (Only name_x ∷ []) (Some 10) false)
 
@@ -115,8 +115,8 @@ account column t = Named column (account_tree column t)
 abbrev pub plain : ℕ → List ℕ → VariableTree
 plain column name = Named column (GlobalName column name no_subs)
 
--- what is known before an argument: of `$TEST`, which terms are held, which names are new, which have the values of the
--- call's begin
+-- what is known before an argument: `$TEST`, the held terms, the own names, and the names with their values of the call's
+-- begin
 abbrev pub case : Test → List LockTerm → List Own → List (List ℕ) → Case
 case test held own kept = record { test = test; held = held; own = own; kept = kept; saved = [] }
 
@@ -126,7 +126,7 @@ holds held = case Any held [] []
 abbrev pub state : Case → State
 state c = record { case = c; captured = [] }
 
--- states go on, cases skip, and nothing is wrong; or all that came is refused at a column
+-- states continue, cases skip, and nothing is wrong; or all are refused at a column
 abbrev pub passes : List Case → List Case → Walk
 passes going skips = record { going = states going; skips = skips; quits = []; faults = []; over = false }
   where

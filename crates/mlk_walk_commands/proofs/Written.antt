@@ -32,13 +32,13 @@ module _ (p : Spot) (from column : ℕ) (w : Walk) where
   global_written caret name v = ap (λ t. each (write_variable p from (Named column t)) w) (tree_global caret name v)
       ∙ ap (λ n. each (λ s. touch p extent.Node Writes caret name (symbols_at from n s) s) w) (counted v.items)
 
--- a local with subscripts, of which nothing is known
+-- a local with subscripts, whose value is not known
 pub local_stays : (p : Spot) (column : ℕ) (name : List ℕ) (w : Walk) (subs : List Subscript) (first : Subscript) (others : List Subscript)
     → subs ≡ first ∷ others → each (change_local p column name (subs_from (sub_trees subs))) w ≡ with_states (put_states w.going []) w
 local_stays p column name w subs first others is =
     ap (λ z. each (change_local p column name (subs_from (sub_trees z))) w) is ∙ all_stay w
 
--- a change that all states allow
+-- a change that is allowed in all states
 pub all_allow : (p : Spot) (column : ℕ) (names : NameSet) (w : Walk)
     → list_all (λ s. is_none (change_fault p.scope (names ∷ []) s)) w.going ≡ true
     → each (change_at p column names) w ≡ each_changed (changed_state (names ∷ [])) w

@@ -1,5 +1,5 @@
--- What one argument of a command makes of states. Standard: SET, KILL, NEW, READ, MERGE, WRITE, DO, JOB, IF; the order
--- within an argument is from left to right, but that SET evaluates its left subscripts, then its value, then assigns.
+-- The effect of one argument of a command on states. Standard: SET, KILL, NEW, READ, MERGE, WRITE, DO, JOB, IF; the order
+-- within an argument is from left to right, except that SET evaluates its left subscripts, then its value, then assigns.
 use Rattle.std.specs.Prelude.{ℕ, ◌+◌, Bool, true, false, List, [], ◌∷◌, length, take, drop, fold, Option, Some, None}
 use Rattle.mlk_syntax.specs.ExprTrees.{Tree, LocalName, GlobalName, ActualTree, actuals_from, count_subs}
 use Rattle.mlk_syntax.specs.Trees.{VariableTree, Named, CallTree, Called, DoTree, DoCall, KillTree, KillOne, KillAllBut}
@@ -24,7 +24,7 @@ use Rattle.mlk_walk_exprs.specs.Expressions.{capture_actuals, value, value_if, v
 use Rattle.mlk_walk_commands.specs.Variables.{count_in, capture_variable, change_at, change_local}
 use Rattle.mlk_walk_commands.specs.News.{in_order, renew}
 
--- SET. The subscripts of all targets, and the further arguments of `$PIECE` and `$EXTRACT`, are evaluated in place.
+-- SET. The subscripts of all targets, and the further arguments of `$PIECE` and `$EXTRACT`, are evaluated where they are written.
 abbrev pub variable_in : TargetTree → VariableTree
 variable_in (SetWhole v) = v
 variable_in (SetPart part v arguments) = v
@@ -39,7 +39,7 @@ capture_target p w t = values p (arguments_in t) (capture_variable p (variable_i
 abbrev pub capture_targets : Spot → List TargetTree → Walk → Walk
 capture_targets p targets w = fold (capture_target p) w targets
 
--- Each target is assigned to in turn; its subscripts stand where they were captured, and all are forgotten at the end. A
+-- The targets are assigned one after another; their subscripts are where they were captured, and all are removed at the end. A
 -- part of a global is read, then written.
 abbrev pub symbols_at : ℕ → ℕ → State → List Sym
 symbols_at from count s = take count (drop from s.captured)
@@ -50,7 +50,7 @@ write_node p column name from count s = touch p extent.Node Writes column name (
 abbrev pub read_node : Spot → ℕ → List ℕ → ℕ → ℕ → State → List Outcome
 read_node p column name from count s = touch p extent.Node Reads column name (symbols_at from count s) s
 
--- a global is read first where a part of it is assigned to
+-- a global is read first if a part of it is assigned
 abbrev pub read_part : Spot → ℕ → VariableTree → State → List Outcome
 read_part p from (Named column (GlobalName caret name subs)) s = read_node p caret name from (count_subs subs) s
 read_part p from (Named column _) s = Goes s ∷ []
@@ -84,7 +84,7 @@ abbrev pub set_argument : Spot → SetTree → Walk → Walk
 set_argument p (SetTo targets t) w = forget (count_targets targets)
     (assign_all p 0 targets (value p t (capture_targets p targets w)))
 
--- KILL of one variable; of all locals but some, at the column of the word. The names of a change ascend, none twice.
+-- KILL of one variable, or of all locals but some, at the column of the word. The names of a change ascend without duplicates.
 abbrev pub kill_row : Spot → VariableTree → State → List Outcome
 kill_row p (Named column (GlobalName caret name subs)) s =
     touch_last p extent.Tree Writes caret name (count_subs subs) s
@@ -99,7 +99,7 @@ abbrev pub kill_argument : Spot → KillTree → Walk → Walk
 kill_argument p (KillOne v) w = each (kill_row p v) (capture_variable p v w)
 kill_argument p (KillAllBut names) w = kill_all_but p names w
 
--- NEW of one name; of all but some, at the column of the word. The names of an item ascend, none twice.
+-- NEW of one name, or of all but some, at the column of the word. The names of an item ascend without duplicates.
 abbrev pub new_all_but : Spot → List (List ℕ) → Walk → Walk
 new_all_but p names w = each (renew p p.word (AllBut (in_order names))) w
 
@@ -143,7 +143,7 @@ write_argument p (WriteValue t) w = value p t w
 write_argument p (WriteCharacter t) w = value p t w
 write_argument p (WriteFormat tab) w = value_if p tab w
 
--- what a call is given
+-- the actuals of a call
 abbrev pub given_list : Option (List ActualTree) → List ActualTree
 given_list None = []
 given_list (Some given) = given
@@ -157,11 +157,11 @@ capture_given p call w = capture_actuals p (actuals_from (given_in call)) w
 abbrev pub do_row : Spot → CallTree → State → List Outcome
 do_row p (Called column callee given) s = all_placed p.line column (at_call p.scope ByDo callee (given_list given) s)
 
--- the actuals of a call that is not done are forgotten
+-- the actuals of a call that is not made are removed
 abbrev pub forget_given : CallTree → Walk → Walk
 forget_given call w = forget (length (given_in call)) w
 
--- DO of a label: the actuals, the argument's own postconditional, the call.
+-- DO with a label: the actuals, the argument's own postconditional, the call.
 abbrev pub do_argument : Spot → DoTree → Walk → Walk
 do_argument p (DoCall call condition) w =
     conditioned p condition (each (do_row p call)) (forget_given call) (capture_given p call w)
@@ -173,7 +173,7 @@ job_row p (Called column callee given) s = placed p.line column (at_job p.scope 
 abbrev pub job_argument : Spot → CallTree → Walk → Walk
 job_argument p call w = each (job_row p call) (capture_given p call w)
 
--- IF: `$TEST` is the argument's truth; a false one skips the rest of the line
+-- IF: `$TEST` is the truth of the argument; a false one skips the rest of the line
 abbrev pub if_outcomes : Option Bool → State → List Outcome
 if_outcomes None s = Goes (tested One s) ∷ Skips (tested Zero s).case ∷ []
 if_outcomes (Some true) s = Goes (tested One s) ∷ []

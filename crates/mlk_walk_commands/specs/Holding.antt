@@ -1,5 +1,5 @@
--- How the code adds claimed terms, for clauses of private functions alone: of more terms than any state may have none is
--- put in its place.
+-- How the code adds claimed terms, for clauses of private functions only: if there are more terms than any state may have, they
+-- are not put in order.
 use Rattle.std.specs.Prelude.{nat_lt, if◌then◌else◌, List, ◌++◌, length}
 use Rattle.mlk_names.specs.declared.term.LockTerm.{LockTerm}
 use Rattle.mlk_walk_state.specs.declared.state.State.{State}

@@ -1,6 +1,6 @@
--- LOCK. Standard: LOCK; in which order it is done, and what is asked of names and ranks, is this project's own choice:
--- the names are evaluated, their subscripts are asked for, the timeout is evaluated, without a sign all is released, and
--- then all names are claimed at once.
+-- LOCK. Standard: LOCK; the order of its parts, and the checks of names and ranks, are this project's own choice: the names are
+-- evaluated, their subscripts are checked, the timeout is evaluated, without a sign all locks are released, and then all names
+-- are claimed at once.
 use Rattle.std.specs.Prelude.{ℕ, ◌+◌, zero, suc, Bool, true, false, if◌then◌else◌, List, [], ◌∷◌, take, drop, fold, Option, Some, None, option_map, option_and_then, Result, Ok, Err}
 use Rattle.mlk_text.specs.declared.code.Code.{Code}
 use Rattle.mlk_text.specs.declared.code.Code.TheVariants.{SharedName, UnknownSubscript}
@@ -40,7 +40,7 @@ count_from n names = fold (λ m v. m + count_in v) n names
 abbrev pub count_names : List VariableTree → ℕ
 count_names names = count_from 0 names
 
--- What is wrong with a subscript: 714 for a shared local without subscripts, 715 for any other unknown.
+-- The fault of a subscript: 714 for a shared local without subscripts, 715 for any other unknown one.
 abbrev pub unknown_code : (List ℕ → Bool) → Tree → Code
 unknown_code shared (LocalName name no_subs) = if shared name then SharedName else UnknownSubscript
 unknown_code shared _ = UnknownSubscript
@@ -51,7 +51,7 @@ subscript_fault shared t (Local name) = None
 subscript_fault shared t Job = None
 subscript_fault shared t Unknown = Some (unknown_code shared t)
 
--- the first that is wrong, with its column
+-- the first fault, with its column
 abbrev pub or_later : ℕ → Option Code → Option (ℕ × Code) → Option (ℕ × Code)
 or_later column None later = later
 or_later column (Some code) later = Some (column, code)
@@ -80,7 +80,7 @@ abbrev pub known_names : Spot → List VariableTree → State → List Outcome
 known_names p names s = unless_unknown p.line
     (names_fault (p.scope.is_shared s.case.own) names (last_captured (count_names names) s)) s
 
--- the terms of names whose subscripts are captured
+-- the terms of names whose subscripts were captured
 abbrev pub term_of : Tree → List Sym → Option LockTerm
 term_of name symbols = option_map (λ subs. record { root = root_of name; subs = subs }) (all_known symbols)
 
@@ -90,18 +90,18 @@ terms_of (v ∷ names) symbols = option_and_then
     (λ t. option_map (λ ts. t ∷ ts) (terms_of names (drop (count_in v) symbols)))
     (term_of (name_in v) (take (count_in v) symbols))
 
--- whether a claim waits until it is granted, or for so long at most
+-- whether a claim has a timeout
 abbrev pub is_timed : Option Tree → Bool
 is_timed None = false
 is_timed (Some timeout) = true
 
--- the column of one of the names, counted from 0
+-- the column of the name at an index
 abbrev pub column_at : List VariableTree → ℕ → ℕ
 column_at [] index = 1
 column_at (v ∷ names) zero = column_in v
 column_at (v ∷ names) (suc index) = column_at names index
 
--- `LOCK -`: names in turn
+-- `LOCK -`: names one after another
 abbrev pub given_back : Spot → ℕ → (State → List Outcome) → Result State Code → List Outcome
 given_back p column next (Ok after) = next after
 given_back p column next (Err code) = Refused p.line column code ∷ []
@@ -111,10 +111,10 @@ give_back p [] terms s = Goes s ∷ []
 give_back p (v ∷ names) [] s = Goes s ∷ []
 give_back p (v ∷ names) (t ∷ terms) s = given_back p (column_in v) (give_back p names terms) (release_one t s)
 
--- A claim that is granted adds its terms to what is held; how is given, since it makes no difference how more than any
--- state may have are added.
+-- A claim that is granted adds its terms to the held ones; how it does is a parameter, since it makes no difference how more
+-- terms than any state may have are added.
 module _ (hold : List LockTerm → State → State) where
-  -- a timed claim is granted and `$TEST` is 1, or not and it is 0
+  -- a timed claim is granted and `$TEST` is 1, or it is not and `$TEST` is 0
   abbrev pub granted : Bool → List LockTerm → State → List Outcome
   granted false terms s = Goes (hold terms s) ∷ []
   granted true terms s = Goes (tested One (hold terms s)) ∷ Goes (tested Zero s) ∷ []
@@ -137,7 +137,8 @@ module _ (hold : List LockTerm → State → State) where
   by_sign p sign.None timed names terms s = claim_after p timed names terms (release_all p.scope s)
   by_sign p sign.Minus timed names terms s = give_back p names terms s
 
-  -- No subscript is unknown here, since 714 and 715 were asked and no call stands in a timeout; so the second never comes.
+  -- No subscript is unknown here, since 714 and 715 were checked and a timeout contains no calls; so the second case does not
+  -- occur.
   abbrev pub lock_terms : Spot → Sign → Bool → List VariableTree → State → Option (List LockTerm) → List Outcome
   lock_terms p s timed names state (Some terms) = by_sign p s timed names terms state
   lock_terms p s timed names state None = Refused p.line p.word UnknownSubscript ∷ []
@@ -146,7 +147,7 @@ module _ (hold : List LockTerm → State → State) where
   lock_row p s timed names state = lock_terms p s timed names (without_last (count_names names) state)
       (terms_of names (last_captured (count_names names) state))
 
--- One argument of LOCK. Whether there are too many states is asked at its end, before anything else follows.
+-- One argument of LOCK. At its end, before anything else follows, it is checked that there are not too many states.
 abbrev pub lock_states : Spot → LockTree → Walk → Walk
 lock_states p (LockNames s names timeout) w = each (lock_row held_too p s (is_timed timeout) names)
     (value_if p timeout (each (known_names p names) (capture_names p names w)))

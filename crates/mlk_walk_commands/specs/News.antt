@@ -1,5 +1,5 @@
--- NEW: names that are made new, and stay so until their block or frame ends. Standard: NEW; that names and items stand in
--- order is this project's own choice, that of certificates.
+-- NEW: names that are created, and exist until their block or frame ends. Standard: NEW; that names and items are in order is
+-- this project's own choice, that of certificates.
 use Rattle.std.specs.Prelude.{ℕ, Bool, not, ◌&&◌, if◌then◌else◌, List, [], ◌∷◌, ◌++◌, filter, fold, Result, Ok, Err}
 use Rattle.std.specs.BTreeSet.{insert_key}
 use Rattle.std.specs.Ordering.{nat_cmp}
@@ -16,15 +16,15 @@ use Rattle.mlk_calls.specs.Changes.{changed_state}
 use Rattle.mlk_walk_exprs.specs.Walks.{Outcome, placed}
 use Rattle.mlk_walk_exprs.specs.Spots.{Spot}
 
--- names in the order of their bytes, none twice
+-- names in the order of their bytes, without duplicates
 abbrev pub put_names : List (List ℕ) → List (List ℕ) → List (List ℕ)
 put_names found names = fold (insert_key (slice_cmp nat_cmp)) found names
 
 abbrev pub in_order : List (List ℕ) → List (List ℕ)
 in_order names = put_names [] names
 
--- New names with these too: the others that do not stand after them, they, and those that stand after them. None but the
--- same names of the same level are left out.
+-- Inserts an item of own names: the other items that are not after it, the item, and those that are after it. Only an equal
+-- item of the same level is dropped.
 abbrev pub is_before : Own → Own → Bool
 is_before o p = not (same_own p o) && not (own_below o p)
 
@@ -34,8 +34,8 @@ put_own o os = filter (is_before o) os ++ o ∷ filter (own_below o) os
 abbrev pub with_own : Own → State → State
 with_own o s = record s { case = record s.case { own = put_own o s.case.own } }
 
--- What changes by being made new: 705 where a held term mentions it; a summary need not list it. What changes, changes
--- for what is captured too.
+-- The effect of NEW on names: 705 if a held term mentions one; a summary need not list it. Captured symbols that mention one
+-- become unknown.
 abbrev pub renewed : List NameSet → State → Result State Code
 renewed names s = if mention names s.case.held then Err Pinned else Ok (changed_state names s)
 

@@ -1,5 +1,5 @@
--- Variables as commands name them, and changes of locals. Standard: SET, KILL, READ (a variable's subscripts are
--- evaluated before the command acts on it).
+-- Variables in arguments of commands, and changes of locals. Standard: SET, KILL, READ (a variable's subscripts are evaluated
+-- before the command acts on it).
 use Rattle.std.specs.Prelude.{ℕ, List, [], ◌∷◌}
 use Rattle.mlk_syntax.specs.ExprTrees.{Tree, LocalName, GlobalName, Subs, no_subs, sub, count_subs}
 use Rattle.mlk_syntax.specs.Trees.{VariableTree, Named}
@@ -35,7 +35,7 @@ capture_variable p v w = capture_subs p (subs_of (name_in v)) w
 abbrev pub change_at : Spot → ℕ → NameSet → State → List Outcome
 change_at p column names s = placed p.line column (change p.scope (names ∷ []) s)
 
--- a change of a local without subscripts, at its column; with subscripts nothing that is known changes
+-- a change of a local without subscripts, at its column; with subscripts it changes nothing that is known
 abbrev pub change_local : Spot → ℕ → List ℕ → Subs → State → List Outcome
 change_local p column name no_subs s = change_at p column (Only name) s
 change_local p column name (sub c t rest) s = Goes s ∷ []

@@ -36,7 +36,7 @@ fn arguments_in(target: &Target) -> &[Expr]
     }
 }
 
-// The subscripts of each target, and the further arguments of `$PIECE` and `$EXTRACT`, are evaluated in place.
+// Evaluates the subscripts of each target, and the further arguments of `$PIECE` and `$EXTRACT`, where they are written.
 fn capture_targets<'a>(
     spot: &'a Spot<'a>,
     targets: &'a [Target],
@@ -51,7 +51,7 @@ fn capture_targets<'a>(
     Ok(())
 }
 
-// As many captured symbols as there are, after the first so many.
+// `count` captured symbols after the first `from`, or as many as there are.
 fn symbols_at(state: &State, from: usize, count: usize) -> &[Sym]
     ensures { result.now ≡ symbols_at from count state.now }
 {
@@ -61,7 +61,7 @@ fn symbols_at(state: &State, from: usize, count: usize) -> &[Sym]
     symbols
 }
 
-// A touch of the node whose subscripts were captured after the first so many symbols.
+// A touch of the node whose `count` subscripts were captured after the first `from` symbols.
 #[derive(Clone, Copy, Drop)]
 struct TouchAt<'a> {
     spot: &'a Spot<'a>,
@@ -71,7 +71,7 @@ struct TouchAt<'a> {
 }
 
 impl<'a> TouchAt<'a> {
-    // Whether it is covered. It takes no memory.
+    // Whether the touch is covered in `state`. Allocates nothing.
     fn is_covered(&self, state: &State) -> bool
         ensures { result ≡ is_none (checked (spot_of self.now.spot.now) self.now.touch.extent self.now.touch.access
             self.now.touch.name.now (symbols_at self.now.from self.now.count state.now) state.now) }
@@ -87,7 +87,7 @@ impl<'a> TouchAt<'a> {
         states.iter().all(|state| self.is_covered(state))
     }
 
-    // It, in each state that goes on: mostly it is covered in all of them, and then no state is moved.
+    // Applies the touch to each live state. Usually it is covered in all of them, and then no state is moved.
     fn make_in_each(&self, walk: &mut Walk) -> Result<(), AllocError>
         ensures { OnOk result (walk.new ≡ each (λ s. touch (spot_of self.now.spot.now) self.now.touch.extent
             self.now.touch.access self.now.touch.column self.now.touch.name.now
@@ -111,7 +111,7 @@ impl<'a> Transfer for TouchAt<'a> {
     }
 }
 
-// A global is read before a part of it is assigned to.
+// The read of a global, a part of which is then assigned.
 #[derive(Clone, Copy, Drop)]
 struct ReadPart<'a> {
     spot: &'a Spot<'a>,
@@ -166,7 +166,7 @@ fn read_target<'a>(
     }
 }
 
-// A variable is assigned to, whose subscripts were captured after the first so many symbols.
+// The assignment of a variable whose subscripts were captured after the first `from` symbols.
 #[derive(Clone, Copy, Drop)]
 struct Write<'a> {
     spot: &'a Spot<'a>,
@@ -204,7 +204,7 @@ impl<'a> Transfer for Write<'a> {
     }
 }
 
-// It, in each state that goes on: a node that all may write, and a local that all may change, move no state.
+// Applies the assignment to each live state. No state is moved if each may write the node or change the local.
 #[tactic(auto, using(crate::proofs::Written::local_written))]
 fn write_in_each<'a>(
     spot: &'a Spot<'a>,
@@ -257,7 +257,7 @@ fn assign<'a>(
     write_in_each(spot, from, variable_in(target), walk)
 }
 
-// Each target is assigned to in turn; and how many symbols were captured for them, which memory bounds.
+// Assigns the targets one after another, and returns how many symbols were captured for them, a number that memory bounds.
 fn assign_all<'a>(
     spot: &'a Spot<'a>,
     targets: &'a [Target],
@@ -277,7 +277,7 @@ fn assign_all<'a>(
     Ok(from)
 }
 
-/// SET: the subscripts of all targets, then the value, then each target is assigned to in turn.
+/// SET: evaluates the subscripts of all targets, then the value, then assigns the targets one after another.
 pub fn set_argument<'a>(
     spot: &'a Spot<'a>,
     argument: &'a SetArgument,

@@ -1,4 +1,4 @@
-// DO of a label, and JOB.
+// DO with a label, and JOB.
 
 ghost use Rattle.std.specs.Prelude.{◌≡◌, OnOk};
 ghost use Rattle.mlk_syntax.specs.ExprTrees.{tree_of, actual_trees};
@@ -18,7 +18,7 @@ use mlk_walk_exprs::{
 };
 use std::alloc::AllocError;
 
-// The actuals of a call; none without a list.
+// The actuals of a call; empty without an actual list.
 fn given_of(call: &Call) -> &[Actual]
     ensures { actual_trees result.now ≡ given_in (call_of call.now) }
 {
@@ -62,7 +62,8 @@ impl<'a> Transfer for Calls<'a> {
     }
 }
 
-// A call where a condition that was evaluated may be true; where it may be false, its actuals are forgotten.
+// Makes the call in states in which a condition that was evaluated may be true, and removes its actuals in those in which it
+// may be false.
 fn call_where<'a>(
     spot: &'a Spot<'a>,
     call: &'a Call,
@@ -82,7 +83,7 @@ fn call_where<'a>(
     walk.join(spot.alloc, waiting)
 }
 
-/// DO of a label: the actuals, the argument's own postconditional, the call.
+/// DO with a label: evaluates the actuals, then the argument's own postconditional, then makes the call.
 pub fn do_argument<'a>(
     spot: &'a Spot<'a>,
     argument: &'a DoArgument,
@@ -101,7 +102,7 @@ pub fn do_argument<'a>(
     }
 }
 
-// A job is begun at a callee, with actuals that were captured last.
+// The start of a job at a callee, with actuals that were captured last.
 #[derive(Clone, Copy, Drop)]
 struct Begins<'a> {
     spot: &'a Spot<'a>,
@@ -124,7 +125,7 @@ impl<'a> Transfer for Begins<'a> {
     }
 }
 
-/// JOB: the actuals, then the entry has to be declared.
+/// JOB: evaluates the actuals; the entry must be declared.
 pub fn job_argument<'a>(
     spot: &'a Spot<'a>,
     argument: &'a Call,

@@ -14,7 +14,7 @@ use mlk_syntax::Expr;
 use mlk_walk_exprs::{Spot, Transfer, Walk, each, value};
 use std::alloc::AllocError;
 
-// `$TEST` is the condition's truth; where it may be false, the rest of the line is skipped.
+// Sets `$TEST` to the truth of the condition; if it may be false, the rest of the line is skipped.
 #[derive(Clone, Copy, Drop)]
 struct ByTruth<'a> {
     spot: &'a Spot<'a>,
@@ -38,8 +38,7 @@ impl<'a> Transfer for ByTruth<'a> {
     }
 }
 
-/// IF: where its argument may be true `$TEST` is 1; where it may be false, `$TEST` is 0 and the rest of the line is
-/// skipped.
+/// IF: if its argument may be true, `$TEST` is 1; if it may be false, `$TEST` is 0 and the rest of the line is skipped.
 pub fn if_argument<'a>(
     spot: &'a Spot<'a>,
     argument: &'a Expr,

@@ -17,7 +17,7 @@ use mlk_text::{List, Name};
 use mlk_walk_exprs::{Spot, Touch, TouchLast, Transfer, Walk, each};
 use std::alloc::AllocError;
 
-/// A variable is killed, whose subscripts were captured last.
+/// The KILL of a variable whose subscripts were captured last.
 #[derive(Clone, Copy, Drop)]
 pub(crate) struct Kill<'a> {
     pub(crate) spot: &'a Spot<'a>,
@@ -54,7 +54,7 @@ impl<'a> Transfer for Kill<'a> {
     }
 }
 
-/// All locals but these are killed, at the column of the word.
+/// The KILL of all locals except `names`, at the column of the word.
 pub fn kill_all_but<'a>(
     spot: &'a Spot<'a>,
     names: &'a List<Name>,
@@ -66,7 +66,7 @@ pub fn kill_all_but<'a>(
     change_all(spot, spot.word, &others, walk)
 }
 
-/// KILL: of one variable, its subscripts are evaluated first; of all locals but some.
+/// KILL: evaluates the subscripts of a variable and kills it, or kills all locals but some.
 pub fn kill_argument<'a>(
     spot: &'a Spot<'a>,
     argument: &'a KillArgument,

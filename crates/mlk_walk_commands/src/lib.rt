@@ -1,4 +1,4 @@
-//! What one argument of a command makes of the states of a walk.
+//! The effect of one argument of a command on the states of a walk.
 #![tactic(auto)]
 
 mod assign;

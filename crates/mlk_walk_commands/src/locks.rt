@@ -21,7 +21,7 @@ use mlk_text::{Code, Column, Failure, copy_of};
 use mlk_walk_exprs::{Mend, Note, Spot, Transfer, Walk, each, last_of, value_if};
 use std::alloc::{AllocError, Global};
 
-// The subscripts of names, which were captured last, are known.
+// The check that the subscripts of names, which were captured last, are known.
 #[derive(Clone, Copy, Drop)]
 struct Known<'a> {
     spot: &'a Spot<'a>,
@@ -44,7 +44,7 @@ impl<'a> Transfer for Known<'a> {
     }
 }
 
-// The names from this one on, counted from 0.
+// The names from index `index` on.
 fn names_from(names: &[Variable], index: usize) -> &[Variable]
     ensures { result.now ≡ drop index names.now }
 {
@@ -61,7 +61,7 @@ fn column_at(names: &[Variable], index: usize) -> Column
     }
 }
 
-// All of these, and those that are held, in no order.
+// Adds `terms` to the held terms, in any order.
 fn with_held(alloc: Global, terms: &[LockTerm], state: State) -> Result<State, AllocError>
     ensures { IfOk result (λ s. s ≡ holding (terms.now ++ state.case.held) state) }
 {
@@ -127,7 +127,7 @@ fn lacking(alloc: Global, term: &LockTerm) -> Result<Mend, AllocError> {
     Ok(Mend::Locks(locks))
 }
 
-// A claim of terms, each at the column of its name.
+// Claims terms, each at the column of its name.
 fn claim(
     spot: &Spot,
     timed: bool,
@@ -149,7 +149,7 @@ fn claim(
     }
 }
 
-// The release of all locks is refused at the word; then the names are claimed.
+// Releases all locks, at the word, then claims the names.
 fn claim_anew(
     spot: &Spot,
     timed: bool,
@@ -171,7 +171,7 @@ fn claim_anew(
     }
 }
 
-// `LOCK -`: names in turn, each held once less.
+// `LOCK -`: releases the names one after another, each once.
 fn give_back(
     spot: &Spot,
     names: &[Variable],
@@ -212,7 +212,7 @@ fn is_timed(timeout: &Option<Expr>) -> bool
     }
 }
 
-// What an argument does with the terms of its names.
+// The effect of an argument with the terms of its names.
 fn by_sign(
     spot: &Spot,
     argument: &LockArgument,
@@ -233,7 +233,7 @@ fn by_sign(
     }
 }
 
-// What an argument does, whose names' subscripts were captured last.
+// The effect of an argument whose names' subscripts were captured last.
 #[derive(Clone, Copy, Drop)]
 struct Locks<'a> {
     spot: &'a Spot<'a>,
@@ -263,8 +263,8 @@ impl<'a> Transfer for Locks<'a> {
     }
 }
 
-/// LOCK: the names are evaluated, their subscripts are known, the timeout is evaluated, without a sign all is released,
-/// and all names are claimed at once or released in turn. Then it is asked whether there are too many states.
+/// LOCK: evaluates the names, whose subscripts must be known, and the timeout; without a sign it releases all locks; then it
+/// claims all names at once or releases them one after another. At the end it checks that there are not too many states.
 pub fn lock_argument<'a>(
     spot: &'a Spot<'a>,
     argument: &'a LockArgument,

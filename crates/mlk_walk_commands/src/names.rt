@@ -1,4 +1,4 @@
-// Lock names, as LOCK gives them.
+// The lock names of LOCK arguments.
 
 ghost use Rattle.std.specs.Prelude.{◌≡◌, IfOk, OnOk, map, option_map, take, drop};
 ghost use Rattle.mlk_syntax.specs.ExprTrees.{tree_of, sub_trees, subs_from};
@@ -15,7 +15,7 @@ use mlk_text::{Code, Column, Name, Root, Subscripts};
 use mlk_walk_exprs::{Spot, Walk};
 use std::alloc::{AllocError, Global};
 
-/// The names are evaluated in order.
+/// Evaluates the subscripts of the names, in order.
 pub(crate) fn capture_names<'a>(
     spot: &'a Spot<'a>,
     names: &'a [Variable],
@@ -29,7 +29,7 @@ pub(crate) fn capture_names<'a>(
     Ok(())
 }
 
-/// How many subscripts the names have, which memory bounds.
+/// The total number of subscripts of the names, which memory bounds.
 pub(crate) fn count_names(names: &[Variable]) -> Result<usize, AllocError>
     ensures { IfOk result (λ n. n ≡ count_names (map variable_of names.now)) }
 {
@@ -70,7 +70,7 @@ fn subscript_fault(spot: &Spot, state: &State, subscript: &Expr, symbol: &Sym) -
     }
 }
 
-// What is wrong with the first of these subscripts that is, with its column.
+// The code and the column of the first of `subscripts` that has a fault, or `None`.
 fn subs_fault(
     spot: &Spot,
     state: &State,
@@ -93,7 +93,7 @@ fn subs_fault(
     None
 }
 
-// The first so many symbols, and the others.
+// Splits `symbols` after the first `count`.
 fn parted(symbols: &[Sym], count: usize) -> (&[Sym], &[Sym])
     ensures first { result.0.now ≡ take count symbols.now }
     ensures rest { result.1.now ≡ drop count symbols.now }
@@ -101,7 +101,7 @@ fn parted(symbols: &[Sym], count: usize) -> (&[Sym], &[Sym])
     symbols.split_at(count.min(symbols.len()))
 }
 
-/// What is wrong with the first subscript of these names that is, with its column.
+/// The code and the column of the first subscript of `names` that has a fault, or `None`.
 pub(crate) fn names_fault(
     spot: &Spot,
     state: &State,
@@ -158,7 +158,7 @@ fn term_of(alloc: Global, name: &Expr, symbols: &[Sym]) -> Result<Option<LockTer
     Ok(Some(LockTerm { root, subs }))
 }
 
-/// The terms of names whose subscripts are captured; none where one is unknown.
+/// The terms of names whose subscripts were captured, or `None` if one is unknown.
 pub(crate) fn terms_of(
     alloc: Global,
     names: &[Variable],

@@ -17,7 +17,7 @@ use mlk_text::{Code, Column, Failure, List, Name, copy_of};
 use mlk_walk_exprs::{Mend, Note, Spot, Transfer, Walk, each};
 use std::alloc::{AllocError, Global};
 
-// What changes by being made new: while a held term mentions one of the names that is refused. A summary need not list it.
+// The state after NEW of `names`: refused if a held term mentions one of them. The summary need not list these changes.
 fn renewed(alloc: Global, names: &[NameSet], state: State) -> Result<State, Failure<RefusedState>>
     ensures { AnswersOf state (λ s. s) result (renewed names.now state) }
 {
@@ -39,7 +39,7 @@ fn with_own(alloc: Global, item: Own, state: State) -> Result<State, AllocError>
     Ok(state)
 }
 
-// Names are made new, at a column.
+// The NEW of names, at a column.
 #[derive(Clone, Copy, Drop)]
 struct Renewal<'a> {
     spot: &'a Spot<'a>,
@@ -87,7 +87,7 @@ fn renew<'a>(
     each(spot.alloc, &transfer, walk)
 }
 
-/// All locals but these are made new, at the column of the word.
+/// The NEW of all locals except `names`, at the column of the word.
 pub fn new_all_but<'a>(
     spot: &'a Spot<'a>,
     names: &'a List<Name>,
@@ -99,7 +99,7 @@ pub fn new_all_but<'a>(
     renew(spot, spot.word, &others, walk)
 }
 
-/// NEW of one name; of all but some, at the column of the word.
+/// NEW of one name, or of all but some, at the column of the word.
 pub fn new_argument<'a>(
     spot: &'a Spot<'a>,
     argument: &'a NewArgument,

@@ -1,4 +1,4 @@
-// The order in which names stand, and new names in it.
+// The order of names, and of own names.
 
 ghost use Rattle.std.specs.Prelude.{◌≡◌, ◌++◌, IfOk, OnOk, filter, map};
 ghost use Rattle.std.specs.BTreeSet.{insert_key};
@@ -35,7 +35,7 @@ fn ordered(alloc: Global, names: &[Name]) -> Result<BTreeSet<Vec<u8>>, AllocErro
     Ok(found)
 }
 
-/// These names in the order of their bytes, none twice.
+/// The names in the order of their bytes, without duplicates.
 pub fn in_order(alloc: Global, names: &[Name]) -> Result<List<Name>, AllocError>
     ensures { IfOk result (λ l. l ≡ in_order names.now) }
 {
@@ -87,7 +87,7 @@ fn is_upto(x: &[u8], y: &[u8]) -> bool
     x <= y
 }
 
-// Mostly both are single names, whose texts are their bytes.
+// Usually both are single names, whose texts are their bytes.
 fn is_below(alloc: Global, first: &NameSet, second: &NameSet) -> Result<bool, AllocError>
     ensures { IfOk result (λ b. b ≡ names_below first.now second.now) }
 {
@@ -113,7 +113,7 @@ fn own_below(alloc: Global, first: &Own, second: &Own) -> Result<bool, AllocErro
     is_below(alloc, &first.names, &second.names)
 }
 
-// Whether an item is another, and does not stand after this one.
+// Whether `item` differs from `other` and is not after it.
 fn is_before(alloc: Global, item: &Own, other: &Own) -> Result<bool, AllocError>
     ensures { IfOk result (λ b. b ≡ is_before item.now other.now) }
 {
@@ -148,7 +148,7 @@ fn after(alloc: Global, own: &[Own], item: &Own) -> Result<Vec<Own>, AllocError>
     Ok(found.into_vec())
 }
 
-/// New names with these too, at their place.
+/// Inserts `item` into own names, in order.
 pub(crate) fn put_own(alloc: Global, own: &[Own], item: Own) -> Result<Vec<Own>, AllocError>
     ensures { IfOk result (λ v. v.items ≡ put_own item own.now) }
 {

@@ -17,7 +17,7 @@ use mlk_syntax::{Expr, MergeArgument, ReadArgument, Variable, WriteArgument};
 use mlk_walk_exprs::{Spot, Touch, TouchLast, Transfer, Walk, each, value, value_if};
 use std::alloc::AllocError;
 
-// With a timeout `$TEST` is 1 or 0.
+// With a timeout, `$TEST` is then 1 or 0.
 #[derive(Clone, Copy, Drop)]
 struct InTime<'a> {
     timeout: Option<&'a Expr>,
@@ -38,7 +38,7 @@ impl<'a> Transfer for InTime<'a> {
     }
 }
 
-// A local is read, whose subscripts were captured last.
+// The READ into a local whose subscripts were captured last.
 #[derive(Clone, Copy, Drop)]
 struct Read<'a> {
     spot: &'a Spot<'a>,
@@ -82,7 +82,7 @@ fn read_variable<'a>(
     each(spot.alloc, &InTime { timeout }, walk)
 }
 
-/// READ: the subscripts, the length, the timeout; then the local changes, and with a timeout `$TEST` is 1 or 0.
+/// READ: evaluates the subscripts, the length and the timeout; then the local changes, and with a timeout `$TEST` is 1 or 0.
 pub fn read_argument<'a>(
     spot: &'a Spot<'a>,
     argument: &'a ReadArgument,
@@ -102,7 +102,7 @@ pub fn read_argument<'a>(
     }
 }
 
-// The tree of a variable is read, whose subscripts were captured last.
+// The read of a variable's tree, whose subscripts were captured last.
 #[derive(Clone, Copy, Drop)]
 struct ReadTree<'a> {
     spot: &'a Spot<'a>,
@@ -134,7 +134,7 @@ impl<'a> Transfer for ReadTree<'a> {
     }
 }
 
-/// MERGE: the subscripts of both sides; then the right tree is read, and the left one is written.
+/// MERGE: evaluates the subscripts of both sides; then it reads the right tree and writes the left one.
 pub fn merge_argument<'a>(
     spot: &'a Spot<'a>,
     argument: &'a MergeArgument,
@@ -158,7 +158,7 @@ pub fn merge_argument<'a>(
     each(spot.alloc, &writes, walk)
 }
 
-/// WRITE: its expressions.
+/// WRITE: evaluates its expressions.
 pub fn write_argument<'a>(
     spot: &'a Spot<'a>,
     argument: &'a WriteArgument,

@@ -1,4 +1,4 @@
-// Variables as commands name them, and changes of locals.
+// Variables in arguments of commands, and changes of locals.
 
 ghost use Rattle.std.specs.Prelude.{◌≡◌, ◌∷◌, [], OnOk, is_none};
 ghost use Rattle.std.specs.List.{list_all};
@@ -19,7 +19,7 @@ use mlk_walk_exprs::{Mend, Note, Spot, Transfer, Walk, capture_subs, each};
 use std::alloc::AllocError;
 use std::slice;
 
-/// The subscripts of a variable; only locals and globals have some.
+/// The subscripts of a variable; empty unless it is a local or a global.
 #[tactic(auto, using(crate::proofs::Opened::local_subs, crate::proofs::Opened::global_subs))]
 pub(crate) fn subscripts_of(variable: &Variable) -> &[Subscript]
     ensures { subs_from (sub_trees result.now) ≡ subs_of (name_in (variable_of variable.now)) }
@@ -31,7 +31,7 @@ pub(crate) fn subscripts_of(variable: &Variable) -> &[Subscript]
     }
 }
 
-/// How many subscripts a variable has.
+/// The number of subscripts of a variable.
 #[tactic(auto, using(crate::proofs::Opened::counted))]
 pub(crate) fn count_of(variable: &Variable) -> usize
     ensures { result ≡ count_in (variable_of variable.now) }
@@ -39,7 +39,7 @@ pub(crate) fn count_of(variable: &Variable) -> usize
     subscripts_of(variable).len()
 }
 
-/// The subscripts of a variable are evaluated.
+/// Evaluates the subscripts of a variable.
 pub(crate) fn capture_variable<'a>(
     spot: &'a Spot<'a>,
     variable: &'a Variable,
@@ -59,7 +59,7 @@ pub struct Change<'a> {
 }
 
 impl<'a> Change<'a> {
-    // What would mend a refused change: that the summary lists the names.
+    // The correction of a refused change: the summary must list the names.
     fn mend(&self, refusal: &RefusedState) -> Result<Mend, AllocError> {
         let spot = self.spot;
         match refusal.code {
@@ -80,7 +80,7 @@ impl<'a> Change<'a> {
         change(self.spot.alloc, self.spot.scope, names, state)
     }
 
-    // Whether it is allowed in each of these states.
+    // Whether the change is allowed in each of `states`.
     fn is_allowed(&self, states: &[State]) -> bool
         ensures { result ≡ list_all (λ s. is_none (change_fault (spot_of self.now.spot.now).scope
             (self.now.names.now ∷ []) s)) states.now }
@@ -91,7 +91,7 @@ impl<'a> Change<'a> {
             .all(|state| is_allowed(self.spot.scope, names, state))
     }
 
-    // It, in each state that goes on, which all allow it.
+    // Applies the change to each live state, all of which allow it.
     fn make_in_place(&self, walk: &mut Walk) -> Result<(), AllocError>
         ensures { OnOk result (walk.new ≡ each_changed (changed_state (self.now.names.now ∷ [])) walk.old) }
     {
@@ -104,7 +104,7 @@ impl<'a> Change<'a> {
         walk.resume(alloc, states)
     }
 
-    /// It, in each state that goes on: mostly all allow it, and then no state is moved.
+    /// Applies the change to each live state. Usually all allow it, and then no state is moved.
     pub fn make_in_each(&self, walk: &mut Walk) -> Result<(), AllocError>
         ensures { OnOk result (walk.new
             ≡ each (change_at (spot_of self.now.spot.now) self.now.column self.now.names.now) walk.old) }
@@ -132,7 +132,7 @@ impl<'a> Transfer for Change<'a> {
     }
 }
 
-/// A change of names, at a column.
+/// Applies a change of `names`, at `column`.
 pub(crate) fn change_all<'a>(
     spot: &'a Spot<'a>,
     column: Column,
@@ -149,7 +149,7 @@ pub(crate) fn change_all<'a>(
     change.make_in_each(walk)
 }
 
-/// A change of a local in each state that goes on; with subscripts nothing that is known changes.
+/// Applies a change of a local to each live state; with subscripts it changes nothing that is known.
 pub(crate) fn change_locals<'a>(
     spot: &'a Spot<'a>,
     column: Column,
@@ -172,7 +172,7 @@ pub(crate) fn change_locals<'a>(
     change.make_in_each(walk)
 }
 
-/// A change of a local, at a column; with subscripts nothing that is known changes.
+/// Applies a change of a local to a state; with subscripts it changes nothing that is known.
 pub(crate) fn change_local(
     spot: &Spot,
     column: Column,

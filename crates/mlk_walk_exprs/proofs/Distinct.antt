@@ -1,4 +1,4 @@
--- States of which none is there twice.
+-- States without duplicates.
 use Rattle.std.proofs.Common.{◌≡◌, false, List, [], ◌∷◌, ◌++◌, refl, ap, ◌∙◌}
 use Rattle.std.specs.List.{list_any}
 use Rattle.mlk_walk_state.specs.declared.state.State.{State}

@@ -1,4 +1,4 @@
--- Worked expressions, by computation: the rule `^ACCT(id,...)` by `^ACCT(id)`.
+-- Worked expressions, shown by computation: the rule `^ACCT(id,...)` by `^ACCT(id)`.
 use Rattle.std.proofs.Common.{◌≡◌, ℕ, suc, List, [], ◌∷◌, ◌++◌, refl}
 use Rattle.std.specs.Prelude.{codes, Some, None, true, false}
 use Rattle.std.specs.Fmt.{digits}
@@ -55,7 +55,7 @@ scope = record {
   is_shared = λ own name. false;
 }
 
--- line 4 of level 1, at a command whose word stands at column 2
+-- line 4 of level 1, at a command whose word is at column 2
 abbrev spot : Spot
 spot = record { scope = scope; line = 4; level = 1; block = None; word = 2 }
 
@@ -75,11 +75,11 @@ case test held = record { test = test; held = held; own = []; kept = []; saved =
 abbrev at_rest : Test → List LockTerm → State
 at_rest test held = record { case = case test held; captured = [] }
 
--- what the value of an expression comes to, where this is said of `$TEST` and these are held
+-- the walk of an expression's value, with this `$TEST` and these held terms
 abbrev walked : Test → List LockTerm → Tree → Walk
 walked test held t = value spot t (begin (case test held ∷ []))
 
--- the state goes on and nothing is wrong; or these are refused
+-- the state continues and nothing is wrong; or these faults refuse it
 abbrev passes : Test → List LockTerm → Walk
 passes test held = record { going = at_rest test held ∷ []; skips = []; quits = []; faults = []; over = false }
 
@@ -107,7 +107,7 @@ a_node_is_not_read_without_its_lock : walked Any [] (account 6) ≡ refused (unc
 unfolding answer same_term same_state same_case byte_text digits
 a_node_is_not_read_without_its_lock = refl
 
--- `$ORDER(^ACCT(X))` reads beside the node, so the node's lock is not enough
+-- `$ORDER(^ACCT(X))` also reads the node's neighbours, so the node's lock is not enough
 order_reads_beside : walked Any one (of function.Order (account 9)) ≡ refused (uncovered 9 ∷ [])
 unfolding answer same_term same_state same_case byte_text digits
 order_reads_beside = refl
@@ -128,7 +128,7 @@ name_reads_nothing : walked Any [] (of function.Name (account 8)) ≡ passes Any
 unfolding answer same_term same_state same_case byte_text digits
 name_reads_nothing = refl
 
--- `$SELECT($TEST:1,1:^ACCT(X))`, where `$TEST` is 1, 0, or not known
+-- `$SELECT($TEST:1,1:^ACCT(X))`, with `$TEST` 1, 0, or unknown
 abbrev select : Tree
 select = Selected (choice (SpecialName special.Test) (Lit (codes "1")) (choice (Lit (codes "1")) (account 18) no_choices))
 
@@ -144,7 +144,7 @@ both_ways_of_an_unknown_one : walked Any [] select ≡ record (passes Any []) { 
 unfolding answer same_term same_state same_case byte_text digits
 both_ways_of_an_unknown_one = refl
 
--- both ways come to one state
+-- both ways lead to one state
 equal_states_count_once : walked Any one select ≡ passes Any one
 unfolding answer same_term same_state same_case byte_text digits
 equal_states_count_once = refl
@@ -160,7 +160,7 @@ a_call_without_a_certificate : walked Any [] (BareCall 7 (record { label = Some 
 unfolding answer same_term same_state same_case byte_text digits few too_many
 a_call_without_a_certificate = refl
 
--- seventeen held terms are too many: the line is over at the command's word
+-- seventeen held terms are too many: the walk of the line is over at the command's word
 abbrev many : List LockTerm
 many = one ++ one ++ one ++ one ++ one ++ one ++ one ++ one ++ one ++ one ++ one ++ one ++ one ++ one ++ one ++ one ++ one
 

@@ -1,4 +1,4 @@
--- Lists of states that wait, gathered one after another.
+-- Lists of waiting states, gathered one after another.
 use Rattle.std.proofs.Common.{◌≡◌, true, false, List, [], ◌∷◌, ◌++◌, refl, ap, sym, subst, ◌∙◌, ⊎_elim}
 use Rattle.std.specs.Prelude.{if◌then◌else◌, ◌||◌}
 use Rattle.std.specs.List.{list_any}
@@ -16,7 +16,7 @@ same_is s t h = (same_decides.states s t).0 h
 same_self : (s : State) → same_state s s ≡ true
 same_self s = (same_decides.states s s).1 refl
 
--- what is there stays there
+-- a state that is there stays there
 there_at_end : (s t : State) (ss : List State) → list_any (same_state s) ss ≡ true → list_any (same_state s) (ss ++ t ∷ []) ≡ true
 there_at_end s t [] h = absurd (false≢true h)
 there_at_end s t (u ∷ ss) h =
@@ -59,7 +59,7 @@ put_after s new ss =
     (λ (e : list_any (same_state s) new ≡ false). ap (λ b. put_states (if b then new else new ++ s ∷ []) ss) e ∙ one_after s new ss)
     (cases_Bool (list_any (same_state s) new))
 
--- putting lists one after another
+-- adding lists one after another
 all_after : (last new ss : List State) → put_states (put_states last new) ss ≡ put_states last (put_states new ss)
 all_after [] new ss = refl
 all_after (s ∷ last) new ss = all_after last (put_state s new) ss ∙ ap (put_states last) (put_after s new ss)
@@ -74,7 +74,7 @@ gather_one first [] going = refl
 gather_one first (ss ∷ others) going =
     all_after going (in_turn ss others) first ∙ ap (put_states going) (turns_after others ss first)
 
--- what waits is joined in one turn
+-- the waiting states are joined at once
 pub joins_gather : (waiting : List (List State)) (w : Walk) → w.over ≡ false → joins waiting w ≡ with_states (gathered waiting w.going) w
 joins_gather [] w e = refl
 joins_gather (first ∷ waiting) w e =

@@ -1,7 +1,7 @@
 -- Lists whose elements are changed in place, one after another.
 use Rattle.std.proofs.Common.{◌≡◌, ◌<◌, ◌+◌, ◌∙◌, ℕ, zero, suc, List, [], ◌∷◌, ◌++◌, length, drop, map, take, slice_set, slice_index_or, add-one, refl, ap, sym, subst, arith}
 
--- those before an index are changed already
+-- those before an index are already changed
 abbrev pub changed_to : {A : Type 0} → (A → A) → ℕ → List A → List A
 changed_to f i xs = map f (take i xs) ++ drop i xs
 

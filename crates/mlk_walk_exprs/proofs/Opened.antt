@@ -1,4 +1,4 @@
--- How the walk of each kind of expression opens.
+-- How the walk of each kind of expression unfolds.
 use Rattle.std.specs.Prelude.{OnOk}
 use Rattle.std.proofs.Common.{◌≡◌, ◌∙◌, ap, sym, subst, arith, eqb-true, true, false, nat_eq, Result, refl, suc, length, ℕ, List, [], ◌∷◌, None, Some, Vec, Box, Global}
 use Rattle.mlk_text.specs.declared.operator.Op.{Op}

@@ -1,4 +1,4 @@
--- Transfer functions that let every state go on.
+-- Transfer functions by which every state continues.
 use Rattle.std.proofs.Common.{◌≡◌, ◌-◌, arith, length, take, Bool, true, ℕ, List, [], ◌∷◌, ◌++◌, map, refl, ap, ◌∙◌, Option, None, Some}
 use Rattle.std.specs.Prelude.{flat_map, is_none}
 use Rattle.std.specs.List.{list_all}
@@ -25,7 +25,7 @@ module _ (allows : State → Bool) (row : State → List Outcome) (change : Stat
       let parts = and_parts (allows s) (list_all allows ss) h in
       ap (λ os. add_all (os ++ flat_map row ss) w) (goes s parts.0) ∙ all_go ss (add (Goes (change s)) w) parts.1
 
-  -- each state changes, where all are allowed to
+  -- each state changes, if the change is allowed for all
   pub all_change : (w : Walk) → list_all allows w.going ≡ true → each row w ≡ each_changed change w
   all_change w h = all_go w.going (with_states [] w) h
 
@@ -60,7 +60,7 @@ all_kept (s ∷ ss) =
 pub none_forgotten : (w : Walk) → each_changed (without_last 0) w ≡ with_states (put_states w.going []) w
 none_forgotten w = ap (λ (ss : List State). with_states (put_states ss []) w) (all_kept w.going)
 
--- a use with the subscripts that were captured last, which is covered in all
+-- a use with the subscripts that were captured last, which is covered in all states
 pub all_read : (p : Spot) (how : Use) (column : ℕ) (name : List ℕ) (count : ℕ) (w : Walk)
     → list_all (λ s. is_none (read_fault p how name (last_captured count s) s)) w.going ≡ true
     → each (read_last p how column name count) w ≡ each_changed (without_last count) w
@@ -68,7 +68,7 @@ all_read p how column name count =
     all_change (λ s. is_none (read_fault p how name (last_captured count s) s)) (read_last p how column name count) (without_last count)
     (λ s h. ap (λ f. covered_or f p.line column (without_last count s)) (is_nothing (read_fault p how name (last_captured count s) s) h))
 
--- a touch that is covered in all
+-- a touch that is covered in all states
 pub all_touch : (p : Spot) (extent : Extent) (access : Access) (column : ℕ) (name : List ℕ) (symbols : State → List Sym) (w : Walk)
     → list_all (λ s. is_none (checked p extent access name (symbols s) s)) w.going ≡ true
     → each (λ s. touch p extent access column name (symbols s) s) w ≡ with_states (put_states w.going []) w

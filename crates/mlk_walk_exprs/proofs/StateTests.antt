@@ -1,4 +1,4 @@
--- That `==` of states decides whether they are one.
+-- `==` of states decides whether they are equal.
 use Rattle.std.proofs.Common.{◌≡◌, refl, ap, ◌∙◌, rules}
 use Rattle.std.specs.Prelude.{Decides}
 use Rattle.std.proofs.lemmas.Bool.Decides.{Decides-and, Decides-like}

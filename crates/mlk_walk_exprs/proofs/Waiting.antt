@@ -1,4 +1,4 @@
--- Lists of states that wait, and turns of loops.
+-- Lists of waiting states, and iterations of loops.
 use Rattle.std.proofs.Common.{◌≡◌, ◌<◌, ◌+◌, ℕ, true, false, List, [], ◌∷◌, ◌++◌, length, drop, slice_index_or, refl, ap, sym, ◌∙◌}
 use Rattle.mlk_walk_state.specs.declared.state.State.{State}
 use Rattle.mlk_walk_exprs.specs.declared.walk.Walk.{Walk}
@@ -11,18 +11,18 @@ use Rattle.mlk_walk_exprs.specs.Spots.{Spot}
 use Rattle.mlk_walk_exprs.specs.declared.reference.Use.TheVariants.{ItsValue}
 use Rattle.mlk_walk_exprs.specs.Expressions.{evaluate, evaluate_choices, where_chosen, passed_over, capture, capture_subs}
 
--- the list that came last is joined first
+-- the last list is joined first
 pub joins_last : (waiting : List (List State)) (states : List State) (w : Walk)
     → joins (waiting ++ states ∷ []) w ≡ joins waiting (joined states w)
 joins_last [] states w = refl
 joins_last (first ∷ waiting) states w = ap (joined first) (joins_last waiting states w)
 
--- where the line is over nothing is joined
+-- if the walk of the line is over, nothing is joined
 pub joins_over : (waiting : List (List State)) (w : Walk) → w.over ≡ true → joins waiting w ≡ w
 joins_over [] w e = refl
 joins_over (first ∷ waiting) w e = ap (joined first) (joins_over waiting w e) ∙ rw e refl
 
--- one choice of `$SELECT` is done: the states of its value wait, and the further ones are walked from where it may fail
+-- one choice of `$SELECT` is done: the states of its value wait, and the further choices are walked from where it may fail
 choice_done : (p : Spot) (waiting : List (List State)) (condition value : Tree) (rest : Choices) (w found : Walk)
     → found ≡ evaluate p ItsValue value (where_chosen p condition w) → found.over ≡ false
     → joins (waiting ++ found.going ∷ []) (evaluate_choices p rest (with_states (passed_over p condition w) found))
@@ -32,7 +32,7 @@ choice_done p waiting condition value rest w found is e =
     joins_last waiting found.going (evaluate_choices p rest (with_states (passed_over p condition w) found))
     ∙ ap (joins waiting) (rw (is, f) refl)
 
--- so is one turn of the loop over them
+-- and so is one iteration of the loop over them
 pub choice_turn : (p : Spot) (cs : List (Expr × Expr)) (i : ℕ) (c : Expr × Expr) (waiting more : List (List State))
     (w held found : Walk) (failed going : List State) (whole : Walk)
     → i < length cs → c ≡ slice_index_or cs i c
@@ -49,7 +49,7 @@ choice_turn p cs i c waiting more w held found failed going whole low at h f e o
     ∙ ap (λ z. joins waiting (evaluate_choices p (choices_from (choices z)) w)) (sym (drop_step cs i c low at))
     ∙ before
 
--- one turn of the loop over subscripts
+-- one iteration of the loop over subscripts
 sub_is : (s : Subscript) → sub_of s ≡ (s.column, tree_of s.value)
 sub_is s = fold_out-Subscript ActualTree Tree (ℕ × Tree) actual_step expr_step subscript_step s
 

@@ -1,4 +1,4 @@
--- Expressions, from left to right: what their references and calls make of states. Standard: expressions, `$SELECT`,
+-- Expressions, from left to right: the effect of their references and calls on states. Standard: expressions, `$SELECT`,
 -- extrinsic functions, actual lists; a reference's subscripts come before its touch.
 use Rattle.std.specs.Prelude.{ℕ, Bool, true, false, not, if◌then◌else◌, List, [], ◌∷◌, map, filter, fold, Option, Some, None}
 use Rattle.mlk_syntax.specs.declared.expr.Callee.{Callee}
@@ -25,19 +25,19 @@ agrees wanted None = true
 agrees true (Some truth) = truth
 agrees false (Some truth) = not truth
 
--- the states in which a condition may be true, or may be false; an unknown truth gives both
+-- the states in which a condition may be true, or may be false; an unknown truth value allows both
 abbrev pub where_it_may_be : Bool → Scope → Tree → List State → List State
 where_it_may_be wanted sc t ss = filter (λ s. agrees wanted (truth_in sc t s)) ss
 
 abbrev pub if_agrees : Bool → Option Bool → State → List State
 if_agrees wanted truth s = if agrees wanted truth then s ∷ [] else []
 
--- Both ways of a condition that was evaluated: this where it may be true, and beside it that where it may be false.
+-- Both branches of a condition that was evaluated: one where it may be true, the other where it may be false.
 abbrev pub by_condition : Scope → Tree → (Walk → Walk) → (Walk → Walk) → Walk → Walk
 by_condition sc t run other w =
     both_ways run (where_it_may_be true sc t w.going) other (where_it_may_be false sc t w.going) w
 
--- an evaluated expression's symbol is captured
+-- captures the symbol of an expression that was evaluated
 abbrev pub with_symbol_of : Scope → Tree → State → State
 with_symbol_of sc t s = with_symbol (symbol_in sc t s) s
 
@@ -52,13 +52,13 @@ abbrev pub forget_subs : Subs → Walk → Walk
 forget_subs no_subs w = w
 forget_subs (sub column t rest) w = each_changed (without_last (count_subs (sub column t rest))) w
 
--- An extrinsic call whose actuals are captured. Whether there are too many states is asked after each.
+-- An extrinsic call whose actuals were captured. After each one it is checked that there are not too many states.
 abbrev pub extrinsic : Spot → ℕ → Callee → List ActualTree → Walk → Walk
 extrinsic p column callee given w =
     few p.line p.word (each (λ s. all_placed p.line column (at_call p.scope Extrinsic callee given s)) w)
 
 abbrev mutual
-  -- an expression whose name, where it is one, is used so
+  -- an expression; if it is a name, it is used as `how` says
   pub evaluate : Spot → Use → Tree → Walk → Walk
   evaluate p how (Lit value) w = w
   evaluate p how Free w = w
@@ -75,12 +75,12 @@ abbrev mutual
   evaluate p how (CallOf column callee actuals) w =
       extrinsic p column callee (as_list actuals) (capture_actuals p actuals w)
 
-  -- the arguments of a function, which makes such use of the first
+  -- the arguments of a function, which uses the first as `how` says
   pub evaluate_all : Spot → Use → Trees → Walk → Walk
   evaluate_all p how no_trees w = w
   evaluate_all p how (tree t ts) w = evaluate_all p ItsValue ts (evaluate p how t w)
 
-  -- subscripts: each symbol is captured once its subscript is evaluated
+  -- subscripts: the symbol of each is captured after its evaluation
   pub capture_subs : Spot → Subs → Walk → Walk
   capture_subs p no_subs w = w
   capture_subs p (sub column t rest) w = capture_subs p rest (capture p.scope t (evaluate p ItsValue t w))
@@ -90,13 +90,13 @@ abbrev mutual
   evaluate_links p no_links w = w
   evaluate_links p (link op t rest) w = evaluate_links p rest (evaluate p ItsValue t w)
 
-  -- `$SELECT`: the value of the first condition that is true; where none is, the case ends
+  -- `$SELECT`: the value of the first condition that is true; if none is, the case ends
   pub evaluate_choices : Spot → Choices → Walk → Walk
   evaluate_choices p no_choices w = with_states [] w
   evaluate_choices p (choice condition value rest) w = by_condition p.scope condition
       (evaluate p ItsValue value) (evaluate_choices p rest) (evaluate p ItsValue condition w)
 
-  -- an actual: a name by reference, and one that is left out, is unknown
+  -- an actual: a name by reference, and a missing one, is unknown
   pub capture_actual : Spot → ActualTree → Walk → Walk
   capture_actual p (Given t) w = capture p.scope t (evaluate p ItsValue t w)
   capture_actual p (ByRef column name) w = capture_unknown w
@@ -107,7 +107,7 @@ abbrev mutual
   capture_actuals p (actual a rest) w = capture_actuals p rest (capture_actual p a w)
 
 -- A condition of `$SELECT`: the walk in the states in which it may be true, and the states in which it may be false. For
--- private clauses alone.
+-- private clauses only.
 abbrev pub where_chosen : Spot → Tree → Walk → Walk
 where_chosen p condition w = chosen_of p condition (evaluate p ItsValue condition w)
   where
@@ -128,7 +128,7 @@ value_if p (Some t) w = value p t w
 abbrev pub values : Spot → List Tree → Walk → Walk
 values p ts w = fold (λ found t. value p t found) w ts
 
--- A postconditional: where it is false the states are set aside, and `$TEST` stays. Standard: postconditionals.
+-- A postconditional: if it is false, the states are set aside, and `$TEST` is kept. Standard: postconditionals.
 abbrev pub conditioned : Spot → Option Tree → (Walk → Walk) → (Walk → Walk) → Walk → Walk
 conditioned p None run aside w = run w
 conditioned p (Some t) run aside w = by_condition p.scope t run aside (value p t w)

@@ -1,11 +1,11 @@
--- Where in a line the walk stands. This project's own choice.
+-- Where in a line the walk is. This project's own choice.
 use Rattle.std.specs.Prelude.{ℕ, Option, option_copied}
 use Rattle.mlk_walk_state.specs.Scope.{Scope, scope_of}
 use Rattle.mlk_walk_exprs.specs.declared.spot.Block.{Block}
 use Rattle.mlk_walk_exprs.specs.declared.spot.Spot.{Spot as GivenSpot}
 
--- what the walk is given; the line's number, level and block, which has the number of its first line and the cases in
--- which it may end; and the column of the running command's word
+-- the scope of the walk; the line's number, level and block, which has the number of its first line and the cases in which it may
+-- end; and the column of the running command's word
 pub record Spot : Type 0 where
   pub scope : Scope
   pub line : ℕ

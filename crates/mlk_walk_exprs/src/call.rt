@@ -17,7 +17,7 @@ use mlk_syntax::{Actual, Callee};
 use mlk_text::{Code, Column, Failure};
 use std::alloc::AllocError;
 
-/// A call of a callee, at a column, with these actuals, whose symbols were captured last.
+/// A call of `callee`, at a column, with the given actuals, whose symbols were captured last.
 #[derive(Clone, Copy, Drop)]
 pub struct CallTransfer<'a> {
     pub spot: &'a Spot<'a>,
@@ -28,7 +28,7 @@ pub struct CallTransfer<'a> {
 }
 
 impl<'a> CallTransfer<'a> {
-    // What would mend a call that the walked entry's summary does not allow.
+    // The change of the walked entry's summary that would allow the call.
     fn wider_summary(&self, state: &State) -> Result<Mend, AllocError> {
         let spot = self.spot;
         let names = call_changes(spot.alloc, spot.scope, self.callee, self.given)?;

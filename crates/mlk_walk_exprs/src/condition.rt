@@ -32,7 +32,7 @@ impl Sides {
         }
     }
 
-    // One more state, where this is known of the condition.
+    // Adds `state`, in which the condition has the truth value `truth`, if it is known.
     fn add(&mut self, truth: Option<bool>, state: State) -> Result<(), AllocError>
         ensures holds { OnOk result (self.new.holds ≡ self.old.holds ++ if_agrees true truth state) }
         ensures fails { OnOk result (self.new.fails ≡ self.old.fails ++ if_agrees false truth state) }
@@ -48,7 +48,7 @@ impl Sides {
     }
 }
 
-/// The states, split by a condition that was evaluated; those in which it is unknown stand on both sides.
+/// Splits states by a condition that was evaluated; a state in which its value is unknown is on both sides.
 pub fn split_by(spot: &Spot, condition: &Expr, states: List<State>) -> Result<Sides, AllocError>
     ensures { IfOk result (λ s. (s.holds ≡ where_it_may_be true (scope_of spot.now.scope.now) (tree_of condition.now) states)
         × (s.fails ≡ where_it_may_be false (scope_of spot.now.scope.now) (tree_of condition.now) states)) }
@@ -61,8 +61,7 @@ pub fn split_by(spot: &Spot, condition: &Expr, states: List<State>) -> Result<Si
     Ok(sides)
 }
 
-/// The walk goes on in the states in which a condition that was evaluated may be true; the states are answered in which
-/// it may be false.
+/// Keeps the live states in which a condition that was evaluated may be true, and returns those in which it may be false.
 pub fn where_it_holds(
     spot: &Spot,
     condition: &Expr,
@@ -77,7 +76,7 @@ pub fn where_it_holds(
     Ok(sides.fails)
 }
 
-// The states that wait, and those that go on, in one list.
+// The waiting states and the live ones, in one list.
 fn gathered(waiting: Vec<List<State>>, going: List<State>) -> Result<List<State>, AllocError>
     ensures { IfOk result (λ all. all ≡ gathered waiting.items going) }
 {
@@ -91,7 +90,7 @@ fn gathered(waiting: Vec<List<State>>, going: List<State>) -> Result<List<State>
     put_all(all, going.into_vec())
 }
 
-/// The states that wait, beside those that go on: those that waited longest stand first.
+/// Adds the waiting states to the live ones: those that waited longest come first.
 pub fn join_all(alloc: Global, waiting: Vec<List<State>>, walk: &mut Walk) -> Result<(), AllocError>
     ensures { OnOk result (walk.new ≡ joins waiting.items walk.old) }
 {

@@ -1,4 +1,4 @@
-// Expressions: what their references and calls make of the states of a walk.
+// Expressions: the effect of their references and calls on the states of a walk.
 
 ghost use Rattle.std.specs.Prelude.{◌≡◌, IfOk, OnOk, option_map, option_copied};
 ghost use Rattle.mlk_syntax.specs.ExprTrees.{tree_of, trees, trees_from, sub_trees, subs_from, no_subs, links, links_from, choices, choices_from, actual_of, actual_trees, actuals_from};
@@ -22,7 +22,7 @@ use mlk_syntax::{Actual, Callee, Expr, Subscript};
 use mlk_text::{Column, List, Name, Op};
 use std::alloc::AllocError;
 
-// The symbol of a local without subscripts is captured.
+// Captures the symbol of a local without subscripts.
 #[inline(always)]
 fn capture_local(spot: &Spot, name: &Name, state: &mut State) -> Result<(), AllocError>
     ensures { OnOk result (state.new ≡ with_symbol
@@ -34,8 +34,7 @@ fn capture_local(spot: &Spot, name: &Name, state: &mut State) -> Result<(), Allo
     state.captured.push(Sym::Local(name.copy()?))
 }
 
-// The symbol of an expression that was evaluated is captured. Most are constants or locals, whose symbols are made where
-// they stay.
+// Captures the symbol of an expression that was evaluated. Most are constants or locals, whose symbols are created in place.
 #[inline(always)]
 fn capture_value(spot: &Spot, expression: &Expr, state: &mut State) -> Result<(), AllocError>
     ensures { OnOk result (state.new ≡ with_symbol_of (scope_of spot.now.scope.now) (tree_of expression.now) state.old) }
@@ -52,7 +51,7 @@ fn capture_value(spot: &Spot, expression: &Expr, state: &mut State) -> Result<()
     }
 }
 
-/// The symbol of an expression that was evaluated is captured, in each state.
+/// Captures the symbol of an expression that was evaluated, in each state.
 #[inline(always)]
 pub fn capture(spot: &Spot, expression: &Expr, walk: &mut Walk) -> Result<(), AllocError>
     ensures { OnOk result (walk.new ≡ capture (spot_of spot.now).scope (tree_of expression.now) walk.old) }
@@ -65,7 +64,7 @@ pub fn capture(spot: &Spot, expression: &Expr, walk: &mut Walk) -> Result<(), Al
     Ok(())
 }
 
-/// Of something without a symbol, unknown is captured.
+/// Captures unknown, for something without a symbol.
 pub fn capture_unknown(spot: &Spot, walk: &mut Walk) -> Result<(), AllocError>
     ensures { OnOk result (walk.new ≡ capture_unknown walk.old) }
 {
@@ -126,7 +125,7 @@ fn extrinsic<'a>(
     walk.few(spot.alloc, spot.line, spot.word)
 }
 
-/// An expression, whose name, where it is one, is used so.
+/// Evaluates an expression; if it is a name, it is used as `how` says.
 #[cycle(evaluation)]
 #[tactic(auto, using(crate::proofs::Opened::local_opens, crate::proofs::Opened::global_opens, crate::proofs::Opened::unary_opens, crate::proofs::Opened::binary_opens, crate::proofs::Opened::function_opens, crate::proofs::Opened::bare_opens, crate::proofs::Opened::call_opens))]
 pub fn evaluate<'a>(
@@ -166,7 +165,7 @@ pub fn evaluate<'a>(
     }
 }
 
-// The arguments of a function, which makes such use of the first.
+// Evaluates the arguments of a function, which uses the first as `how` says.
 #[cycle(evaluation)]
 fn evaluate_all<'a>(
     spot: &'a Spot<'a>,
@@ -184,7 +183,7 @@ fn evaluate_all<'a>(
     Ok(())
 }
 
-/// Subscripts: each symbol is captured once its subscript is evaluated.
+/// Evaluates subscripts, and captures the symbol of each after its evaluation.
 #[cycle(evaluation)]
 pub fn capture_subs<'a>(
     spot: &'a Spot<'a>,
@@ -200,7 +199,7 @@ pub fn capture_subs<'a>(
     Ok(())
 }
 
-// The operands after the first.
+// Evaluates the operands after the first.
 #[cycle(evaluation)]
 fn evaluate_links<'a>(
     spot: &'a Spot<'a>,
@@ -215,7 +214,7 @@ fn evaluate_links<'a>(
     Ok(())
 }
 
-// A condition: the walk goes on in the states in which it may be true; the states are answered in which it may be false.
+// Evaluates a condition, keeps the live states in which it may be true, and returns those in which it may be false.
 #[cycle(evaluation)]
 fn evaluate_condition<'a>(
     spot: &'a Spot<'a>,
@@ -229,7 +228,7 @@ fn evaluate_condition<'a>(
     where_it_holds(spot, condition, walk)
 }
 
-// `$SELECT`: the states of each value wait until the further conditions are evaluated.
+// Evaluates `$SELECT`: the states of each value wait until the conditions after it are evaluated.
 #[cycle(evaluation)]
 fn evaluate_choices<'a>(
     spot: &'a Spot<'a>,
@@ -251,7 +250,7 @@ fn evaluate_choices<'a>(
     join_all(spot.alloc, waiting, walk)
 }
 
-// An actual: a name by reference, and one that is left out, is unknown.
+// Evaluates an actual and captures its symbol: unknown for a name by reference and for a missing actual.
 #[cycle(evaluation)]
 fn capture_actual<'a>(
     spot: &'a Spot<'a>,
@@ -269,8 +268,8 @@ fn capture_actual<'a>(
     }
 }
 
-/// Actuals: each symbol is captured once its actual is evaluated; that of a name by reference, and of one that is left
-/// out, is unknown.
+/// Evaluates actuals, and captures the symbol of each after its evaluation: unknown for a name by reference and for a missing
+/// actual.
 #[cycle(evaluation)]
 pub fn capture_actuals<'a>(
     spot: &'a Spot<'a>,
@@ -285,7 +284,7 @@ pub fn capture_actuals<'a>(
     Ok(())
 }
 
-/// The value of an expression.
+/// Evaluates an expression for its value.
 pub fn value<'a>(
     spot: &'a Spot<'a>,
     expression: &'a Expr,
@@ -296,7 +295,7 @@ pub fn value<'a>(
     evaluate(spot, Use::ItsValue, expression, walk)
 }
 
-/// The value of an expression, where there is one.
+/// Evaluates an optional expression for its value.
 pub fn value_if<'a>(
     spot: &'a Spot<'a>,
     expression: Option<&'a Expr>,
@@ -310,7 +309,7 @@ pub fn value_if<'a>(
     }
 }
 
-/// The values of expressions, in their order.
+/// Evaluates expressions for their values, in order.
 pub fn values<'a>(
     spot: &'a Spot<'a>,
     expressions: &'a [Expr],

@@ -1,4 +1,4 @@
-//! What the parts of commands make of the states of a walk: references, calls, expressions and conditions.
+//! The effect of the parts of commands on the states of a walk: references, calls, expressions and conditions.
 #![tactic(auto)]
 
 mod call;

@@ -1,4 +1,4 @@
-// What touches of globals ask of the rules.
+// Checks of global touches against the rules.
 
 ghost use Rattle.std.specs.Prelude.{◌≡◌, ◌-◌, ℕ, IfOk, OnOk, Option, is_none, length, take, option_map};
 ghost use Rattle.std.specs.List.{list_all};
@@ -24,17 +24,17 @@ use std::alloc::{AllocError, Global};
 #[derive(Clone, Copy, Debug, Drop, PartialEq, Eq)]
 pub enum Use {
     ItsValue,
-    /// its value, and what is below it
+    /// its value, and everything below it
     Below,
-    /// what is beside it
+    /// its siblings
     Beside,
     /// all of its global
     AllOfIt,
-    /// nothing but how it is spelled
+    /// only its spelling
     Spelled,
 }
 
-/// The use that a function makes of the name that is its first argument.
+/// How a function uses the name that is its first argument.
 pub fn use_of(function: Function) -> Use
     ensures { result ≡ use_of function }
 {
@@ -47,7 +47,7 @@ pub fn use_of(function: Function) -> Use
     }
 }
 
-/// The last so many captured symbols, or all where there are fewer.
+/// The last `count` captured symbols, or all if there are fewer.
 pub fn last_of(state: &State, count: usize) -> &[Sym]
     ensures { result.now ≡ last_captured count state.now }
 {
@@ -107,7 +107,7 @@ fn mend_of(
     Ok(Mend::Locks(lacking))
 }
 
-/// A touch of a global: how far it goes and what it does, its name at the column of its `^`.
+/// A touch of a global: its extent, its access, and its name with the column of its `^`.
 #[derive(Clone, Copy, Drop)]
 pub struct Touch<'a> {
     pub extent: Extent,
@@ -117,7 +117,7 @@ pub struct Touch<'a> {
 }
 
 impl<'a> Touch<'a> {
-    // What is wrong with a touch of the node with these subscripts. It takes no memory.
+    // The code of what is wrong with a touch of the node with the subscripts `symbols`, or `None`. Allocates nothing.
     #[inline(always)]
     fn code(&self, spot: &Spot, symbols: &[Sym], state: &State) -> Option<Code>
         ensures { result ≡ checked (spot_of spot.now) self.now.extent self.now.access self.now.name.now symbols.now state.now }
@@ -126,14 +126,14 @@ impl<'a> Touch<'a> {
         fault_of(spot.scope.rules(), state.case.held.as_slice(), &lent)
     }
 
-    /// Whether a touch of the node with these subscripts is covered. It takes no memory.
+    /// Whether a touch of the node with the subscripts `symbols` is covered. Allocates nothing.
     pub fn is_covered(&self, spot: &Spot, symbols: &[Sym], state: &State) -> bool
         ensures { result ≡ is_none (checked (spot_of spot.now) self.now.extent self.now.access self.now.name.now symbols.now state.now) }
     {
         self.code(spot, symbols, state).is_none()
     }
 
-    // What would mend what is wrong with it.
+    // What would correct the fault `code` of the touch.
     fn mend(
         &self,
         spot: &Spot,
@@ -145,7 +145,7 @@ impl<'a> Touch<'a> {
         mend_of(spot, code, state.case.held.as_slice(), &reference)
     }
 
-    /// What is wrong with a touch of the node with these subscripts, and what would mend it.
+    /// The fault of a touch of the node with the subscripts `symbols` and what would correct it, or `None`.
     pub fn fault(
         &self,
         spot: &Spot,
@@ -165,7 +165,7 @@ impl<'a> Touch<'a> {
     }
 }
 
-/// What becomes of a state of which a fault was found, or none.
+/// The outcome for a state: refused if there is a fault, otherwise live.
 #[inline(always)]
 pub fn covered_or(
     spot: &Spot,
@@ -186,7 +186,7 @@ pub fn covered_or(
     }
 }
 
-/// A touch of the node whose subscripts were captured last; they are forgotten.
+/// A touch of the node whose subscripts were captured last; they are removed.
 #[derive(Clone, Copy, Drop)]
 pub struct TouchLast<'a> {
     pub spot: &'a Spot<'a>,
@@ -212,7 +212,7 @@ impl<'a> Transfer for TouchLast<'a> {
     }
 }
 
-/// The use of a global with as many subscripts, which were captured last; they are forgotten.
+/// A use of the global `name` whose `count` subscripts were captured last; they are removed.
 #[derive(Clone, Copy, Drop)]
 pub struct ReadLast<'a> {
     pub spot: &'a Spot<'a>,
@@ -236,7 +236,7 @@ impl<'a> ReadLast<'a> {
         }
     }
 
-    // Whether nothing is wrong with it. It takes no memory.
+    // Whether the use has no fault in `state`. Allocates nothing.
     fn is_covered(&self, state: &State) -> bool
         ensures { result ≡ is_none (read_fault (spot_of self.now.spot.now) self.now.how self.now.name.now
             (last_captured self.now.count state.now) state.now) }
@@ -269,7 +269,7 @@ impl<'a> ReadLast<'a> {
         }
     }
 
-    // Whether nothing is wrong with it in any of these states.
+    // Whether the use has no fault in any of `states`.
     fn are_covered(&self, states: &[State]) -> bool
         ensures { result ≡ list_all (λ s. is_none (read_fault (spot_of self.now.spot.now) self.now.how self.now.name.now
             (last_captured self.now.count s) s)) states.now }
@@ -277,7 +277,7 @@ impl<'a> ReadLast<'a> {
         states.iter().all(|state| self.is_covered(state))
     }
 
-    /// It, in each state that goes on: mostly it is covered in all of them, and then no state is moved.
+    /// Applies the use to each live state. Usually it is covered in all of them, and then no state is moved.
     pub fn make_in_each(&self, walk: &mut Walk) -> Result<(), AllocError>
         ensures { OnOk result (walk.new ≡ each (read_last (spot_of self.now.spot.now) self.now.how self.now.column
             self.now.name.now self.now.count) walk.old) }

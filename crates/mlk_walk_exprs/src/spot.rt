@@ -1,4 +1,4 @@
-// Where in a line the walk stands.
+// Where in a line the walk is.
 
 use mlk_calls::Scope;
 use mlk_cert_parts::Case;
@@ -12,8 +12,8 @@ pub struct Block {
     pub ends: List<Case>,
 }
 
-/// A place in a line: what the walk is given, the line's number, counted from 1, its level and its block, and the column
-/// of the running command's word.
+/// A place in a line: the scope of the walk, the line's number, counted from 1, its level and its block, and the column of
+/// the running command's word.
 #[derive(Clone, Copy, Drop)]
 pub struct Spot<'a> {
     pub alloc: Global,

@@ -1,4 +1,4 @@
-// Transfer functions of the walk: what is made of one state.
+// Transfer functions of the walk: from one state to its outcomes.
 
 ghost use Rattle.std.specs.Prelude.{◌≡◌, List, OnOk};
 ghost use Rattle.mlk_walk_state.specs.declared.state.State.{State};
@@ -9,16 +9,16 @@ use crate::walk::Walk;
 use mlk_calls::State;
 use std::alloc::{AllocError, Global};
 
-/// What becomes of one state.
+/// A function from one state to its outcomes.
 pub trait Transfer {
     ghost outcomes: { Self → State → List Outcome };
 
-    /// Adds what becomes of the state to the walk.
+    /// Adds the outcomes of `state` to the walk.
     fn make(&self, state: State, walk: &mut Walk) -> Result<(), AllocError>
         ensures { OnOk result (walk.new ≡ add_all (outcomes self.now state) walk.old) };
 }
 
-/// The transfer function, for each state that goes on. Mostly there is one, whose place another can take.
+/// Applies the transfer function to each live state. Usually there is one, and its slot is reused.
 #[inline(always)]
 pub fn each<T: Transfer>(alloc: Global, transfer: &T, walk: &mut Walk) -> Result<(), AllocError>
     ensures { OnOk result (walk.new ≡ each (T.outcomes transfer.now) walk.old) }
@@ -33,7 +33,7 @@ pub fn each<T: Transfer>(alloc: Global, transfer: &T, walk: &mut Walk) -> Result
     Ok(())
 }
 
-/// The last so many captured symbols of each state are forgotten.
+/// Removes the last `count` captured symbols of each live state.
 pub fn forget(alloc: Global, count: usize, walk: &mut Walk) -> Result<(), AllocError>
     ensures { OnOk result (walk.new ≡ each_changed (without_last count) walk.old) }
 {

@@ -21,36 +21,36 @@ pub struct Fault {
     pub code: Code,
 }
 
-/// What would mend a fault: a change of the certificate, or of the program. A contract says nothing of it.
+/// A change that would correct a fault, of the certificate or of the program. Contracts do not depend on it.
 #[derive(Drop)]
 pub enum Mend {
-    /// nothing that is known here
+    /// nothing is known here
     Nothing,
-    /// this case, listed at a line, or at one of its rounds
+    /// list this case at a line or at one of its rounds
     Listed(LineNumber, usize, Case),
-    /// this exit, listed in the summary
+    /// list this exit in the summary
     Exit(ExitCase),
-    /// these names, listed as changed in the summary
+    /// list these names as changed in the summary
     Changes(Vec<NameSet>),
-    /// no higher least rank than this one in the summary
+    /// lower the least rank in the summary to this one
     Rank(u32),
-    /// what the callee claims and releases: its least rank, and whether it may release all locks
+    /// the callee's least rank, and whether it may release all locks
     Callee(Option<u32>, bool),
-    /// in the summary, that all locks may be released
+    /// say in the summary that all locks may be released
     Drops,
-    /// these locks, held
+    /// hold these locks
     Locks(Vec<LockTerm>),
 }
 
-/// What was held and known where a fault was found.
+/// The locks that were held, and what was known of `$TEST`, where a fault was found.
 #[derive(Drop)]
 pub struct Standing {
     pub test: Test,
     pub held: Shared<LockTerm>,
 }
 
-/// What is told beside a fault: what would mend it, and what was held and known there, where that is not told by the mend or
-/// by the fault's place. A contract says nothing of it.
+/// Additional information on a fault: what would correct it, and what was held and known there, unless that follows from the
+/// correction or from the fault's place. Contracts do not depend on it.
 #[derive(Drop)]
 pub struct Note {
     pub mend: Mend,
@@ -58,7 +58,7 @@ pub struct Note {
 }
 
 impl Note {
-    /// What would mend a fault, alone.
+    /// A note with a correction only.
     pub fn of(mend: Mend) -> Note {
         Note {
             mend,
@@ -66,7 +66,7 @@ impl Note {
         }
     }
 
-    /// What would mend a fault that was found in this case.
+    /// A note on a fault that was found in `case`.
     pub fn in_case(mend: Mend, case: &Case) -> Result<Note, AllocError> {
         let standing = Standing {
             test: case.test,
@@ -79,14 +79,14 @@ impl Note {
     }
 }
 
-/// A fault, and what is told beside it.
+/// A fault with its note.
 #[derive(Drop)]
 pub struct Found {
     pub fault: Fault,
     pub note: Note,
 }
 
-/// Faults that were found, in the order in which they were. A contract sees the faults, without what is told beside them.
+/// Faults in the order in which they were found. A contract sees the faults without their notes.
 #[derive(Drop)]
 pub struct Faults {
     items: Vec<Found>,
@@ -108,8 +108,8 @@ pub struct Quit {
     pub case: Case,
 }
 
-/// What the walk of a line has come to: the states that go on, none twice; what skipped and what quit; what was refused;
-/// and whether the line is over, since it had more states than it may have.
+/// The intermediate result of a line's walk: the live states in `going`, each once; the cases that skipped and that quit; the
+/// faults; and whether the walk is over because the line had more states than allowed.
 #[derive(Drop)]
 pub struct Walk {
     pub going: List<State>,
@@ -129,7 +129,7 @@ impl Faults {
         }
     }
 
-    /// One more fault.
+    /// Appends a fault with its note.
     pub fn push(&mut self, fault: Fault, note: Note) -> Result<(), AllocError>
         ensures { OnOk result (self.new ≡ self.old ++ fault ∷ []) }
     {
@@ -137,7 +137,7 @@ impl Faults {
         Ok(())
     }
 
-    /// The faults, each with what is told beside it.
+    /// The faults with their notes.
     pub fn into_vec(self) -> Vec<Found>
         ensures { map (λ f. f.fault) result.items ≡ self }
     {
@@ -163,7 +163,7 @@ fn is_among(states: &[State], state: &State) -> bool
     states.iter().any(|other| is_same(state, other))
 }
 
-/// One more state, where it isn't there yet.
+/// Adds `state`, unless it is there.
 #[inline(always)]
 pub fn put(states: &mut List<State>, state: State) -> Result<(), AllocError>
     ensures { OnOk result (states.new ≡ put_state state states.old) }
@@ -174,7 +174,7 @@ pub fn put(states: &mut List<State>, state: State) -> Result<(), AllocError>
     states.push(state)
 }
 
-// Whether none of the states is there twice.
+// Whether no two of `states` are equal.
 #[inline(always)]
 fn are_distinct(states: &[State]) -> bool
     ensures { IsTrue result → put_states states.now [] ≡ states.now }
@@ -189,7 +189,7 @@ fn are_distinct(states: &[State]) -> bool
     true
 }
 
-/// These states, each once, after those.
+/// Adds each of `new` to `states`, unless it is there.
 pub fn put_all(states: List<State>, new: Vec<State>) -> Result<List<State>, AllocError>
     ensures { IfOk result (λ all. all ≡ put_states new.items states) }
 {
@@ -221,7 +221,7 @@ pub fn too_many(states: &[State]) -> bool
 }
 
 impl Walk {
-    /// A state goes on.
+    /// Adds a live state.
     #[inline(always)]
     pub fn go(&mut self, state: State) -> Result<(), AllocError>
         ensures { OnOk result (self.new ≡ add (Goes state) self.old) }
@@ -229,7 +229,7 @@ impl Walk {
         put(&mut self.going, state)
     }
 
-    /// These states go on.
+    /// Adds live states.
     pub fn go_all(&mut self, states: Vec<State>) -> Result<(), AllocError>
         ensures { OnOk result (self.new ≡ add_all (map Goes states.items) self.old) }
     {
@@ -239,7 +239,7 @@ impl Walk {
         Ok(())
     }
 
-    /// These states go on, each once, where none does: those that went on, changed in place.
+    /// Makes `states` the live ones, each once, if there are none: they were live before, and were changed in place.
     #[inline(always)]
     pub fn resume(&mut self, alloc: Global, states: Vec<State>) -> Result<(), AllocError>
         ensures { OnOk result (self.new ≡ with_states (put_states states.items []) self.old) }
@@ -252,7 +252,7 @@ impl Walk {
         Ok(())
     }
 
-    /// The states that go on, each once.
+    /// Removes duplicates among the live states.
     pub fn once(&mut self, alloc: Global) -> Result<(), AllocError>
         ensures { OnOk result (self.new ≡ with_states (put_states self.old.going []) self.old) }
     {
@@ -260,7 +260,7 @@ impl Walk {
         self.resume(alloc, states.into_vec())
     }
 
-    /// A case skips the rest of its line or round.
+    /// Adds a case that skips the rest of its line or round.
     #[inline(always)]
     pub fn skip(&mut self, case: Case) -> Result<(), AllocError>
         ensures { OnOk result (self.new ≡ add (Skips case) self.old) }
@@ -268,14 +268,14 @@ impl Walk {
         self.skips.push(case)
     }
 
-    /// A case quits at a column.
+    /// Adds a case that quits at a column.
     pub fn quit(&mut self, column: Column, case: Case) -> Result<(), AllocError>
         ensures { OnOk result (self.new ≡ add (Quits column case) self.old) }
     {
         self.quits.push(Quit { column, case })
     }
 
-    /// A state is refused at a place.
+    /// Adds the fault of a state that is refused.
     pub fn refuse(
         &mut self,
         line: LineNumber,
@@ -288,7 +288,7 @@ impl Walk {
         self.faults.push(Fault { line, column, code }, note)
     }
 
-    /// The state that goes on, where there is just one: it is taken out, and its room stays.
+    /// Removes and returns the live state if there is exactly one; the capacity is kept.
     #[inline(always)]
     pub fn take_only(&mut self) -> Option<State>
         ensures { MatchOption result (self.new ≡ self.old)
@@ -301,7 +301,7 @@ impl Walk {
         }
     }
 
-    /// The states that go on are taken out.
+    /// Removes and returns the live states.
     pub fn take_going(&mut self, alloc: Global) -> List<State>
         ensures rest { self.new ≡ with_states [] self.old }
         ensures going { result ≡ self.old.going }
@@ -309,7 +309,7 @@ impl Walk {
         std::mem::replace(&mut self.going, List::new(alloc))
     }
 
-    /// Whether there are too many states is asked, for a command's word in this line: if so, the line is over.
+    /// Ends the walk of the line if there are too many states, with a fault at the command's word.
     #[tactic(auto, unfolding(crate::specs::Walks::few))]
     #[inline(always)]
     pub fn few(&mut self, alloc: Global, line: LineNumber, word: Column) -> Result<(), AllocError>
@@ -323,7 +323,7 @@ impl Walk {
         self.refuse(line, word, Code::TooManyCases, Note::of(Mend::Nothing))
     }
 
-    /// These states beside those that go on, which stand first; nothing where the line is over.
+    /// Adds `states` before the live ones, unless the walk of the line is over.
     pub fn join(&mut self, alloc: Global, states: List<State>) -> Result<(), AllocError>
         ensures { OnOk result (self.new ≡ joined states self.old) }
     {

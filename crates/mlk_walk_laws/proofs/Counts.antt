@@ -1,4 +1,4 @@
--- Of fewer states there are not too many where there are not of more; states that wait for others.
+-- If there are not too many states, neither are there of fewer; states that wait for others.
 use Rattle.std.proofs.Common.{◌≡◌, ◌≤◌, ◌<◌, ℕ, true, false, Bool, List, [], ◌∷◌, ◌++◌, length, refl, ap, sym, ◌∙◌, inl, inr, ⊎_elim, arith, subst}
 use Rattle.std.specs.Prelude.{if◌then◌else◌, ◌||◌, nat_lt, filter}
 use Rattle.std.specs.List.{list_any}
@@ -35,7 +35,7 @@ beside s t xs ys k h =
     (λ (r : Among t (s ∷ ys)). ⊎_elim (λ (e : t ≡ s). absurd (k (sym e))) (λ (m : Among t ys). in_back t xs ys m) r)
     (in_either t xs (s ∷ ys) h)
 
--- states that are told apart, all among others, are no more than those
+-- distinct states that are all among others are no more than those
 no_more : (ss ts : List State) → StatesDiffer ss → ((s : State) → Among s ss → Among s ts) → length ss ≤ length ts
 no_more [] ts d more = omega arith
 no_more (s ∷ ss) ts d more =
@@ -114,7 +114,7 @@ few_keeps line word = record {
       rw (a, b) i;
 }
 
--- what a walk comes to, beside states that waited
+-- the result of a walk, beside states that waited
 pub beside_others : (ss ts : List State) (v w : Walk) → IsPart v w → ((s : State) → Among s ss → Among s ts) → StatesDiffer ss
     → IsPart (with_states (put_states v.going ss) v) (with_states (put_states w.going ts) w)
 beside_others ss ts v w i more d = part_with v w (put_states v.going ss) (put_states w.going ts) i

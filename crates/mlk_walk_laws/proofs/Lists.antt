@@ -1,4 +1,4 @@
--- What stands in lists, and in lists of states that are told apart.
+-- The elements of lists, and of lists of distinct states.
 use Rattle.std.proofs.Common.{◌≡◌, true, false, List, [], ◌∷◌, ◌++◌, map, refl, ap, sym, ◌∙◌, inl, inr, ⊎_elim, subst}
 use Rattle.std.specs.Prelude.{◌⊎◌, ◌||◌, flat_map}
 use Rattle.std.specs.List.{list_any}
@@ -25,7 +25,7 @@ in_either a [] ys h = inr h
 in_either a (x ∷ xs) ys (inl e) = inl (inl e)
 in_either a (x ∷ xs) ys (inr h) = ⊎_elim (λ (l : Among a xs). inl (inr l)) (λ (r : Among a ys). inr r) (in_either a xs ys h)
 
--- lists that are made item by item
+-- lists that are built item by item
 pub in_map : {A B : Type 0} (f : A → B) (a : A) (xs : List A) → Among a xs → Among (f a) (map f xs)
 in_map f a [] h = absurd h
 in_map f a (x ∷ xs) (inl e) = inl (ap f e)

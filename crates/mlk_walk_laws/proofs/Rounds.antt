@@ -1,4 +1,4 @@
--- What FOR, and the commands of a line, make of fewer states.
+-- FOR, and the commands of a line, walked from fewer states.
 use Rattle.std.proofs.Common.{◌≡◌, true, false, List, [], ◌∷◌, ◌++◌, map, refl, ap, sym, ◌∙◌, inl, inr, ⊎_elim, subst, Option, None, Some}
 use Rattle.std.specs.Prelude.{if◌then◌else◌}
 use Rattle.std.proofs.lemmas.Bool.{cases_Bool, true≢false, false≢true}
@@ -128,7 +128,7 @@ faults_keep faults = record {
       };
 }
 
--- states beside those that go on
+-- states beside those that continue
 pub states_same : (ss : List State) (w : Walk) → w.over ≡ false → and_states ss w ≡ with_states (put_states ss w.going) w
 states_same ss w e = ap (λ b. if b then w else with_states (put_states ss w.going) w) e
 
@@ -156,7 +156,7 @@ states_keep ss = record {
       (all_distinct ss v.going i.distinct));
 }
 
--- FOR, given what its rounds come to
+-- FOR, given the results of its rounds
 module _ (p : Spot) (control : Option ControlTree) (cases : List Case) (inner : Walk) (d : StatesDiffer inner.going) (told : Tells inner) where
   abbrev pub inside : Walk → Walk
   inside w = few p.line p.word (and_states (quit_in inner) (controlled p control cases (ended_in inner) (and_faults inner.faults w)))
@@ -241,7 +241,7 @@ commands_keep p once (then_for column index control rest) =
 pub fewer_cases : FewerCases
 fewer_cases p cs once v w i h = (commands_keep p once cs).part v w i h
 
--- one of the cases alone
+-- one of the cases by itself
 pub from_one : (s t : State) (ss : List State) → Among s ss → Among t (s ∷ []) → Among t ss
 from_one s t ss h (inl e) = subst (λ z. Among z ss) (sym e) h
 from_one s t ss h (inr r) = absurd r

@@ -1,4 +1,4 @@
--- What transfer functions make of fewer states.
+-- Transfer functions applied to fewer states.
 use Rattle.std.proofs.Common.{◌≡◌, true, false, Bool, List, [], ◌∷◌, ◌++◌, map, refl, ap, sym, ◌∙◌, inl, inr, ⊎_elim, subst, drop}
 use Rattle.std.specs.Prelude.{◌⊎◌, flat_map, if◌then◌else◌}
 use Rattle.mlk_names.specs.Lists.{Among}
@@ -16,12 +16,12 @@ use Rattle.mlk_walk_exprs.specs.Expressions.{with_symbol_of, capture, capture_un
 use Rattle.mlk_walk_laws.specs.Fewer.{StatesDiffer, IsClean, IsPart}
 use Rattle.mlk_walk_laws.proofs.Lists.{in_front, in_back, in_either, in_map, from_map, in_flat, from_flat, put_old, put_new, put_from, put_distinct, all_new, all_from, all_distinct}
 
--- a line that is over has a fault
+-- a walk whose line is over has a fault
 abbrev pub Tells : Walk → Type 0
 Tells w = w.over ≡ true → w.faults ≡ [] → ⊥
 
--- A walk of a part comes to a part of what the whole comes to, where nothing wrong is found in the whole. States that are
--- told apart stay so, what was found wrong stays, and where the line is over it is told why.
+-- The walk of a part has a part of the results of the whole, if nothing wrong is found in the whole. Distinct states stay
+-- distinct, faults that were found stay, and if the walk of the line is over, a fault says why.
 pub record Added (v w : Walk) : Type 0 where
   pub skips : (c : Case) → Among c v.skips → Among c w.skips
   pub quits : (q : Quit) → Among q v.quits → Among q w.quits
@@ -58,7 +58,7 @@ both F G f g = record {
 pub stays : Keeps (λ w. w)
 stays = record { adds = λ w. record { skips = λ c h. h; quits = λ q h. h }; back = λ w h. h; apart = λ w d. d; tells = λ w t. t; part = λ v w i h. i }
 
--- what is said of a walk without its states
+-- what holds of a walk whatever its states
 pub clean_with : (ss : List State) (w : Walk) → IsClean w → IsClean (with_states ss w)
 clean_with ss w h = record { faultless = h.faultless; goes_on = h.goes_on }
 
@@ -99,7 +99,7 @@ pub all_clean : (os : List Outcome) (w : Walk) → IsClean w → ((o : Outcome) 
 all_clean [] w h k = h
 all_clean (o ∷ os) w h k = all_clean os (add o w) (add_clean o w h (k o (inl refl))) (λ p i. k p (inr i))
 
--- the states that go on
+-- the states that continue
 going_kept : (o : Outcome) (w : Walk) (s : State) → Among s w.going → Among s (add o w).going
 going_kept (Goes t) w s h = put_old s t w.going h
 going_kept (Skips c) w s h = h
@@ -207,7 +207,7 @@ quits_from (o ∷ os) w q h =
     (λ (l : Among q (add o w).quits). ⊎_elim (λ (m : Among q w.quits). inl m) (λ (e : quit_at q ≡ o). inr (inl e)) (quits_made o w q l))
     (λ (r : Among (quit_at q) os). inr (inr r)) (quits_from os (add o w) q h)
 
--- what is told stays told
+-- faults stay
 fault_back : (o : Outcome) (w : Walk) → (add o w).faults ≡ [] → w.faults ≡ []
 fault_back (Goes s) w h = h
 fault_back (Skips c) w h = h
@@ -251,7 +251,7 @@ each_keeps row = record {
       };
 }
 
--- other states in place of those that go on
+-- other states instead of those that continue
 pub part_with : (v w : Walk) (ss ts : List State) → IsPart v w → ((s : State) → Among s ss → Among s ts) → StatesDiffer ss
     → IsPart (with_states ss v) (with_states ts w)
 part_with v w ss ts i more d = record {
@@ -290,7 +290,7 @@ mapped_keeps f one = record {
       (map_distinct f one v.going i.distinct);
 }
 
--- one more captured symbol tells no states alike
+-- with one more captured symbol, distinct states stay distinct
 front_of : {A : Type 0} (xs ys : List A) (x y : A) → xs ++ x ∷ [] ≡ ys ++ y ∷ [] → xs ≡ ys
 front_of [] [] x y e = refl
 front_of [] (b ∷ ys) x y e = absurd (not_empty ys y (sym (ap (drop 1) e)))

@@ -1,4 +1,4 @@
--- What expressions, arguments and commands make of fewer states.
+-- Expressions, arguments and commands walked from fewer states.
 use Rattle.std.proofs.Common.{◌≡◌, ℕ, ◌+◌, true, false, Bool, List, [], ◌∷◌, map, refl, ap, sym, ◌∙◌, inl, inr, ⊎_elim, Option, None, Some}
 use Rattle.std.specs.Prelude.{◌||◌}
 use Rattle.std.specs.List.{list_any}
@@ -34,7 +34,7 @@ use Rattle.mlk_walk_laws.proofs.Lists.{all_distinct}
 use Rattle.mlk_walk_laws.proofs.Transfers.{Keeps, both, stays, each_keeps, changed_keeps, capture_keeps, unknown_keeps, clean_without, part_with, added_none, added_both}
 use Rattle.mlk_walk_laws.proofs.Counts.{few_keeps, ways_keep}
 
--- parts one after the other, each of a walk
+-- walks of parts, one after another
 abbrev Maker : Type 0
 Maker = Walk → Walk
 

@@ -1,5 +1,5 @@
--- Walks of fewer cases. That a walk finds nothing wrong is said of all cases that are listed at a line; a job is in one
--- of them. This project's own.
+-- Walks from fewer cases. A walk without faults covers all cases that are listed at a line; a job is in one of them. This
+-- project's own.
 use Rattle.std.specs.Prelude.{◌≡◌, ◌⊎◌, ℕ, false, List, [], ◌∷◌, map}
 use Rattle.mlk_names.specs.Lists.{Among}
 use Rattle.mlk_cert_parts.specs.declared.case.Case.{Case}
@@ -13,18 +13,18 @@ use Rattle.mlk_walk_exprs.specs.Walks.{begin}
 use Rattle.mlk_walk_exprs.specs.Spots.{Spot}
 use Rattle.mlk_walk_lines.specs.Loops.{commands}
 
--- none of the states twice
+-- no two states are equal
 abbrev pub StatesDiffer : List State → Type 0
 StatesDiffer [] = Unit {0}
 StatesDiffer (s ∷ ss) = (Among s ss → ⊥) × StatesDiffer ss
 
--- nothing wrong was found, and the line is not over
+-- no fault was found, and the walk of the line is not over
 pub record IsClean (w : Walk) : Type 0 where
   pub faultless : w.faults ≡ []
   pub goes_on : w.over ≡ false
 
--- A walk in which nothing wrong was found, of states that are told apart, and that came to nothing but what another one
--- came to: states that go on, cases that skipped, cases that quit.
+-- A walk without faults, with distinct states, whose results are among those of another: live states, cases that skipped,
+-- cases that quit.
 pub record IsPart (v w : Walk) : Type 0 where
   pub clean : IsClean v
   pub going : (s : State) → Among s v.going → Among s w.going
@@ -36,14 +36,14 @@ pub record IsPart (v w : Walk) : Type 0 where
 abbrev pub ListsEachOnce : Scope → Type 0
 ListsEachOnce sc = (number round : ℕ) → StatesDiffer (map at_rest (listed sc number round))
 
--- Where the walk of commands from some states finds nothing wrong, the walk from fewer of them finds nothing wrong, and
--- comes to nothing else.
+-- If the walk of commands from some states finds no fault, the walk from fewer of them finds none, and its results are among
+-- those of the first.
 abbrev pub FewerCases : Type 0
 FewerCases =
     (p : Spot) (cs : CommandTrees) → ListsEachOnce p.scope
     → (v w : Walk) → IsPart v w → IsClean (commands p cs w) → IsPart (commands p cs v) (commands p cs w)
 
--- So does the walk from each of them alone.
+-- So does the walk from each of them by itself.
 abbrev pub EachAlone : Type 0
 EachAlone =
     (p : Spot) (cs : CommandTrees) → ListsEachOnce p.scope

@@ -1,5 +1,5 @@
--- What it means that nothing wrong is found in an entry's lines: from each case that is listed at a line, all that the line
--- comes to goes well at its end. This project's own.
+-- What it means that no fault is found in an entry's lines: from each case that is listed at a line, all results of the line
+-- are accepted at its end. This project's own.
 use Rattle.std.specs.Prelude.{◌≡◌, List, [], ◌∷◌, Option}
 use Rattle.mlk_names.specs.Lists.{Among}
 use Rattle.mlk_cert_parts.specs.declared.case.Case.{Case}
@@ -21,7 +21,7 @@ IsRight ends (Faulty number column code) = ⊥
 IsRight ends (Leaves c) = Among c ends
 IsRight ends Passes = Unit {0}
 
--- what a walk comes to goes well where its line ends
+-- the results of a walk are accepted at the line's end
 pub record GoesWell (e : LineEnd) (ends : List Case) (w : Walk) : Type 0 where
   pub clean : IsClean w
   pub going : (s : State) → Among s w.going → IsRight ends (state_end e s)
@@ -43,7 +43,7 @@ EachLinePasses sc around ends (line head block rest) =
     × EachLinePasses sc OfBlock (walk_lines sc OfBlock block).ends block
     × EachLinePasses sc around ends rest
 
--- Where the walk of lines finds nothing wrong, each of them passes from each case that is listed at it.
+-- If the walk of lines finds no fault, each of them passes from each case that is listed at it.
 abbrev pub LinesPass : Type 0
 LinesPass =
     (sc : Scope) (around : Around) (lines : LineTrees) → ListsEachOnce sc → (walk_lines sc around lines).faults ≡ []

@@ -1,22 +1,22 @@
-// Walks of fewer cases.
+// Laws of walks from fewer cases.
 
 ghost use Rattle.mlk_walk_laws.specs.Fewer.{EachAlone, FewerCases};
 ghost use Rattle.mlk_walk_laws.specs.Passing.{LinesPass};
 
-/// Where the walk of commands from some states finds nothing wrong, it finds nothing wrong from fewer of them, and comes to
-/// nothing else.
+/// If the walk of commands from some states finds no fault, it finds none from fewer of them, and its results are among those
+/// of the first walk.
 pub fn fewer_cases()
     ensures { FewerCases }
 {}
 
-/// Where the walk of commands from listed cases finds nothing wrong, it finds nothing wrong from each of them alone, and
-/// comes to nothing else.
+/// If the walk of commands from listed cases finds no fault, it finds none from each of them alone, and its results are among
+/// those of the first walk.
 pub fn each_alone()
     ensures { EachAlone }
 {}
 
-/// Where the walk of an entry's lines, or of a block's, finds nothing wrong, each of them passes from each case that is
-/// listed at it, alone: nothing is refused in it, and each case that it comes to goes well at the line's end.
+/// If the walk of an entry's lines, or of a block's, finds no fault, each line passes from each case that is listed at it, alone:
+/// nothing is refused in it, and each case that results is accepted at the line's end.
 pub fn lines_pass()
     ensures { LinesPass }
 {}

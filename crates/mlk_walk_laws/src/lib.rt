@@ -1,4 +1,4 @@
-//! What the walk of a line makes of fewer cases, and of each case alone.
+//! The walk of a line from fewer cases, and from each case alone.
 #![tactic(auto)]
 
 mod law;

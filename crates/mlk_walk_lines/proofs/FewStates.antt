@@ -1,4 +1,4 @@
--- The first states of a walk tell whether it has too many.
+-- The first states of a walk show whether it has too many.
 use Rattle.std.proofs.Common.{◌≡◌, ◌≤◌, ◌<◌, ℕ, true, false, List, [], ◌∷◌, ◌++◌, length, take, refl, ap, sym, ◌∙◌, ⊎_elim, arith}
 use Rattle.std.specs.Prelude.{OnOk, Result, Ok, Err, nat_lt, if◌then◌else◌, ◌||◌}
 use Rattle.std.specs.List.{list_any}
@@ -11,7 +11,7 @@ use Rattle.mlk_walk_exprs.specs.declared.walk.Walk.{Walk}
 use Rattle.mlk_walk_exprs.specs.Walks.{put_state, put_states, with_states, is_large, too_many, few, joined}
 use Rattle.mlk_walk_lines.specs.Counting.{counted}
 
--- one more state leaves those before it where they are
+-- one more state leaves those before it unchanged
 put_longer : (s : State) (ss : List State) → length ss ≤ length (put_state s ss)
 put_longer s ss =
     ⊎_elim (λ (e : list_any (same_state s) ss ≡ true). rw e (omega arith))
@@ -41,7 +41,7 @@ first_of_all n new ss =
     (λ (h : length ss ≤ n). ap (λ z. take n (put_states new z)) (take_all n ss h))
     (cases_lt n (length ss))
 
--- one more state, and one that is left out since there are many
+-- one more state, and one that is omitted since there are many
 put_last : (s : State) (done states : List State) → put_states (done ++ s ∷ []) states ≡ put_state s (put_states done states)
 put_last s [] states = refl
 put_last s (t ∷ done) states = put_last s done (put_state t states)
@@ -63,17 +63,17 @@ pub with_alike : (ss ts : List State) (w : Walk) → take 17 ss ≡ take 17 ts �
 unfolding counted
 with_alike ss ts w h = ap (λ z. with_states z w) h
 
--- what is found exactly
+-- walks that are equal
 pub counted_found : {T E : Type 0} (r : Result T E) (w a : Walk) → OnOk r (w ≡ a) → OnOk r (counted w ≡ counted a)
 counted_found (Ok x) w a h = ap counted h
 counted_found (Err e) w a h = h
 
--- or what is counted alike
+-- or have equal counted states
 pub alike_found : {T E : Type 0} (r : Result T E) (w a b : Walk) → OnOk r (w ≡ a) → counted a ≡ counted b → OnOk r (counted w ≡ counted b)
 alike_found (Ok x) w a b h e = ap counted h ∙ e
 alike_found (Err x) w a b h e = h
 
--- what is found beside states that were set aside
+-- a walk beside states that were set aside
 module _ (aside : List State) where
   abbrev pub beside : Walk → Walk
   beside w = if w.over then w else joined w.going (with_states aside w)
@@ -99,7 +99,7 @@ module _ (aside : List State) where
       first_beside v (o ∙ e) ∙ ap (λ z. counted (with_states (put_states aside z.going) z)) h ∙ sym (first_beside w e))
       (cases_Bool w.over)
 
--- whether there are too many is told by the first
+-- the first states show whether there are too many
 many_counted : (ss : List State) → too_many (take 17 ss) ≡ too_many ss
 unfolding too_many
 many_counted ss =
@@ -131,7 +131,7 @@ few_counted line word w =
     let g = many_counted w.going ∙ h in rw (g, h) (ap (λ z. with_states z w) (few_are_all w.going h)))
     (cases_Bool (too_many w.going))
 
--- and so of walks that are counted alike
+-- and so for walks with equal counted states
 few_alike : (line word : ℕ) (v w : Walk) → counted v ≡ counted w → few line word v ≡ few line word w
 few_alike line word v w h = sym (few_counted line word v) ∙ ap (few line word) h ∙ few_counted line word w
 

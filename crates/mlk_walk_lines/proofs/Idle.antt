@@ -1,4 +1,4 @@
--- What is made of no states is nothing: no state, no fault.
+-- The walk from no states yields nothing: no state, no fault.
 use Rattle.std.proofs.Common.{◌≡◌, ◌∙◌, ◌<◌, ap, refl, arith, ℕ, ◌+◌, true, List, [], ◌∷◌, Option, None, Some, length, drop, map, slice_index_or}
 use Rattle.mlk_syntax.specs.declared.expr.Callee.{Callee}
 use Rattle.mlk_syntax.specs.ExprTrees.{Tree, Lit, Free, LocalName, GlobalName, SpecialName, Prefixed, Chain, PatternText, Func, Selected, BareCall, CallOf}
@@ -259,7 +259,7 @@ line_idle sc around next block (LineHead number level end label formals cs) h =
     let p : Spot = record { scope = sc; line = number; level = level; block = block; word = 1 } in
     ap (λ cases. at_end e (commands p cs (begin cases))) (h 0) ∙ ap (at_end e) (commands_idle p h cs)
 
--- so a line past all points, and without a block, adds nothing
+-- so a line past all points, without a block, adds nothing
 past_line : (sc : Scope) (around : Around) (after : Option HeadTree) (head : HeadTree) (rest : LineTrees) → is_past sc (number_of head) ≡ true
     → part_walk sc around after (line head no_lines rest) ≡ part_walk sc around after rest
 past_line sc around after head rest h =

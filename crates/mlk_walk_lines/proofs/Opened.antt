@@ -1,4 +1,4 @@
--- How lines and their commands open.
+-- How the walks of lines and their commands unfold.
 use Rattle.std.specs.Prelude.{fold, option_map, OnOk}
 use Rattle.std.proofs.Common.{◌≡◌, ◌∙◌, ap, sym, subst, refl, List, [], ◌∷◌, ◌++◌, map, Some, None, Result, Box, Global}
 use Rattle.mlk_syntax.specs.declared.command.Command.{Command}
@@ -19,7 +19,7 @@ use Rattle.mlk_walk_exprs.specs.Spots.{Spot}
 use Rattle.mlk_walk_lines.specs.Loops.{at_word, one_command, after_rounds, commands}
 
 module _ (p : Spot) where
-  -- the commands before a FOR are done one after another
+  -- the commands before a FOR are walked one after another
   done_before : (cs : List Command) (last : CommandTrees) (w : Walk) → commands p (commands_from (map command_of cs) last) w
       ≡ commands p last (fold (one_command p) w (map command_of cs))
   done_before [] last w = refl

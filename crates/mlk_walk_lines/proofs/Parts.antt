@@ -15,7 +15,7 @@ goes_on OfBlock no_lines = refl
 goes_on (OfFrame after) no_lines = refl
 goes_on around (line head block rest) = refl
 
--- All lines of a level are a part, after which stands what stands after all.
+-- All lines of a level are a part, and what follows them follows the part.
 whole : (sc : Scope) (around : Around) (lines : LineTrees) → part_walk sc around (after_all around) lines ≡ walk_lines sc around lines
 whole sc around no_lines = refl
 whole sc around (line head block rest) =
@@ -46,7 +46,7 @@ line_before number inner own front back =
     ∙ ap (λ z. walked z (own.cases ++ (front.ends ++ back.ends))) (sym (append_assoc inner.faults (found ++ front.faults) back.faults))
     ∙ ap (walked ((inner.faults ++ (found ++ front.faults)) ++ back.faults)) (sym (append_assoc own.cases front.ends back.ends))
 
--- A part that is cut is its two parts, of which the first goes on to the second.
+-- A part that is split is its two parts, the first of which continues into the second.
 pub cut : (sc : Scope) (around : Around) (after : Option HeadTree) (front back : List (HeadTree × LineTrees))
     → part_walk sc around after (lines_from (front ++ back))
     ≡ joined (part_walk sc around (first_or after (lines_from back)) (lines_from front)) (part_walk sc around after (lines_from back))

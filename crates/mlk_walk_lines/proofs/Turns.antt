@@ -1,4 +1,4 @@
--- Turns of loops, the steps of FOR's parameters, and the walk of a line to its end.
+-- Iterations of loops, the steps of FOR's parameters, and the walk of a line to its end.
 use Rattle.std.proofs.Common.{◌≡◌, ◌∙◌, ◌<◌, ◌+◌, ap, sym, subst, ℕ, List, length, drop, map, slice_index_or, Option, Result}
 use Rattle.std.specs.Prelude.{fold, IfOk, OnOk}
 use Rattle.mlk_rules.proofs.CheckLemmas.{drop_step}
@@ -29,7 +29,7 @@ turn_done view step items i a w next whole low at made before =
     ∙ ap (λ z. fold step w (map view z)) (sym (drop_step items i a low at))
     ∙ before
 
--- a parameter is done, each step from what the one before it came to
+-- a parameter is done, each step from the result of the one before it
 module _ {T E : Type 0} (p : Spot) (q : Rounds) (x : Walk) (r : Result T E) where
   pub once_done : (t : Tree) (w valued stepped begun : Walk) → valued ≡ value p t w → stepped ≡ step_variable p q valued
       → begun ≡ each (begin_round p q.cases) stepped → OnOk r (x ≡ after_round q.ended begun)

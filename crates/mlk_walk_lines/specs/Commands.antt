@@ -1,4 +1,4 @@
--- What a command but FOR makes of states. Standard: the commands, postconditionals.
+-- The effect of a command other than FOR on states. Standard: the commands, postconditionals.
 use Rattle.std.specs.Prelude.{Bool, true, false, if◌then◌else◌, List, [], ◌∷◌, ◌++◌, map, fold, Option, Some, None}
 use Rattle.std.specs.List.{list_any}
 use Rattle.mlk_text.specs.declared.code.Code.TheVariants.{HeldAtEnd, CaseNotListed, SummaryShort}
@@ -19,14 +19,14 @@ use Rattle.mlk_walk_commands.specs.Locks.{lock_argument, release}
 use Rattle.mlk_walk_commands.specs.Arguments.{set_argument, kill_argument, kill_all_but, new_argument, new_all_but, read_argument}
 use Rattle.mlk_walk_commands.specs.Arguments.{merge_argument, write_argument, do_argument, job_argument, if_argument, if_outcomes}
 
--- Arguments in turn, each a command of its own: after each it is asked whether there are too many states.
+-- Arguments one after another, each like a command of its own: after each it is checked that there are not too many states.
 abbrev pub turn : {A : Type 0} → (Spot → A → Walk → Walk) → Spot → Walk → A → Walk
 turn row p w a = few p.line p.word (row p a w)
 
 abbrev pub in_turn : {A : Type 0} → (Spot → A → Walk → Walk) → Spot → List A → Walk → Walk
 in_turn row p arguments w = fold (turn row p) w arguments
 
--- IF without arguments skips where `$TEST` is 0, ELSE where it is 1; where it is not known, it is known then.
+-- IF without arguments skips if `$TEST` is 0, ELSE if it is 1; if it is not known, both ways are taken, and it is known in each.
 abbrev pub if_row : State → List Outcome
 if_row s = if_outcomes (known_test s.case.test) s
 
@@ -39,8 +39,8 @@ swapped (Refused line column code) = Refused line column code
 abbrev pub else_row : State → List Outcome
 else_row s = map swapped (if_row s)
 
--- DO without arguments: the case with its `$TEST` saved is one of the block's first line, else 710 there. After it come
--- the cases in which the block may end, where some case enters it. Where the line has no block, nothing happens.
+-- DO without arguments: the case with its `$TEST` saved must be listed at the block's first line, otherwise 710 there. The live
+-- states are then those in which the block may end, if some case enters it. If the line has no block, nothing happens.
 abbrev pub entering : Case → Case
 entering c = record c { saved = c.saved ++ c.test ∷ [] }
 
@@ -61,18 +61,18 @@ abbrev pub do_block : Spot → Option Block → Walk → Walk
 do_block p None w = w
 do_block p (Some b) w = with_states (block_ends (some_enter p b w) b) (each (enter_row p b) w)
 
--- HALT: 709 where something is held; 712 where the summary doesn't say that all may be released. No case goes on.
+-- HALT: 709 if a lock is held; 712 if the summary does not say that all may be released. No case continues.
 abbrev pub halt_row : Spot → State → List Outcome
 halt_row p s =
     if holds_some s.case.held then Refused p.line p.word HeldAtEnd ∷ []
     else if p.scope.summary.drops then []
     else Refused p.line p.word SummaryShort ∷ []
 
--- QUIT: what it ends stands with the line
+-- QUIT: it ends what its line is in
 abbrev pub quit_row : Spot → State → List Outcome
 quit_row p s = Quits p.word s.case ∷ []
 
--- commands that may stand without arguments
+-- commands that may have no arguments
 abbrev pub do_calls : Spot → List DoTree → Walk → Walk
 do_calls p [] w = do_block p p.block w
 do_calls p (d ∷ calls) w = in_turn do_argument p (d ∷ calls) w
@@ -93,7 +93,7 @@ abbrev pub new_each : Spot → List NewTree → Walk → Walk
 new_each p [] w = new_all_but p [] w
 new_each p (n ∷ news) w = in_turn new_argument p (n ∷ news) w
 
--- What a command does, without its postconditional.
+-- The effect of a command, without its postconditional.
 abbrev pub act : Spot → ActionTree → Walk → Walk
 act p (Do calls) w = do_calls p calls w
 act p Else w = each else_row w
@@ -113,7 +113,7 @@ act p (Write writes) w = in_turn write_argument p writes w
 abbrev pub stay : Walk → Walk
 stay w = w
 
--- A command: where its postconditional is false it does nothing. Whether there are too many states is asked after it,
--- of those too that its postconditional set aside.
+-- A command: if its postconditional is false, it does nothing. After it, it is checked that there are not too many states,
+-- those included that its postconditional set aside.
 abbrev pub command : Spot → Option Tree → ActionTree → Walk → Walk
 command p condition action w = few p.line p.word (conditioned p condition (act p action) stay w)

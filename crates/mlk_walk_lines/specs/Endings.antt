@@ -1,5 +1,5 @@
--- Where a line ends: a case goes on to the next line of its level, or its block ends, or its frame. Standard: line
--- structure, levels, DO, QUIT; that a job stops before a line with a formal list, and what is asked at an end, is this
+-- The end of a line: a case continues at the next line of its level, or its block ends, or its frame. Standard: line
+-- structure, levels, DO, QUIT; that a job stops before a line with a formal list, and the checks at an end, are this
 -- project's own choice.
 use Rattle.std.specs.Prelude.{ℕ, Bool, not, ◌&&◌, ◌==◌, if◌then◌else◌, List, [], ◌∷◌, ◌++◌, map, filter, fold, Option, Some, None, is_some, option_map, option_copied}
 use Rattle.std.specs.List.{list_any}
@@ -24,14 +24,14 @@ use Rattle.mlk_walk_lines.specs.declared.line_end.Around.{Around as GivenAround}
 use Rattle.mlk_walk_lines.specs.declared.line_end.Around.TheVariants as given
 use Rattle.mlk_walk_lines.specs.declared.line_end.LineEnd.{LineEnd as GivenEnd}
 
--- What becomes of a case at an end: it is refused at a place, its block ends in it, or nothing more is asked here, since
--- it goes on in a line that lists it or the entry's summary has an exit for it.
+-- The ending of a case: it is refused at a place, its block ends in it, or nothing more is checked here, since it continues at a
+-- line that lists it or the entry's summary has an exit for it.
 pub data Ending : Type 0 where
   Faulty : (line column : ℕ) → (code : Code) → Ending
   Leaves : (c : Case) → Ending
   Passes : Ending
 
--- Lines of one level: those of a block, or those of an entry, with the line that comes after them.
+-- What contains lines of one level: a block, or an entry's frame, with the line that follows the entry's lines.
 pub data Around : Type 0 where
   OfBlock : Around
   OfFrame : (after : Option HeadTree) → Around
@@ -39,7 +39,7 @@ pub data Around : Type 0 where
 abbrev pub number_of : HeadTree → ℕ
 number_of (LineHead number level end label formals cs) = number
 
--- Where a line ends: what the walk is given, of what its lines are, the next line of its level, its number and level, and
+-- The end of a line: the scope of the walk, what contains the lines of its level, the next of them, its number and level, and
 -- the column after its last byte.
 pub record LineEnd : Type 0 where
   pub scope : Scope
@@ -67,15 +67,15 @@ end_of e = record {
   column = e.column;
 }
 
--- 716 where the next line has a formal list, else 710 where its start lists no case for this one
+-- 716 if the next line has a formal list, 710 if this case is not listed at its start
 abbrev pub into_line : Scope → HeadTree → Case → Ending
 into_line sc head c =
     if is_some (formals_of head) then Faulty (number_of head) 1 FallsIntoFormals
     else if is_listed (listed sc (number_of head) 0) c then Passes
     else Faulty (number_of head) 1 CaseNotListed
 
--- The end of a block: 718 where a held term mentions a name that is own at its level; such names are own no longer, and
--- the saved `$TEST` is `$TEST` again. A case without a saved `$TEST` describes no job in a block: nothing is asked of it.
+-- The end of a block: 718 if a held term mentions a name that is own at its level; such names are no longer own, and the saved
+-- `$TEST` is `$TEST` again. A case without a saved `$TEST` describes no job in a block: it is not checked.
 abbrev pub is_at_level : ℕ → Own → Bool
 is_at_level level o = o.level == level
 
@@ -94,8 +94,8 @@ block_end e column c (Some t) =
     if list_any (escapes_block e.level c) c.own then Faulty e.line column NameEscapes
     else Leaves (restored e.level t c)
 
--- The end of a frame: 709 where the entry is declared and something is held, 718 where a held term mentions an own name
--- that has not its value of the frame's begin, 710 where no exit says no more. Saved tests say nothing there.
+-- The end of a frame: 709 if the entry is declared and a lock is held, 718 if a held term mentions an own name that is not kept,
+-- 710 if no exit says no more. Saved tests are not looked at there.
 abbrev pub escapes : Case → List ℕ → Bool
 escapes c name = is_own c.own name && not (is_among c.kept name)
 
@@ -121,7 +121,7 @@ go_on (Some head) e c = into_line e.scope head c
 abbrev pub case_end : LineEnd → Case → Ending
 case_end e c = go_on e.next e c
 
--- the cases that are listed in the next line, for private clauses alone
+-- the cases that are listed at the next line, for private clauses only
 abbrev pub listed_in : Scope → Option HeadTree → List Case
 listed_in sc None = []
 listed_in sc (Some head) = listed sc (number_of head) 0
@@ -129,7 +129,7 @@ listed_in sc (Some head) = listed sc (number_of head) 0
 abbrev pub listed_ahead : LineEnd → List Case
 listed_ahead e = listed_in e.scope e.next
 
--- What becomes of a line's cases at its end: of those that go on or skipped, and of those that quit.
+-- The endings of a line's cases: of those that are live or skipped, and of those that quit.
 abbrev pub state_end : LineEnd → State → Ending
 state_end e s = case_end e s.case
 
@@ -149,7 +149,7 @@ add_ending ends Passes = ends
 abbrev pub add_endings : List Ending → Ends → Ends
 add_endings new ends = fold add_ending ends new
 
--- A line whose walk is over has no case any more; what was found stays.
+-- If the walk of a line is over, there are no cases left, but the faults are kept.
 abbrev pub faults_of : Walk → Ends
 faults_of w = record { faults = w.faults; cases = [] }
 

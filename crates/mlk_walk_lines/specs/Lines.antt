@@ -12,19 +12,19 @@ use Rattle.mlk_walk_lines.specs.declared.found.LineFault.{LineFault}
 use Rattle.mlk_walk_lines.specs.Loops.{commands}
 use Rattle.mlk_walk_lines.specs.Endings.{Around, OfBlock, OfFrame, number_of, at_end}
 
--- What the walk of lines of one level and of their blocks finds: the faults, each with the line whose walk found it, and
--- the cases in which the lines' own block may end.
+-- The result of the walk of lines of one level and of their blocks: the faults, each with the line whose walk found it, and
+-- the cases in which the block that contains the lines may end.
 pub record Walked : Type 0 where
   pub faults : List LineFault
   pub ends : List Case
 
--- the line to which a job goes on, where there is one
+-- the line at which a job continues, if there is one
 abbrev pub next_head : Around → LineTrees → Option HeadTree
 next_head around (line head block rest) = Some head
 next_head OfBlock no_lines = None
 next_head (OfFrame after) no_lines = after
 
--- a line's block, given the cases in which it may end
+-- a line's block, with the cases in which it may end
 abbrev pub block_with : LineTrees → List Case → Option Block
 block_with no_lines ends = None
 block_with (line head block rest) ends = Some (record { first = number_of head; ends = ends })
@@ -42,7 +42,7 @@ line_walk sc around next head block inner = head_walk sc around next (block_with
 abbrev pub found_in : ℕ → Fault → LineFault
 found_in number f = record { walked = number; fault = f }
 
--- what a line's block, the line itself and the later lines find
+-- the results of a line's block, of the line itself and of the later lines
 abbrev pub with_line : ℕ → Walked → Ends → Walked → Walked
 with_line number inner own later = record {
   faults = inner.faults ++ (map (found_in number) own.faults ++ later.faults);

@@ -21,8 +21,8 @@ use Rattle.mlk_walk_commands.specs.Variables.{change_at}
 use Rattle.mlk_walk_lines.specs.declared.rounds.Rounds.{Rounds as GivenRounds}
 use Rattle.mlk_walk_lines.specs.Commands.{command}
 
--- A FOR: the column of its word stands in the spot. Its variable with the column of its name, the cases that are listed
--- for its rounds, and the states in which a round ended, at its end or at a skip.
+-- A FOR, whose word is at the spot's column. Its variable with the column of its name, the cases that are listed for its rounds,
+-- and the states in which a round ended, at its end or at a skip.
 pub record Rounds : Type 0 where
   pub column : ℕ
   pub variable : NameSet
@@ -33,27 +33,27 @@ pub record Rounds : Type 0 where
 abbrev pub rounds_of : GivenRounds → Rounds
 rounds_of r = record { column = r.column; variable = r.variable.now; cases = r.cases.now; ended = r.ended.now }
 
--- A round begins in a case that is listed for it, else 710 at FOR's word. The rounds are walked by themselves.
+-- A round begins in a case that is listed for it, otherwise 710 at FOR's word. The rounds are walked separately.
 abbrev pub begin_round : Spot → List Case → State → List Outcome
 begin_round p cases s = if is_listed cases s.case then [] else Refused p.line p.word CaseNotListed ∷ []
 
--- a case that begins a round, and may also go on after the loop
+-- a case that begins a round, and may also continue after the loop
 abbrev pub round_or_after : Spot → List Case → State → List Outcome
 round_or_after p cases s = if is_listed cases s.case then Goes s ∷ [] else Refused p.line p.word CaseNotListed ∷ []
 
--- the states in which a round ended, unless the line is over
+-- the states in which a round ended, unless the walk of the line is over
 abbrev pub after_round : List State → Walk → Walk
 after_round ended w = if w.over then w else with_states ended w
 
 abbrev pub step_variable : Spot → Rounds → Walk → Walk
 step_variable p r w = each (change_at p r.column r.variable) w
 
--- after each round of a stepping loop: the variable changes, and a further round begins
+-- after each round of a stepping loop: the variable changes, and another round begins
 abbrev pub step_again : Spot → Rounds → Walk → Walk
 step_again p r w = each (begin_round p r.cases) (step_variable p r (after_round r.ended w))
 
--- One parameter, from the states that reach it. After a value come the cases in which its round ended; after a start with
--- a limit those too, and those in which no round began; a loop without a limit ends by QUIT alone.
+-- One parameter, from the states that reach it. After a value come the cases in which its round ended; after a start with a limit
+-- those too, and those in which no round began; a loop without a limit ends only by QUIT.
 abbrev pub limited : Spot → Rounds → Walk → Walk
 limited p r w = joined w.going (after_round r.ended (step_again p r w))
 
@@ -77,15 +77,15 @@ controlled p (Some (Runs column name qs)) cases ended w =
 abbrev pub and_faults : List Fault → Walk → Walk
 and_faults faults w = record w { faults = w.faults ++ faults }
 
--- What the rounds come to, walked from the cases that are listed for them: those that ended, and those that quit.
+-- The results of the rounds, walked from the cases that are listed for them: those that ended, and those that quit.
 abbrev pub ended_in : Walk → List State
 ended_in inner = put_states (map at_rest inner.skips) inner.going
 
 abbrev pub quit_in : Walk → List State
 quit_in inner = map (λ (q : Quit). at_rest q.case) inner.quits
 
--- FOR, given what its rounds come to. After it come the last parameter's cases and those that quit: that is the line's
--- end. Where the rounds have too many states, the line is over.
+-- FOR, given the results of its rounds. After it come the last parameter's cases and those that quit: that is the line's end. If
+-- the rounds have too many states, the walk of the line is over.
 abbrev pub and_states : List State → Walk → Walk
 and_states ss w = if w.over then w else with_states (put_states ss w.going) w
 
@@ -104,7 +104,7 @@ at_word p column = record p { word = column }
 abbrev pub one_command : Spot → Walk → CommandTree → Walk
 one_command p w (Does column condition action) = command (at_word p column) condition action w
 
--- The commands of a line from here on. The rest of a line after FOR is what is run in each round.
+-- The commands of a line from here on. The rest of the line after a FOR is run in each round.
 abbrev pub commands : Spot → CommandTrees → Walk → Walk
 commands p finished w = w
 commands p (then_command c rest) w = commands p rest (one_command p w c)

@@ -1,17 +1,17 @@
--- Lines of one level that stand behind one another, not all of them perhaps: walks that are cut in parts take them so. It
--- serves clauses of code and proofs; what the walk of all lines of a level is stands in Lines.antt.
+-- Consecutive lines of one level, possibly not all of them, as in a walk that is cut into parts. For clauses of code and
+-- proofs; the walk of all lines of a level is defined in Lines.antt.
 use Rattle.std.specs.Prelude.{[], ◌++◌, Option, Some, None}
 use Rattle.mlk_syntax.specs.Trees.{HeadTree, LineTrees, no_lines, line}
 use Rattle.mlk_walk_state.specs.Scope.{Scope}
 use Rattle.mlk_walk_lines.specs.Endings.{Around, OfBlock, OfFrame, number_of}
 use Rattle.mlk_walk_lines.specs.Lines.{Walked, line_walk, walk_lines, with_line}
 
--- the line to which a job goes on before later lines: the first of them, else the one after all
+-- the line at which a job continues before later lines: the first of them, otherwise the one after all
 abbrev pub first_or : Option HeadTree → LineTrees → Option HeadTree
 first_or after no_lines = after
 first_or after (line head block rest) = Some head
 
--- the walk of lines, after which this line stands
+-- the walk of lines that are followed by a given line
 abbrev pub part_walk : Scope → Around → Option HeadTree → LineTrees → Walked
 part_walk sc around after no_lines = record { faults = []; ends = [] }
 part_walk sc around after (line head block rest) =
@@ -23,6 +23,6 @@ abbrev pub after_all : Around → Option HeadTree
 after_all OfBlock = None
 after_all (OfFrame after) = after
 
--- what two parts come to, one behind the other
+-- the results of two parts, the first before the second
 abbrev pub joined : Walked → Walked → Walked
 joined front back = record { faults = front.faults ++ back.faults; ends = front.ends ++ back.ends }

@@ -1,4 +1,4 @@
-// What a command does, without its postconditional.
+// The effect of a command, without its postconditional.
 
 ghost use Rattle.std.specs.Prelude.{◌≡◌, OnOk, List, map, option_map, option_copied};
 ghost use Rattle.mlk_syntax.specs.ExprTrees.{tree_of, trees};
@@ -22,7 +22,8 @@ use mlk_walk_commands::{Release, kill_all_but, new_all_but};
 use mlk_walk_exprs::{Mend, Note, Spot, Transfer, Walk, each, value_if};
 use std::alloc::{AllocError, Global};
 
-// IF without arguments: where `$TEST` is 0 the rest of the line is skipped; where it is not known, it is known then.
+// IF without arguments: if `$TEST` is 0, the rest of the line is skipped; if it is not known, both ways are taken, and it is
+// known in each.
 #[derive(Clone, Copy, Drop)]
 struct IfTest;
 
@@ -42,7 +43,7 @@ impl Transfer for IfTest {
     }
 }
 
-// ELSE: where `$TEST` is 1 the rest of the line is skipped; where it is not known, it is known then.
+// ELSE: if `$TEST` is 1, the rest of the line is skipped; if it is not known, both ways are taken, and it is known in each.
 #[derive(Clone, Copy, Drop)]
 struct ElseTest {
     alloc: Global,
@@ -74,7 +75,7 @@ pub(crate) fn holds_some(held: &[LockTerm]) -> bool
     held.len() > 0
 }
 
-// HALT: nothing may be held, and the summary says that all may be released. No case goes on.
+// HALT: no lock may be held, and the summary must say that all may be released. No case continues.
 #[derive(Clone, Copy, Drop)]
 struct HaltTransfer<'a> {
     spot: &'a Spot<'a>,
@@ -97,7 +98,7 @@ impl<'a> Transfer for HaltTransfer<'a> {
     }
 }
 
-// QUIT: what it ends stands with the line.
+// QUIT: it ends what its line is in.
 #[derive(Clone, Copy, Drop)]
 struct QuitTransfer<'a> {
     spot: &'a Spot<'a>,
@@ -188,8 +189,8 @@ fn quit_action<'a>(
     each(spot.alloc, &QuitTransfer { spot }, walk)
 }
 
-/// What a command does, without its postconditional. Of more states than 17 the first 17 may go on alone, so it has to be
-/// asked whether there are too many.
+/// The effect of a command, without its postconditional. If there are more than 17 states, only the first 17 may be kept, so
+/// the caller must check that there are not too many.
 #[tactic(auto, using(crate::proofs::FewStates::counted_found))]
 pub(crate) fn act<'a>(
     spot: &'a Spot<'a>,

@@ -1,4 +1,4 @@
-// Arguments of commands, in turn.
+// Arguments of commands, one after another.
 
 ghost use Rattle.std.specs.Prelude.{◌≡◌, OnOk, map};
 ghost use Rattle.mlk_syntax.specs.ExprTrees.{Tree, tree_of};
@@ -33,12 +33,12 @@ pub(crate) trait Argument {
 
     ghost made: { Place → Shape → Walked → Walked };
 
-    /// What the argument makes of a walk.
+    /// The effect of the argument on a walk.
     fn make<'a>(&'a self, spot: &'a Spot<'a>, walk: &mut Walk) -> Result<(), AllocError>
         ensures { OnOk result (walk.new ≡ made (spot_of spot.now) (tree self.now) walk.old) };
 }
 
-// One argument, after which it is asked whether there are too many states.
+// Applies one argument, then checks that there are not too many states.
 fn turn<'a, A: Argument>(
     spot: &'a Spot<'a>,
     argument: &'a A,
@@ -50,7 +50,7 @@ fn turn<'a, A: Argument>(
     walk.few(spot.alloc, spot.line, spot.word)
 }
 
-/// Arguments in turn.
+/// Applies arguments one after another.
 pub(crate) fn in_turn<'a, A: Argument>(
     spot: &'a Spot<'a>,
     arguments: &'a [A],
@@ -186,7 +186,7 @@ impl Argument for Expr {
     }
 }
 
-/// Conditions of IF in turn.
+/// Applies conditions of IF one after another.
 pub(crate) fn conditions_in_turn<'a>(
     spot: &'a Spot<'a>,
     conditions: &'a [Expr],

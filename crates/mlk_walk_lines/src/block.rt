@@ -29,7 +29,7 @@ fn entering(alloc: Global, case: Case) -> Result<Case, AllocError>
     })
 }
 
-// A state enters the block, or is refused at the block's first line.
+// Lets a state enter the block, or refuses it at the block's first line.
 fn enter(spot: &Spot, block: &Block, state: State, walk: &mut Walk) -> Result<bool, AllocError>
     ensures enters { IfOk result (λ e. e ≡ enters (spot_of spot.now) block.now state) }
     ensures walk { OnOk result (walk.new ≡ add_all (enter_row (spot_of spot.now) block.now state) walk.old) }
@@ -48,7 +48,7 @@ fn enter(spot: &Spot, block: &Block, state: State, walk: &mut Walk) -> Result<bo
     Ok(false)
 }
 
-// Whether some state enters the block.
+// Lets states enter the block, and returns whether some state does.
 fn enter_all(
     spot: &Spot,
     block: &Block,
@@ -67,14 +67,14 @@ fn enter_all(
     Ok(some)
 }
 
-/// Whether there are more states than may go on.
+/// Whether there are more states than may stay live.
 pub(crate) fn are_many(states: &[State]) -> bool
     ensures { result ≡ nat_lt 16 (length states.now) }
 {
     states.len() > 16
 }
 
-// The states in which the block may end; of more than 17 the first 17, which are too many already.
+// The states in which the block may end; if there are more than 17, the first 17, which are already too many.
 fn ends_of(alloc: Global, block: &Block) -> Result<List<State>, AllocError>
     ensures { IfOk result (λ s. take 17 s ≡ take 17 (put_states (map at_rest block.now.ends) [])) }
 {
@@ -107,8 +107,8 @@ fn through(spot: &Spot, block: &Block, walk: &mut Walk) -> Result<(), AllocError
     Ok(())
 }
 
-/// The block below the line: after it come the states in which it may end. Without a block nothing happens. Of more
-/// states than 17 the first 17 go on, so it has to be asked whether there are too many.
+/// Runs the block below the line: the live states are then those in which it may end. Without a block nothing happens. If there
+/// are more than 17 states, the first 17 are kept, so the caller must check that there are not too many.
 pub(crate) fn do_block(spot: &Spot, walk: &mut Walk) -> Result<(), AllocError>
     ensures { OnOk result (counted walk.new ≡ counted (do_block (spot_of spot.now) (spot_of spot.now).block walk.old)) }
 {

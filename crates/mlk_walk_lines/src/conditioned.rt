@@ -1,4 +1,4 @@
-// A command but FOR.
+// A command other than FOR.
 
 ghost use Rattle.std.specs.Prelude.{◌≡◌, OnOk, Some, if◌then◌else◌, option_map};
 ghost use Rattle.mlk_syntax.specs.ExprTrees.{tree_of};
@@ -16,7 +16,7 @@ use mlk_text::List;
 use mlk_walk_exprs::{Spot, Walk, value, where_it_holds};
 use std::alloc::{AllocError, Global};
 
-// What was found, and beside it the states that were set aside; where the line is over, they are not looked at.
+// Adds the states `aside` that a postconditional set aside, unless the walk of the line is over.
 fn with_aside(alloc: Global, aside: List<State>, walk: &mut Walk) -> Result<(), AllocError>
     ensures { OnOk result (walk.new
         ≡ (if walk.old.over then walk.old else joined walk.old.going (with_states aside walk.old))) }
@@ -57,8 +57,8 @@ fn conditioned<'a>(
     }
 }
 
-/// A command: where its postconditional is false it does nothing. Whether there are too many states is asked after it, of
-/// those too that its postconditional set aside.
+/// Applies a command; if its postconditional is false, it does nothing. Afterwards it checks that there are not too many
+/// states, those included that the postconditional set aside.
 pub(crate) fn perform<'a>(
     spot: &'a Spot<'a>,
     command: &'a Command,

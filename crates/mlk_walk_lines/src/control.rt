@@ -18,7 +18,7 @@ use mlk_text::{Column, List};
 use mlk_walk_exprs::{Faults, Quit, Spot, Walk, put, put_all};
 use std::alloc::{AllocError, Global};
 
-// The cases that skipped, at rest.
+// The cases that skipped, as states with nothing captured.
 fn resting(alloc: Global, cases: List<Case>) -> Result<Vec<State>, AllocError>
     ensures { IfOk result (λ v. v.items ≡ map at_rest cases) }
 {
@@ -32,7 +32,7 @@ fn resting(alloc: Global, cases: List<Case>) -> Result<Vec<State>, AllocError>
     Ok(states)
 }
 
-// The cases that quit, at rest.
+// The cases that quit, as states with nothing captured.
 fn resting_quits(alloc: Global, quits: List<Quit>) -> Result<Vec<State>, AllocError>
     ensures { IfOk result (λ v. v.items ≡ map (λ q. at_rest q.case) quits) }
 {
@@ -46,7 +46,7 @@ fn resting_quits(alloc: Global, quits: List<Quit>) -> Result<Vec<State>, AllocEr
     Ok(states)
 }
 
-// These faults too.
+// Adds `faults` to the walk.
 fn add_faults(faults: Faults, walk: &mut Walk) -> Result<(), AllocError>
     ensures { OnOk result (walk.new ≡ and_faults faults walk.old) }
 {
@@ -56,7 +56,7 @@ fn add_faults(faults: Faults, walk: &mut Walk) -> Result<(), AllocError>
     Ok(())
 }
 
-// These states too, each once; of more than 17 some may be left out, since 17 are too many already.
+// Adds each of `new` to `states`, unless it is there. Beyond 17 some may be dropped, since 17 are already too many.
 #[tactic(auto, using(crate::proofs::FewStates::no_more))]
 fn put_few(states: List<State>, new: Vec<State>) -> Result<List<State>, AllocError>
     ensures { IfOk result (λ all. take 17 all ≡ take 17 (put_states new.items states)) }
@@ -70,7 +70,7 @@ fn put_few(states: List<State>, new: Vec<State>) -> Result<List<State>, AllocErr
     Ok(all)
 }
 
-// These states too, each once, unless the line is over. Of more than 17 some may be left out.
+// Adds `states` to the live ones, each once, unless the walk of the line is over. Beyond 17 some may be dropped.
 fn and_states(alloc: Global, states: Vec<State>, walk: &mut Walk) -> Result<(), AllocError>
     ensures { OnOk result (counted walk.new ≡ counted (and_states states.items walk.old)) }
 {
@@ -82,7 +82,7 @@ fn and_states(alloc: Global, states: Vec<State>, walk: &mut Walk) -> Result<(), 
     Ok(())
 }
 
-// The line is over.
+// Ends the walk of the line.
 fn over_too(alloc: Global, walk: &mut Walk)
     ensures { walk.new ≡ over_too walk.old }
 {
@@ -156,7 +156,7 @@ fn for_rounds<'a>(
     }
 }
 
-// FOR, given what its rounds come to.
+// FOR, given the result of its rounds.
 fn after_rounds<'a>(
     spot: &'a Spot<'a>,
     control: &'a Option<Control>,
@@ -212,7 +212,7 @@ fn one_command<'a>(
     perform(&here, command, walk)
 }
 
-// Commands one after another, as far as the first FOR.
+// Applies the commands before the first FOR, one after another.
 fn before<'a>(spot: &'a Spot<'a>, given: &'a [Command], walk: &mut Walk) -> Result<(), AllocError>
     ensures { OnOk result (walk.new ≡ fold (one_command (spot_of spot.now)) walk.old (map command_of given.now)) }
 {
@@ -222,7 +222,7 @@ fn before<'a>(spot: &'a Spot<'a>, given: &'a [Command], walk: &mut Walk) -> Resu
     Ok(())
 }
 
-/// The walk of a line or of a round at its begin, from the cases that are listed for it.
+/// The walk of a line or of a round at its start, from the cases that are listed there.
 #[inline(always)]
 pub(crate) fn begin(alloc: Global, cases: &[Case]) -> Result<Walk, AllocError>
     ensures { IfOk result (λ w. w ≡ begin cases.now) }
@@ -253,7 +253,7 @@ pub(crate) fn begin(alloc: Global, cases: &[Case]) -> Result<Walk, AllocError>
     })
 }
 
-/// The commands of a line from here on. The rest of a line after FOR is what is run in each round.
+/// Applies the commands of a line from here on. The rest of the line after a FOR is run in each round.
 #[tactic(auto, using(crate::proofs::Opened::without_for, crate::proofs::Opened::for_done))]
 pub(crate) fn commands<'a>(
     spot: &'a Spot<'a>,

@@ -1,4 +1,4 @@
-// What is found where a line ends.
+// The result of a line's end.
 
 ghost use Rattle.std.specs.Prelude.{◌≡◌, [], OnOk};
 ghost use Rattle.mlk_walk_lines.specs.Endings.{Faulty, Leaves, add_ending};
@@ -16,7 +16,7 @@ pub(crate) struct Ends {
 }
 
 impl Ends {
-    /// These faults, and no case.
+    /// The result with `faults` and without cases.
     pub(crate) fn new(alloc: Global, faults: Faults) -> Ends
         ensures faults { result.faults ≡ faults }
         ensures cases { result.cases ≡ [] }
@@ -27,7 +27,7 @@ impl Ends {
         }
     }
 
-    /// A case is refused at a place.
+    /// Adds the fault of a case that is refused.
     pub(crate) fn refuse(
         &mut self,
         line: LineNumber,
@@ -40,7 +40,7 @@ impl Ends {
         self.faults.push(Fault { line, column, code }, note)
     }
 
-    /// The block may end in a case.
+    /// Adds a case in which the block may end.
     pub(crate) fn leave(&mut self, case: Case) -> Result<(), AllocError>
         ensures { OnOk result (self.new ≡ add_ending self.old (Leaves case)) }
     {

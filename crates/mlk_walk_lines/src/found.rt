@@ -15,7 +15,7 @@ pub struct LineFault {
     pub fault: Fault,
 }
 
-/// Faults of lines in the order in which they were found, each with what is told beside it. A contract sees the faults.
+/// Faults of lines with their notes, in the order in which they were found. A contract sees the faults.
 #[derive(Drop)]
 pub struct LineFaults {
     items: Vec<(LineFault, Note)>,
@@ -47,7 +47,7 @@ impl LineFaults {
         Ok(())
     }
 
-    /// These faults too, which the walk of a line found.
+    /// Adds the faults that the walk of the line `walked` found.
     pub(crate) fn add(&mut self, walked: LineNumber, faults: Faults) -> Result<(), AllocError>
         ensures { OnOk result (self.new ≡ self.old ++ map (found_in walked) faults) }
     {
@@ -61,7 +61,7 @@ impl LineFaults {
         Ok(())
     }
 
-    /// The faults, each with what is told beside it.
+    /// The faults with their notes.
     pub fn into_vec(self) -> Vec<(LineFault, Note)>
         ensures { map (λ f. f.0) result.items ≡ self }
     {

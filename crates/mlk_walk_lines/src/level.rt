@@ -19,7 +19,7 @@ use mlk_text::{Column, List};
 use mlk_walk_exprs::{Block, Spot};
 use std::alloc::{AllocError, Global};
 
-// The line to which a job goes on: the first of the later ones, else the one after all, where there is one.
+// The line at which a job continues: the first of `later`, otherwise `after`, if there is one.
 fn next_of<'a>(later: &'a [Line], after: Option<&'a Line>) -> Option<&'a Line>
     ensures { option_map head_of (option_copied result)
         ≡ first_or (option_map head_of (option_copied after.entry)) (lines_from (map line_of later.now)) }
@@ -30,7 +30,7 @@ fn next_of<'a>(later: &'a [Line], after: Option<&'a Line>) -> Option<&'a Line>
     }
 }
 
-// A line's block, given the cases in which it may end.
+// The block of a line, with the cases in which it may end.
 fn block_of(lines: &[Line], ends: List<Case>) -> Option<Block>
     ensures { result ≡ block_with (lines_from (map line_of lines.now)) ends }
 {
@@ -41,7 +41,7 @@ fn block_of(lines: &[Line], ends: List<Case>) -> Option<Block>
     })
 }
 
-// The walk of a line to its end.
+// Walks a line to its end.
 fn walk_head<'a>(
     alloc: Global,
     scope: &'a Scope<'a>,
@@ -87,8 +87,8 @@ fn without_first(lines: &[Line]) -> &[Line]
     }
 }
 
-/// The walk of one line alone, where its block may end in these cases: what is found is added, and the cases are answered
-/// in which the line's own block may end. The next line is the one to which a job goes on.
+/// Walks one line alone, whose block may end in the cases `ends`. Adds the faults, and returns the cases in which the block
+/// that contains the line may end. `next` is the line at which a job continues.
 pub fn walk_alone<'a>(
     alloc: Global,
     scope: &'a Scope<'a>,
@@ -112,7 +112,7 @@ pub fn walk_alone<'a>(
     Ok(ends.cases.into_vec())
 }
 
-// The walk of a line's block. Most lines have none.
+// Walks the block of a line. Most lines have none.
 #[cycle(level)]
 #[tactic(auto, using(crate::proofs::Parts::block_whole))]
 #[inline(always)]
@@ -133,7 +133,7 @@ fn walk_block<'a>(
     walk_lines(alloc, &*scope, lines, Around::Block, None, found)
 }
 
-// The walk of a line, after that of its block.
+// Walks a line, after its block.
 #[cycle(level)]
 fn walk_line<'a>(
     alloc: Global,
@@ -160,9 +160,9 @@ fn walk_line<'a>(
     Ok(ends.cases.into_vec())
 }
 
-/// The walk of lines of one level that stand behind one another, and of their blocks: what is found is added, and the cases are
-/// answered in which the lines' own block may end. Behind the last of them a job goes on to the line after them, where there is
-/// one. A line past all points of the scope costs no more than that it is looked at.
+/// Walks consecutive lines of one level, and their blocks. Adds the faults, and returns the cases in which the block that
+/// contains the lines may end. After the last of them a job continues at `after`, if there is such a line. A line past all points
+/// of the scope is only looked at.
 #[cycle(level)]
 pub fn walk_lines<'a>(
     alloc: Global,

@@ -1,4 +1,4 @@
-//! What lines make of the cases that a certificate lists for them: commands, FOR, blocks, and the ends of lines.
+//! The effect of lines on the cases that a certificate lists for them: commands, FOR, blocks, and the ends of lines.
 #![tactic(auto)]
 
 mod action;

@@ -1,4 +1,4 @@
-// The end of a line: a case goes on to the next line of its level, or its block ends, or its frame.
+// The end of a line: a case continues at the next line of its level, or its block ends, or its frame.
 
 ghost use Rattle.std.specs.Prelude.{◌≡◌, [], ◌∷◌, IfOk, IfSome, OnOk, Some, filter, map, option_map, option_copied};
 ghost use Rattle.std.specs.List.{list_any};
@@ -18,15 +18,15 @@ use mlk_walk_exprs::{Mend, Note, Quit, Walk};
 use std::alloc::{AllocError, Global};
 use std::slice;
 
-/// Lines of one level: those of a block, or those of an entry, with the line that comes after them.
+/// What contains lines of one level: a block, or an entry's frame, with the line that follows the entry's lines.
 #[derive(Clone, Copy, Drop)]
 pub enum Around<'a> {
     Block,
     Frame(Option<&'a Line>),
 }
 
-/// Where a line ends: of what its lines are, the next line of its level, its number and level, and the column after its
-/// last byte.
+/// The end of a line: what contains the lines of its level, the next of them, the line's number and level, and the column
+/// after its last byte.
 #[derive(Clone, Copy, Drop)]
 pub(crate) struct LineEnd<'a> {
     pub(crate) alloc: Global,
@@ -59,7 +59,7 @@ fn some_escape(level: usize, case: &Case) -> bool
         .any(|item| escapes_block(level, case, item))
 }
 
-// The items that are not of this level.
+// The own items of levels other than `level`.
 fn left_own(alloc: Global, level: usize, own: &[Own]) -> Result<Vec<Own>, AllocError>
     ensures { IfOk result (λ v. v.items ≡ filter (is_left level) own.now) }
 {
@@ -73,7 +73,7 @@ fn left_own(alloc: Global, level: usize, own: &[Own]) -> Result<Vec<Own>, AllocE
     Ok(left)
 }
 
-// The last of the saved tests, and those before it.
+// The last of the saved tests and those before it, or `None`.
 fn split_last(saved: &[Test]) -> Option<(Test, &[Test])>
     ensures last { option_map (λ p. p.0) result ≡ last_saved saved.now }
     ensures before { IfSome result (λ p. p.1.now ≡ before_last saved.now) }
@@ -84,7 +84,7 @@ fn split_last(saved: &[Test]) -> Option<(Test, &[Test])>
     }
 }
 
-// The case after its block, where this was its saved `$TEST`, and these were saved before.
+// The case after its block, where `test` was the saved `$TEST`, and `saved` were saved before it.
 fn restored(
     alloc: Global,
     level: usize,
@@ -126,7 +126,7 @@ fn has_such(case: &Case, symbols: &[KnownSym]) -> bool
     symbols.iter().any(|symbol| is_such(case, symbol))
 }
 
-// Whether a held term mentions a name that is own and has not its value of the frame's begin.
+// Whether a held term mentions an own name that is not kept.
 fn some_name_escapes(case: &Case) -> bool
     ensures { result ≡ mention_such (escapes case.now) case.now.held }
 {
@@ -136,7 +136,7 @@ fn some_name_escapes(case: &Case) -> bool
         .any(|term| has_such(case, term.subs.as_slice()))
 }
 
-// The exit that would say what the case does.
+// The exit that corresponds to the case.
 fn exit_of(case: Case) -> ExitCase {
     ExitCase {
         test: case.test,
@@ -146,7 +146,7 @@ fn exit_of(case: Case) -> ExitCase {
 }
 
 impl<'a> LineEnd<'a> {
-    // The cases that are listed in the next line. They are looked up once for all that goes on there.
+    // The cases that are listed at the next line. They are looked up once for all cases that continue there.
     fn listed_ahead(&self) -> &'a [Case]
         ensures { result.now ≡ listed_ahead (end_of self.now) }
     {
@@ -156,7 +156,7 @@ impl<'a> LineEnd<'a> {
         }
     }
 
-    // A case goes on in a line, which lists these.
+    // Lets a case continue at the line `head`, at which the cases `listed` are listed.
     fn into_line(
         &self,
         head: &Line,
@@ -188,7 +188,7 @@ impl<'a> LineEnd<'a> {
         )
     }
 
-    // Its block ends.
+    // Ends the block in a case.
     fn block_end(&self, column: Column, case: Case, ends: &mut Ends) -> Result<(), AllocError>
         ensures { OnOk result (ends.new
             ≡ add_ending ends.old (block_end (end_of self.now) column case (last_saved case.saved))) }
@@ -204,7 +204,7 @@ impl<'a> LineEnd<'a> {
         ends.leave(restored(self.alloc, self.level, test, saved, case)?)
     }
 
-    // Its frame ends.
+    // Ends the frame in a case.
     fn frame_end(&self, column: Column, case: Case, ends: &mut Ends) -> Result<(), AllocError>
         ensures { OnOk result (ends.new ≡ add_ending ends.old (frame_end (end_of self.now) column case)) }
     {
@@ -223,7 +223,7 @@ impl<'a> LineEnd<'a> {
         ends.refuse(self.line, column, Code::CaseNotListed, Note::of(mend))
     }
 
-    // The lines of its level end.
+    // Ends the lines of this level in a case.
     fn level_end(&self, column: Column, case: Case, ends: &mut Ends) -> Result<(), AllocError>
         ensures { OnOk result (ends.new
             ≡ add_ending ends.old (level_end (end_of self.now).around (end_of self.now) column case)) }
@@ -234,7 +234,7 @@ impl<'a> LineEnd<'a> {
         }
     }
 
-    // The line ends for a case, where the next one lists these.
+    // Ends the line in a case; `listed` are the cases that are listed at the next line.
     fn case_end(&self, listed: &[Case], case: Case, ends: &mut Ends) -> Result<(), AllocError>
         requires { listed.now ≡ listed_ahead (end_of self.now) }
         ensures { OnOk result (ends.new ≡ add_ending ends.old (case_end (end_of self.now) case)) }
@@ -287,7 +287,7 @@ impl<'a> LineEnd<'a> {
         Ok(())
     }
 
-    /// What becomes of a line's cases at its end. A line whose walk is over has no case any more; what was found stays.
+    /// Ends the line in all cases of its walk. If the walk is over, there are no cases left, but the faults are kept.
     pub(crate) fn close(&self, walk: Walk) -> Result<Ends, AllocError>
         ensures { IfOk result (λ e. e ≡ at_end (end_of self.now) walk) }
     {

@@ -16,8 +16,8 @@ use mlk_walk_commands::Change;
 use mlk_walk_exprs::{Mend, Note, Spot, Transfer, Walk, each, value};
 use std::alloc::{AllocError, Global};
 
-/// Of a FOR, whose word's column stands in the spot: its variable with the column of its name, which FOR of its line it
-/// is, the cases that are listed for its rounds, and the states in which a round ended.
+/// The rounds of a FOR, whose word is at the spot's column: its variable with the column of its name, the number of the FOR on
+/// its line, the cases that are listed for its rounds, and the states in which a round ended.
 #[derive(Clone, Copy, Drop)]
 pub(crate) struct Rounds<'a> {
     pub(crate) column: Column,
@@ -34,7 +34,7 @@ fn refuse_round(spot: &Spot, index: usize, case: Case, walk: &mut Walk) -> Resul
     walk.refuse(spot.line, spot.word, Code::CaseNotListed, Note::of(mend))
 }
 
-/// A round begins in a case that is listed for it; the rounds are walked by themselves.
+/// The start of a round in a case that is listed for it; the rounds are walked separately.
 #[derive(Clone, Copy, Drop)]
 pub(crate) struct BeginRound<'a> {
     pub(crate) spot: &'a Spot<'a>,
@@ -53,7 +53,7 @@ impl<'a> Transfer for BeginRound<'a> {
     }
 }
 
-// A case that begins a round may also go on after the loop.
+// The start of a round in a case that may also continue after the loop.
 #[derive(Clone, Copy, Drop)]
 struct RoundOrAfter<'a> {
     spot: &'a Spot<'a>,
@@ -83,7 +83,7 @@ fn copies(alloc: Global, states: &[State]) -> Result<List<State>, AllocError>
     Ok(all)
 }
 
-/// The states in which a round ended, in place of those that go on, unless the line is over.
+/// Replaces the live states by those in which a round ended, unless the walk of the line is over.
 pub(crate) fn after_round(alloc: Global, ended: &[State], walk: &mut Walk) -> Result<(), AllocError>
     ensures { OnOk result (walk.new ≡ after_round ended.now walk.old) }
 {
@@ -109,7 +109,7 @@ fn step_variable<'a>(
     change.make_in_each(walk)
 }
 
-/// Each state begins a round.
+/// Lets each live state begin a round.
 pub(crate) fn begin_rounds<'a>(
     spot: &'a Spot<'a>,
     index: usize,
@@ -122,7 +122,7 @@ pub(crate) fn begin_rounds<'a>(
     each(spot.alloc, &transfer, walk)
 }
 
-// After each round the variable changes, and a further round begins.
+// After each round, changes the variable and begins another round.
 fn step_again<'a>(
     spot: &'a Spot<'a>,
     rounds: &Rounds<'a>,
@@ -135,7 +135,7 @@ fn step_again<'a>(
     begin_rounds(spot, rounds.index, rounds.cases, walk)
 }
 
-// The variable changes, and a case that begins a round may also go on after the loop.
+// Changes the variable; a case that begins a round may also continue after the loop.
 fn round_or_after<'a>(
     spot: &'a Spot<'a>,
     rounds: &Rounds<'a>,
@@ -162,7 +162,7 @@ fn limited<'a>(spot: &'a Spot<'a>, rounds: &Rounds<'a>, walk: &mut Walk) -> Resu
     walk.join(spot.alloc, without_round)
 }
 
-/// One parameter, from the states that reach it.
+/// Walks one parameter, from the states that reach it.
 pub(crate) fn parameter<'a>(
     spot: &'a Spot<'a>,
     rounds: &Rounds<'a>,

@@ -40,7 +40,7 @@ test_decides One Any = no (λ e. cc)
 test_decides One Zero = no (λ e. cc)
 test_decides One One = yes refl
 
--- lists are equal where their items are
+-- lists are equal if their items are
 lists_decide : {A : Type 0} (same : A → A → Bool) → ((a b : A) → Decides (same a b) (a ≡ b)) → (xs ys : List A) → Decides (pairwise same xs ys) (xs ≡ ys)
 lists_decide same each [] [] = yes refl
 lists_decide same each [] (y ∷ ys) = no (λ e. cc)

@@ -24,7 +24,7 @@ found_at e test is (p ∷ pairs) =
     (λ (h : test p.0 ≡ false). let i : same_entry e p.0 ≡ false = sym (is p.0) ∙ h in rw (h, i) (found_at e test is pairs))
     (cases_Bool (test p.0))
 
--- whether a key is there
+-- whether a key is in the table
 pub there : (e : EntryId) (test : EntryId → Bool) → ((k : EntryId) → test k ≡ same_entry e k) → (pairs : List (EntryId × Bor EntryCert)) → is_some (lookup test pairs) ≡ has_entry (map (λ p. p.0) (shown pairs)) e
 there e test is [] = refl
 there e test is (p ∷ pairs) =
@@ -38,7 +38,7 @@ pub shown_more : (pairs : List (EntryId × Bor EntryCert)) (k : EntryId) (s : Bo
 shown_more [] k s = refl
 shown_more (p ∷ pairs) k s = ap (λ z. (p.0, p.1.now) ∷ z) (shown_more pairs k s)
 
--- what is gained where an entry stands there already, and where it doesn't
+-- what is added if an entry is already there, and if it is not
 module _ {A : Type 0} (entry : A → EntryId) (found : List A) (a : A) where
   pub gains_none : has_entry (map entry found) (entry a) ≡ true → found ≡ gained entry found a
   gains_none h = rw h refl
@@ -72,7 +72,7 @@ abbrev other : {A : Type 0} → (A → EntryId) → A → A → Bool
 other entry a b = not (same_entry (entry a) (entry b))
 
 module _ {A : Type 0} (entry : A → EntryId) (found : List A) (a : A) where
-  -- what stands among those found is none of the further ones
+  -- an item whose entry is already found is not one of the further ones
   left_out : has_entry (map entry found) (entry a) ≡ true → (items : List A) → further entry found (filter (other entry a) items) ≡ further entry found items
   left_out h [] = refl
   left_out h (b ∷ items) =
@@ -86,7 +86,7 @@ module _ {A : Type 0} (entry : A → EntryId) (found : List A) (a : A) where
       (cases_Bool (has_entry (map entry found) (entry b))))
       (cases_Bool (same_entry (entry a) (entry b)))
 
-  -- and one more is found
+  -- and one more item is found
   one_found : (items : List A) → further entry found (filter (other entry a) items) ≡ further entry (found ++ a ∷ []) items
   one_found [] = refl
   one_found (b ∷ items) =
@@ -103,7 +103,7 @@ module _ {A : Type 0} (entry : A → EntryId) (found : List A) (a : A) where
       (cases_Bool (has_entry (map entry found) (entry b))))
       (cases_Bool (same_entry (entry a) (entry b)))
 
--- what is found of a list's first item, and what its other items add
+-- the items found with a list's first item, and those that its other items add
 module _ {A B : Type 0} (entry : A → EntryId) (by : B → Option A) (found : List A) where
   pub item_found : (b : B) (items : List B) → found ++ further entry found (firsts entry (filter_map by (b ∷ items)))
       ≡ gained_if entry found (by b) ++ further entry (gained_if entry found (by b)) (firsts entry (filter_map by items))
@@ -120,7 +120,7 @@ module _ {A B : Type 0} (entry : A → EntryId) (by : B → Option A) (found : L
           rw (e, h) (ap (λ z. found ++ a ∷ z) (one_found entry found a (firsts entry (filter_map by items))) ∙ sym (append_assoc found (a ∷ []) _)))
           (cases_Bool (has_entry (map entry found) (entry a)))
 
--- and so in a loop over items
+-- and likewise in a loop over items
 pub more_found : {A B : Type 0} (entry : A → EntryId) (by : B → Option A) (found more all : List A) (b : B) (left rest : List B)
     → left ≡ b ∷ rest → found ++ further entry found (firsts entry (filter_map by left)) ≡ all → more ≡ gained_if entry found (by b)
     → more ++ further entry more (firsts entry (filter_map by rest)) ≡ all
@@ -132,7 +132,7 @@ pub none_found : {A : Type 0} (entry : A → EntryId) (items : List A) → furth
 none_found entry [] = refl
 none_found entry (a ∷ items) = ap (λ z. a ∷ z) (none_found entry items)
 
--- all that is found where nothing was
+-- all that is found, starting with nothing
 pub all_found : {A B : Type 0} (entry : A → EntryId) (by : B → Option A) (start whole : List A) (items : List B)
     → start ≡ [] → whole ≡ start ++ further entry start (firsts entry (filter_map by items)) → whole ≡ firsts entry (filter_map by items)
 all_found entry by start whole items s w =

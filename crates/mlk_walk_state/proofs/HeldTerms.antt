@@ -28,7 +28,7 @@ lt_suc x y = ⊎_elim (λ (h : nat_lt x y ≡ true). let i : nat_lt (suc x) (suc
 lt_zero : (x : ℕ) → nat_lt 0 (suc x) ≡ true
 lt_zero x = grind (arith, nat_tests)
 
--- of two texts one is not above the other
+-- if one text is not up to another, the other is up to it
 total : (xs ys : List ℕ) → upto xs ys ≡ false → upto ys xs ≡ true
 total [] ys h = absurd (cc h)
 total (x ∷ xs) [] h = refl
@@ -53,7 +53,7 @@ module _ (t : LockTerm) where
   stands_after : (u : LockTerm) → below (term_text u) (term_text t) ≡ false → terms_upto t u ≡ true
   stands_after u h = not_above (upto (term_text t) (term_text u)) h
 
-  -- where it is put: before the first of these, or after it
+  -- where a term is added: before the first of these, or after it
   put_first : (u : LockTerm) (us : List LockTerm) → below (term_text u) (term_text t) ≡ false → add_term t (u ∷ us) ≡ t ∷ u ∷ us
   put_first u us h = rw h refl
 
@@ -110,7 +110,7 @@ module _ (t : LockTerm) where
       turned_sum : (k n : ℕ) → k + n ≡ n + k
       turned_sum k n = omega arith
 
-  -- the first that is the term is taken
+  -- the first term that is equal to it is removed
   taken_first : (u : LockTerm) (us : List LockTerm) → same_term t u ≡ true → taken t (u ∷ us) ≡ Some us
   taken_first u us e = rw (e, lt_zero (length us)) refl
 

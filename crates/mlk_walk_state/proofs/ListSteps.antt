@@ -5,7 +5,7 @@ use Rattle.std.specs.List.{list_any}
 use Rattle.std.proofs.lemmas.Bool.{cases_Bool}
 use Rattle.mlk_walk_state.specs.Lists.{all_some}
 
--- where no item is such, all are left without those that are
+-- if no item passes the test, removing those that do leaves all
 pub none_filtered : {A : Type 0} (test : A → Bool) (items : List A) → list_any test items ≡ false → filter (λ a. not (test a)) items ≡ items
 none_filtered test [] h = refl
 none_filtered test (a ∷ items) h =
@@ -13,7 +13,7 @@ none_filtered test (a ∷ items) h =
     (λ (e : test a ≡ false). let f : list_any test items ≡ false = rw e at h in rw e (ap (λ (z : List _). a ∷ z) (none_filtered test items f)))
     (cases_Bool (test a))
 
--- one more item that gives something, and one that gives nothing
+-- one more item that yields something, and one that yields nothing
 pub some_more : {A B : Type 0} (by : A → Option B) (a : A) (items : List A) (found : List B) (b : B) → by a ≡ Some b
     → option_map (λ bs. (found ++ b ∷ []) ++ bs) (all_some by items) ≡ option_map (λ bs. found ++ bs) (all_some by (a ∷ items))
 some_more {A} {B} by a items found b e = rw e (after (all_some by items))

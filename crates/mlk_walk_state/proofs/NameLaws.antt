@@ -1,4 +1,4 @@
--- Where all names but some may change, each of them may.
+-- If all names but some may change, each of them may.
 use Rattle.std.proofs.Common.{◌≡◌, ℕ, Bool, true, false, not, List, [], ◌∷◌, refl, ap, ◌∙◌, ⊎_elim}
 use Rattle.std.specs.Prelude.{◌||◌, bytes_eq}
 use Rattle.std.specs.List.{list_any, list_all}
@@ -10,7 +10,7 @@ use Rattle.mlk_cert_parts.specs.declared.names.Own.{Own}
 use Rattle.mlk_walk_state.specs.Names.{is_among, has, have, is_own, spares}
 use Rattle.mlk_walk_state.specs.Laws.{AllButAllows}
 
--- what is so of an item that is such is so of one
+-- if one test implies another, an item that passes the first passes the second
 any_so : {A : Type 0} (f g : A → Bool) → ((a : A) → f a ≡ true → g a ≡ true) → (items : List A) → list_any f items ≡ true → list_any g items ≡ true
 any_so f g so [] h = absurd (cc h)
 any_so f g so (a ∷ items) h =

@@ -1,4 +1,4 @@
--- The callee's terms as the caller has them are what the tests say.
+-- The tests decide what the callee's terms are for the caller.
 use Rattle.std.proofs.Common.{◌≡◌, ℕ, List, [], ◌∷◌, Option, Some, None, refl, ap, sym, ◌∙◌, ⊎_elim, arith}
 use Rattle.std.specs.Prelude.{map, Contains, option_map, option_and_then}
 use Rattle.mlk_names.specs.declared.symbol.Sym.{Sym}

@@ -10,7 +10,7 @@ end_of front ahead =
     let e : length (front ++ ahead) - length ahead ≡ length front = omega (arith, length-append front ahead) in
     ap (λ n. drop n (front ++ ahead)) e ∙ drop-append_seam front ahead
 
--- what stands before it, and it
+-- the points up to and including it
 abbrev pub before_end : List Point → List Point → List Point
 before_end points ahead = take (length points - length ahead) points
 

@@ -1,4 +1,4 @@
--- Points that stand in order.
+-- Points in order.
 use Rattle.std.proofs.Common.{◌≡◌, ◌≤◌, ◌<◌, ℕ, zero, suc, Bool, true, false, List, [], ◌∷◌, ◌++◌, length, None, refl, ap, sym, ◌∙◌, ⊎_elim, arith}
 use Rattle.std.specs.Prelude.{find, slice_get, slice_index_or, ◌&&◌}
 use Rattle.std.specs.List.{list_all}
@@ -11,15 +11,15 @@ use Rattle.mlk_cert_lexemes.specs.Lists.{ascends}
 use Rattle.mlk_walk_state.specs.Scope.{is_at, cases_of, listed_at, is_earlier}
 use Rattle.mlk_walk_state.specs.Points.{is_before, is_upto, cases_there}
 
--- what stands before a point that is before a line and round
+-- a point below one that is before a line and round is before them too
 below_before : (n r : ℕ) (p q : Point) → points_below p q ≡ true → is_before n r q ≡ true → is_before n r p ≡ true
 below_before n r p q h g = grind (arith, nat_tests)
 
--- what is before a line and round is not there
+-- a point before a line and round is not at them
 before_at : (n r : ℕ) (p : Point) → is_before n r p ≡ true → is_at n r p ≡ false
 before_at n r p h = grind (arith, nat_tests)
 
--- what stands after a point that is not before a line and round is neither before nor there
+-- a point after one that is not before a line and round is neither before nor at them
 after_at : (n r : ℕ) (p q : Point) → points_below p q ≡ true → is_before n r p ≡ false → is_at n r q ≡ false
 after_at n r p q h g = grind (arith, nat_tests)
 
@@ -41,7 +41,7 @@ first_before n r p (q ∷ ps) h zero d l b = below_before n r p q (two p q ps h)
 first_before n r p (q ∷ ps) h (suc j) d l b =
     below_before n r p q (two p q ps h).0 (first_before n r q ps (two p q ps h).1 j d (omega arith) b)
 
--- points in order are parted by a line and round
+-- points in order are partitioned by a line and round
 pub parted : (n r : ℕ) (ps : List Point) → ascends points_below ps ≡ true → IsPartitionedBy (is_before n r) ps
 parted n r [] h i j d u l b = absurd (omega arith)
 parted n r (p ∷ ps) h zero zero d u l b = b
@@ -55,7 +55,7 @@ none_there n r p (q ∷ ps) h b =
     let t = two p q ps h in
     rw (after_at n r p q t.0 b) (none_there n r q ps t.1 (after_before n r p q t.0 b))
 
--- and where they part stands the point at the line and round, where there is one
+-- and at the partition point is the point of the line and round, if there is one
 pub found_there : (n r : ℕ) (ps : List Point) (i : ℕ) → ascends points_below ps ≡ true
     → IsPartitionPoint (λ p. is_before n r p ≡ true) (λ p. is_before n r p ≡ false) ps i → listed_at ps n r ≡ cases_there n r (slice_get ps i)
 found_there n r [] i h point = refl
@@ -70,7 +70,7 @@ found_there n r (p ∷ ps) (suc i) h point =
       (λ k d l u. point.1 (suc k) d (omega arith) (omega arith)),
     ))
 
--- nor is it further on
+-- nor is there one further on
 pub none_further : (n r : ℕ) (p : Point) (ps : List Point) → ascends points_below (p ∷ ps) ≡ true
     → is_at n r p ≡ false → is_before n r p ≡ false → listed_at (p ∷ ps) n r ≡ []
 none_further n r p ps h a b = rw a (ap cases_of (none_there n r p ps h b))
@@ -84,7 +84,7 @@ one_found n r p ps a = rw a refl
 pub later_ascend : (p : Point) (ps : List Point) → ascends points_below (p ∷ ps) ≡ true → ascends points_below ps ≡ true
 later_ascend = rest
 
--- what stands before a point that is at a line and round, or before it, is before these
+-- a point below one that is at a line and round, or before them, is before them
 upto_before : (n r : ℕ) (p q : Point) → points_below p q ≡ true → is_upto n r q ≡ true → is_before n r p ≡ true
 upto_before n r p q h g = grind (arith, nat_tests)
 
@@ -106,7 +106,7 @@ pub end_ascends : (ps qs : List Point) → ascends points_below (ps ++ qs) ≡ t
 end_ascends [] qs h = h
 end_ascends (p ∷ ps) qs h = end_ascends ps qs (rest p (ps ++ qs) h)
 
--- the last of points in order is of the greatest line
+-- the last of points in order has the greatest line
 below_upto : (p q : Point) → points_below p q ≡ true → p.line ≤ q.line
 below_upto p q h = grind (arith, nat_tests)
 

@@ -19,7 +19,7 @@ own_first more own name h = sym (ap (λ b. b || is_own own name) h) ∙ own_both
 pub own_after : (more own : List Own) (name : List ℕ) → is_own more name ≡ false → is_own own name ≡ is_own (more ++ own) name
 own_after more own name h = sym (ap (λ b. b || is_own own name) h) ∙ own_both more own name
 
--- what rests on whether a name is own
+-- what depends on whether a name is own
 not_shared : (a b : Bool) → (a && true) ≡ false → (a && b) ≡ false
 not_shared true b h = absurd (cc h)
 not_shared false b h = refl

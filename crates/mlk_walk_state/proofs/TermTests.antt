@@ -20,7 +20,7 @@ known_decides (x ∷ xs) (y ∷ ys) =
     Decides-like (same_symbol x y && same_known xs ys) (λ (h : (x ≡ y) × (xs ≡ ys)). let a = h.0 in let b = h.1 in cc) (λ (e : x ∷ xs ≡ y ∷ ys). (cc, cc))
     (Decides-and (same_symbol x y) (same_known xs ys) (symbol_decides x y) (known_decides xs ys))
 
--- two terms are one where their roots and their subscripts are
+-- two terms are equal if their roots and subscripts are
 pub same_term_decides : (t u : LockTerm) → Decides (same_term t u) (t ≡ u)
 unfolding same_term
 same_term_decides t u =
@@ -29,13 +29,13 @@ same_term_decides t u =
     (λ (e : t ≡ u). (ap (λ (z : LockTerm). z.root) e, ap (λ (z : LockTerm). z.subs) e))
     (Decides-and (same_root t.root u.root) (same_known t.subs u.subs) (root_decides t.root u.root) (known_decides t.subs u.subs))
 
--- tests that decide one thing are one
+-- tests that decide the same thing are equal
 pub one_test : {P : Type 0} (a b : Bool) → IsTrue a ↔ P → Decides b P → a ≡ b
 one_test true b h d = sym (d.1 (h.0 refl))
 one_test false true h d = absurd (let e : false ≡ true = h.1 (d.0 refl) in cc)
 one_test false false h d = refl
 
--- the rank is that of the relation
+-- the computed rank is that of the relation
 ranked : (families : List Family) (t : LockTerm) (k : ℕ) → rank_of families t ≡ Some k → HasRank families t k
 ranked [] t k e = absurd (cc)
 ranked (f ∷ families) t k e =
@@ -68,7 +68,7 @@ rank_is families t found h = by_rank (rank_of families t) refl
     by_rank None e = by_found found refl e
     by_rank (Some k) e = (h k).1 (ranked families t k e)
 
--- where no two families meet, each rank of the relation is the one that is computed
+-- if no two families meet, each rank of the relation is the computed one
 pub rank_decides : (families : List Family) (t : LockTerm) (k : ℕ) → FamiliesApart families → (rank_of families t ≡ Some k) ↔ HasRank families t k
 rank_decides families t k apart = (λ e. ranked families t k e, λ h. by_rank (rank_of families t) refl h)
   where

@@ -1,5 +1,4 @@
--- Cases: when two are one, and when one says no more than another (`Included` of `mlk_cert`, as a test). This project's
--- own choice.
+-- Cases: equality, and inclusion (`Included` of `mlk_cert`, as a test). This project's own choice.
 use Rattle.std.specs.Prelude.{Bool, true, false, ◌&&◌, ◌||◌, ◌==◌, nat_lt, List, [], ◌∷◌, length, bytes_eq, Option, Some, None}
 use Rattle.std.specs.List.{list_any, list_all}
 use Rattle.mlk_names.specs.declared.term.LockTerm.{LockTerm}
@@ -38,7 +37,7 @@ same_test One One = true
 abbrev pub says_no_more : Test → Test → Bool
 says_no_more s t = same_test t Any || same_test s t
 
--- two lists of as many items, each such a pair
+-- two lists of the same length, whose items at the same index satisfy the relation
 abbrev pub pairwise : {A : Type 0} → (A → A → Bool) → List A → List A → Bool
 pairwise is [] [] = true
 pairwise is [] (y ∷ ys) = false
@@ -63,11 +62,11 @@ unfoldable pub includes : Case → Case → Bool
 includes c d = says_no_more c.test d.test && (pairwise same_term c.held d.held && (pairwise same_own c.own d.own
     && (list_all (is_among c.kept) d.kept && pairwise says_no_more c.saved d.saved)))
 
--- one of these cases says no more than this one
+-- one of the cases says no more than this one
 abbrev pub is_listed : List Case → Case → Bool
 is_listed cases c = list_any (includes c) cases
 
--- one of these exits says no more than this case
+-- an exit says no more than this case
 unfoldable pub leaves_by : Case → ExitCase → Bool
 leaves_by c x = says_no_more c.test x.test && (pairwise same_term c.held x.held && list_all (is_among c.kept) x.kept)
 

@@ -1,4 +1,4 @@
--- The last of some points. For private clauses alone. This project's own.
+-- The last points of a list. For private clauses only. This project's own.
 use Rattle.std.specs.Prelude.{◌≡◌, ◌-◌, List, length, drop}
 use Rattle.mlk_cert_parts.specs.declared.block.Point.{Point}
 

@@ -1,4 +1,4 @@
--- That the tests of this crate are the relations of the crates below.
+-- The tests of this crate decide the relations of the crates below.
 use Rattle.std.specs.Prelude.{◌≡◌, ◌↔◌, ℕ, ◌+◌, Bool, true, false, if◌then◌else◌, List, [], ◌∷◌, length, Contains, Some, None, Decides}
 use Rattle.mlk_names.specs.declared.term.LockTerm.{LockTerm}
 use Rattle.mlk_syntax.specs.Trees.{RoutineTree}
@@ -21,27 +21,27 @@ use Rattle.mlk_walk_state.specs.Scope.{AreEntries, certified, declared, shared_i
 use Rattle.mlk_program.specs.declared.entry.EntryId.{EntryId}
 use Rattle.mlk_program.specs.Program.{PlacedCall, calls_of, passed_by, filled_by}
 
--- A case includes another where the relation says so.
+-- A case includes another exactly if the relation says so.
 abbrev pub IncludesDecides : Type 0
 IncludesDecides = (c d : Case) → Decides (includes c d) (Included c d)
 
--- Terms, cases and states are the same where they are equal.
+-- The equality tests of terms, cases and states decide equality.
 pub record SameDecides : Type 0 where
   pub terms : (t u : LockTerm) → Decides (same_term t u) (t ≡ u)
   pub cases : (c d : Case) → Decides (same_case c d) (c ≡ d)
   pub states : (s t : State) → Decides (same_state s t) (s ≡ t)
 
--- Where no two families meet, a term's rank is that of the relation.
+-- If no two families meet, a term's rank is that of the relation.
 abbrev pub RankIs : Type 0
 RankIs = (families : List Family) (t : LockTerm) (k : ℕ) → FamiliesApart families → (rank_of families t ≡ Some k) ↔ HasRank families t k
 
--- The tables of entries say of each entry what its first block and the rules say.
+-- For each entry, the tables of entries agree with its first block and with the rules.
 abbrev pub TablesAre : Type 0
 TablesAre = (routines : List RoutineTree) (blocks : List EntryCert) (texts : List (List ℕ))
     → AreEntries routines blocks texts (certified routines blocks, declared routines texts)
 
--- A term that is put is held once more, every other as often as before, and the order stays; one that is taken is held
--- once less, and where none can be taken it is not held.
+-- An added term is held once more, every other one as often as before, and the order is kept; a removed term is held once less,
+-- and if none can be removed it is not held.
 abbrev pub one_if : Bool → ℕ
 one_if test = if test then 1 else 0
 
@@ -56,14 +56,14 @@ pub record HeldAre : Type 0 where
   pub of_all : (terms held : List LockTerm) → length (add_terms terms held) ≡ length terms + length held
   pub ordered : (t : LockTerm) (held : List LockTerm) → ascends terms_upto held ≡ true → ascends terms_upto (add_term t held) ≡ true
 
--- Where all names but some may change, each of them may.
+-- If all names but some may change, each of them may.
 abbrev pub AllButAllows : Type 0
 AllButAllows = (own : List Own) (mods : List NameSet) (names : List (List ℕ)) (name : List ℕ)
     → may_change own mods (AllBut names) ≡ true → has (AllBut names) name ≡ true → may_change own mods (Only name) ≡ true
 
--- Whether a name is shared in a frame of an entry rests on whether it is own there, and what is not shared where it is not
--- own is shared in no frame. A name that some call passes by reference is shared where it is not own, and a formal that one
--- fills in each frame of its entry.
+-- Whether a name is shared in a frame of an entry depends only on whether it is own there, and a name that is not shared where it
+-- is not own is shared in no frame. A name that some call passes by reference is shared where it is not own, and a formal that
+-- receives one is shared in each frame of its entry.
 pub record SharesByOwn (routines : List RoutineTree) : Type 0 where
   pub by_own : (e : EntryId) (own more : List Own) (name : List ℕ) → is_own own name ≡ is_own more name
       → shared_in_frame routines e own name ≡ shared_in_frame routines e more name

@@ -1,18 +1,18 @@
--- Points that stand in order. For private clauses alone. This project's own.
+-- Points in order. For private clauses only. This project's own.
 use Rattle.std.specs.Prelude.{ℕ, Bool, ◌&&◌, ◌||◌, ◌==◌, nat_lt, nat_le, if◌then◌else◌, List, [], Option, Some, None}
 use Rattle.mlk_cert_parts.specs.declared.block.Point.{Point}
 use Rattle.mlk_cert_parts.specs.declared.case.Case.{Case}
 use Rattle.mlk_walk_state.specs.Scope.{is_at}
 
--- that the point stands before a line and round
+-- the point is before a line and round
 abbrev pub is_before : ℕ → ℕ → Point → Bool
 is_before number round p = nat_lt p.line number || ((p.line == number) && nat_lt p.round round)
 
--- the cases of this point, where it is at the line and round
+-- the cases of the point, if it is at the line and round
 abbrev pub cases_there : ℕ → ℕ → Option Point → List Case
 cases_there number round None = []
 cases_there number round (Some p) = if is_at number round p then p.cases else []
 
--- that the point stands before a line and round, or there
+-- the point is before a line and round, or there
 abbrev pub is_upto : ℕ → ℕ → Point → Bool
 is_upto number round p = nat_lt p.line number || ((p.line == number) && nat_le p.round round)

@@ -1,4 +1,4 @@
--- What is answered of a state that may be refused. This project's own.
+-- The result for a state that may be refused. This project's own.
 use Rattle.std.specs.Prelude.{◌≡◌, Result, Ok, Err}
 use Rattle.mlk_text.specs.declared.code.Code.{Code}
 use Rattle.mlk_text.specs.declared.failure.Failure.{Failure}
@@ -6,12 +6,12 @@ use Rattle.mlk_text.specs.declared.failure.Failure.TheVariants.{OutOfMemory, Ref
 use Rattle.mlk_walk_state.specs.declared.state.State.{State}
 use Rattle.mlk_walk_state.specs.declared.state.RefusedState.{RefusedState}
 
--- want of memory says nothing; a refusal has the definition's code, and the state as it was given
+-- out of memory says nothing; a refusal has the definition's code, and the state as it was before
 abbrev pub RefusedAs : {Y : Type 0} → State → Failure RefusedState → Result Y Code → Type 0
 RefusedAs s OutOfMemory answer = Unit {0}
 RefusedAs s (Refused r) answer = (answer ≡ Err r.code) × (r.state ≡ s)
 
--- What is answered of a state is what the definition gives.
+-- The result for a state is that of the definition.
 abbrev pub AnswersOf : {X Y : Type 0} → State → (X → Y) → Result X (Failure RefusedState) → Result Y Code → Type 0
 AnswersOf s view (Ok x) answer = answer ≡ Ok (view x)
 AnswersOf s view (Err e) answer = RefusedAs s e answer

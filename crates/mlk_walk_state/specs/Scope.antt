@@ -1,4 +1,4 @@
--- What the walk of an entry's lines is given. This project's own choice.
+-- The input of the walk of an entry's lines. This project's own choice.
 use Rattle.std.specs.Prelude.{ℕ, ◌≡◌, Bool, ◌&&◌, ◌||◌, ◌==◌, nat_lt, not, false, if◌then◌else◌, List, [], ◌∷◌, ◌++◌, map, find, filter, filter_map}
 use Rattle.std.specs.Prelude.{Option, Some, None, option_map}
 use Rattle.std.specs.List.{list_any, list_all}
@@ -30,7 +30,7 @@ is_declared routines texts e = list_any (names_entry routines e) texts
 abbrev pub block_of : List RoutineTree → List EntryCert → EntryId → Option EntryCert
 block_of routines blocks e = find (λ (b : EntryCert). names_entry routines e b.entry) blocks
 
--- the cases of a point; a point that the lines don't have is never asked for
+-- the cases of a point; a point that the lines don't have is never looked up
 abbrev pub is_at : ℕ → ℕ → Point → Bool
 is_at number round p = (p.line == number) && (p.round == round)
 
@@ -45,7 +45,7 @@ listed_at points number round = cases_of (find (is_at number round) points)
 abbrev pub is_earlier : ℕ → Point → Bool
 is_earlier number p = nat_lt p.line number
 
--- what is known of entries, in two tables: the blocks of those that are certified, and those that are declared
+-- what is known of entries, in two tables: the blocks of the certified ones, and the declared ones
 abbrev pub block_at : List (EntryId × EntryCert) → EntryId → Option EntryCert
 block_at [] e = None
 block_at (b ∷ blocks) e = if same_entry e b.0 then Some b.1 else block_at blocks e
@@ -53,31 +53,31 @@ block_at (b ∷ blocks) e = if same_entry e b.0 then Some b.1 else block_at bloc
 abbrev pub has_entry : List EntryId → EntryId → Bool
 has_entry entries e = list_any (same_entry e) entries
 
--- the first item of each entry, in their order
+-- the first item of each entry, in order
 abbrev pub firsts : {A : Type 0} → (A → EntryId) → List A → List A
 firsts entry [] = []
 firsts entry (a ∷ items) = a ∷ filter (λ b. not (same_entry (entry a) (entry b))) (firsts entry items)
 
--- The certified entries in the order of their blocks, each with its first block; a block that names no entry is left
--- out.
+-- The certified entries in the order of their blocks, each with its first block; a block that does not name an entry is
+-- ignored.
 abbrev pub block_in : List RoutineTree → EntryCert → Option (EntryId × EntryCert)
 block_in routines b = option_map (λ e. (e, b)) (entry_by routines b.entry)
 
 unfoldable pub certified : List RoutineTree → List EntryCert → List (EntryId × EntryCert)
 certified routines blocks = firsts (λ p. p.0) (filter_map (block_in routines) blocks)
 
--- the declared entries in the order of the rules, each once; a text that names no entry is left out
+-- the declared entries in the order of the rules, each once; a text that does not name an entry is ignored
 unfoldable pub declared : List RoutineTree → List (List ℕ) → List EntryId
 declared routines texts = firsts (λ e. e) (filter_map (entry_by routines) texts)
 
--- that the tables say of each entry what its block and the rules say
+-- for each entry, the tables agree with its block and with the rules
 pub record AreEntries (routines : List RoutineTree) (blocks : List EntryCert) (texts : List (List ℕ)) (found : List (EntryId × EntryCert) × List EntryId) : Type 0 where
   pub certified : (e : EntryId) → block_at found.0 e ≡ block_of routines blocks e
   pub declared : (e : EntryId) → has_entry found.1 e ≡ is_declared routines texts e
 
--- the program's routines and which of them, from 0, is walked; the rules; the certified entries with their blocks, and the
--- declared ones; the walked entry's own summary, whether it is declared, and its points; and which names are shared
--- in a frame with these names of its own
+-- the program's routines and the index of the one that is walked; the rules; the certified entries with their blocks, and the
+-- declared ones; the walked entry's own summary, whether it is declared, and its points; and which names are shared in a frame
+-- with given own names
 pub record Scope : Type 0 where
   pub routines : List RoutineTree
   pub own : ℕ
@@ -99,18 +99,17 @@ begins_jobs sc e = has_entry sc.declared_entries e
 abbrev pub listed : Scope → ℕ → ℕ → List Case
 listed sc number round = listed_at sc.points number round
 
--- whether all points are of earlier lines than this one
+-- whether all points are on earlier lines
 abbrev pub is_past : Scope → ℕ → Bool
 is_past sc number = list_all (is_earlier number) sc.points
 
--- Whether a name is shared in a frame of an entry with these names of its own. A name that is own there has a cell of the
--- frame's own, which no other name reaches but by what this very entry does: it is a formal that a call fills by reference,
--- or the entry passes it on. A name that is not own is one of a caller's, and shared where some call of the program shares
--- it.
+-- Whether a name is shared in a frame of an entry with these own names. A name that is own there has a cell of the frame's own,
+-- which another name reaches only because of this very entry: it is a formal that receives a name by reference, or the entry
+-- passes it. A name that is not own is one of a caller's, and shared if some call of the program shares it.
 abbrev pub shared_in_frame : List RoutineTree → EntryId → List Own → List ℕ → Bool
 shared_in_frame routines e own name = is_shared routines name && (not (is_own own name) || is_shared_in routines e name)
 
--- The scope of an entry and of the block that is believed of it.
+-- The scope of an entry and of its block, whose claims the walk checks.
 abbrev pub scope_with :
     List RoutineTree → RuleLists → List (EntryId × EntryCert) × List EntryId → EntryId → EntryCert → Scope
 scope_with routines rules entries e b = record {
@@ -125,11 +124,11 @@ scope_with routines rules entries e b = record {
   is_shared = shared_in_frame routines e;
 }
 
--- the scope in which these names count as own, too, where it is asked which names are shared
+-- the scope in which these names count as own, too, when shared names are looked up
 abbrev pub counting : List Own → Scope → Scope
 counting more sc = record sc { is_shared = λ own name. sc.is_shared (more ++ own) name }
 
--- by what a program, its rules and its certificate say
+-- given a program, its rules and its certificate
 abbrev pub entry_scope : List RoutineTree → RuleLists → List EntryCert → EntryId → EntryCert → Scope
 entry_scope routines rules blocks e b =
     scope_with routines rules (certified routines blocks, declared routines rules.entries) e b

@@ -1,5 +1,5 @@
--- A state of a walk: a case, and the symbols that the running command has captured so far, oldest first: those of
--- subscripts, actuals and lock names that are evaluated and not yet used. This project's own choice.
+-- A state of a walk: a case, and the symbols that the running command has captured so far, oldest first: those of subscripts,
+-- actuals and lock names that were evaluated and not used yet. This project's own choice.
 use Rattle.std.specs.Prelude.{ℕ, Bool, true, false, ◌&&◌, ◌-◌, List, [], ◌∷◌, ◌++◌, length, take, drop, bytes_eq}
 use Rattle.mlk_names.specs.declared.symbol.Sym.{Sym}
 use Rattle.mlk_names.specs.declared.symbol.Sym.TheVariants.{Const, Local, Job, Unknown}
@@ -19,7 +19,7 @@ same_sym _ _ = false
 unfoldable pub same_state : State → State → Bool
 same_state s t = same_case s.case t.case && pairwise same_sym s.captured t.captured
 
--- the last so many captured symbols, the state without them, and with one more
+-- the last n captured symbols, the state without them, and with one more
 abbrev pub last_captured : ℕ → State → List Sym
 last_captured n s = drop (length s.captured - n) s.captured
 
@@ -29,14 +29,14 @@ without_last n s = record s { captured = take (length s.captured - n) s.captured
 abbrev pub with_symbol : Sym → State → State
 with_symbol symbol s = record s { captured = s.captured ++ symbol ∷ [] }
 
--- the first so many captured symbols, and the state without them
+-- the first n captured symbols, and the state without them
 abbrev pub first_captured : ℕ → State → List Sym
 first_captured n s = take n s.captured
 
 abbrev pub without_first : ℕ → State → State
 without_first n s = record s { captured = drop n s.captured }
 
--- a case at the begin of a command, with nothing captured yet
+-- a case before a command, with nothing captured
 abbrev pub at_rest : Case → State
 at_rest c = record { case = c; captured = [] }
 

@@ -1,5 +1,5 @@
--- What is known of an expression without running anything, read off its tree: its symbol and its truth. Standard:
--- expressions, truth values, `$JOB`, `$TEST`; what counts as known is this project's own choice.
+-- What is known of an expression without running the code: its symbol and its truth value. Standard: expressions, truth values,
+-- `$JOB`, `$TEST`; what counts as known is this project's own choice.
 use Rattle.std.specs.Prelude.{ℕ, Bool, true, false, not, List, Option, Some, None, option_map}
 use Rattle.mlk_text.specs.declared.operator.Op.{Op}
 use Rattle.mlk_text.specs.declared.operator.UnaryOp.{UnaryOp}
@@ -32,7 +32,7 @@ after_constant op a (Local name) = Unknown
 after_constant op a Job = Unknown
 after_constant op a Unknown = Unknown
 
--- operators on constants alone have a known result
+-- only operators on constants have a known result
 abbrev pub between_symbols : Op → Sym → Sym → Sym
 between_symbols op (Const a) t = after_constant op a t
 between_symbols op (Local name) t = Unknown
@@ -49,7 +49,7 @@ abbrev pub special_symbol : Special → Sym
 special_symbol special.Job = Job
 special_symbol _ = Unknown
 
--- The symbol of an expression, where these names are shared. Binary operators are applied from left to right.
+-- The symbol of an expression, given which names are shared. Binary operators are applied from left to right.
 abbrev mutual
   pub symbol_of : (List ℕ → Bool) → Tree → Sym
   symbol_of shared (Lit value) = Const value
@@ -84,8 +84,8 @@ before_truth Not s truth = option_map not truth
 before_truth Plus s truth = truth_of_symbol s
 before_truth Minus s truth = truth_of_symbol s
 
--- The truth of an expression: that of a constant `0` or `1`, of `$TEST` where it is known, and of `'` before these; of
--- any other it is unknown.
+-- The truth value of an expression: that of a constant `0` or `1`, of `$TEST` if it is known, and of `'` before these; that of
+-- any other is unknown.
 abbrev pub truth_of : (List ℕ → Bool) → Test → Tree → Option Bool
 truth_of shared test (SpecialName s) = special_truth test s
 truth_of shared test (Prefixed op t) = before_truth op (symbol_of shared (Prefixed op t)) (truth_of shared test t)
@@ -93,7 +93,7 @@ truth_of shared test (Lit value) = truth_of_text value
 truth_of shared test (Chain first rest) = truth_of_symbol (symbol_of shared (Chain first rest))
 truth_of shared test _ = None
 
--- what is known of an expression in a state, where a scope says which names are shared
+-- what is known of an expression in a state, where the scope says which names are shared
 abbrev pub symbol_in : Scope → Tree → State → Sym
 symbol_in sc t s = symbol_of (sc.is_shared s.case.own) t
 

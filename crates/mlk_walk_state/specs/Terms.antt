@@ -1,4 +1,4 @@
--- Lists of held lock terms, as often as each is held. Standard: LOCK (a name that is claimed again counts once more);
+-- Lists of held lock terms, each as often as it is held. Standard: LOCK (a name that is claimed again counts once more);
 -- their order in the list, and ranks, are this project's own choice.
 use Rattle.std.specs.Prelude.{ℕ, Bool, true, false, ◌&&◌, List, [], ◌∷◌, map, insert, remove, position, Option, Some, None, option_map, option_and_then, find}
 use Rattle.std.specs.List.{list_any}
@@ -25,7 +25,7 @@ same_known (x ∷ xs) (y ∷ ys) = same_symbol x y && same_known xs ys
 unfoldable pub same_term : LockTerm → LockTerm → Bool
 same_term t u = same_root t.root u.root && same_known t.subs u.subs
 
--- a term stands before the first whose text is not below its own
+-- inserts a term before the first whose text is not below its own
 abbrev pub add_term : LockTerm → List LockTerm → List LockTerm
 add_term t held = insert held (terms_before held t) t
 
@@ -33,7 +33,7 @@ abbrev pub add_terms : List LockTerm → List LockTerm → List LockTerm
 add_terms [] held = held
 add_terms (t ∷ ts) held = add_terms ts (add_term t held)
 
--- one less of a term, or none where it isn't held
+-- removes one occurrence of a term, or nothing if it isn't held
 abbrev pub taken : LockTerm → List LockTerm → Option (List LockTerm)
 taken t held = option_map (remove held) (position (same_term t) held)
 
@@ -50,13 +50,13 @@ abbrev pub first_missing : List LockTerm → List LockTerm → Option LockTerm
 first_missing [] held = None
 first_missing (t ∷ ts) held = missing_at t (option_map (first_missing ts) (taken t held))
 
--- whether a subscript is a local whose name is such
+-- whether a subscript is a local whose name satisfies a test
 abbrev pub is_such : (List ℕ → Bool) → KnownSym → Bool
 is_such test (known.Const value) = false
 is_such test (known.Local name) = test name
 is_such test known.Job = false
 
--- Whether some term mentions such a name in a subscript; its root is no mention.
+-- Whether some term mentions such a name in a subscript; its root does not count.
 abbrev pub mention_such : (List ℕ → Bool) → List LockTerm → Bool
 mention_such test terms = list_any (λ (t : LockTerm). list_any (is_such test) t.subs) terms
 
@@ -76,7 +76,7 @@ rank_of families t =
 abbrev pub all_known : List Sym → Option (List KnownSym)
 all_known symbols = all_some known_of symbols
 
--- A callee's term as its caller has it: none where an unknown would enter. Standard: parameter passing.
+-- A callee's term, translated for its caller: none if a subscript would become unknown. Standard: parameter passing.
 abbrev pub put_term : List (List ℕ) → List (Option Sym) → LockTerm → Option LockTerm
 put_term formals given t =
     option_map (λ subs. record { root = t.root; subs = subs }) (all_known (map (put_in formals given) t.subs))

@@ -1,4 +1,4 @@
-//! What a walk is given, its states, and what is asked of symbols, names and lock terms there.
+//! The input of a walk, its states, and the queries on symbols, names and lock terms in them.
 #![tactic(auto)]
 
 mod law;

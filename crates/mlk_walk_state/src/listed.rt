@@ -1,4 +1,4 @@
-// Cases that are listed.
+// Listed cases.
 
 ghost use Rattle.std.specs.Prelude.{◌≡◌};
 ghost use Rattle.std.specs.List.{list_any};
@@ -16,14 +16,14 @@ fn includes(case: &Case, listed: &Case) -> bool
     included(case, listed)
 }
 
-/// Whether one of the cases says no more than this one. It takes no memory.
+/// Whether one of the listed `cases` says no more than `case`. Allocates nothing.
 pub fn is_listed(cases: &[Case], case: &Case) -> bool
     ensures { result ≡ is_listed cases.now case.now }
 {
     cases.iter().any(|listed| includes(case, listed))
 }
 
-// Whether the second says no more of `$TEST` than the first.
+// Whether `other` says no more about `$TEST` than `test`.
 fn says_no_more(test: Test, other: Test) -> bool
     ensures { result ≡ says_no_more test other }
 {
@@ -63,7 +63,7 @@ fn leaves_by(case: &Case, exit: &ExitCase) -> bool
         && are_among(case.kept.as_slice(), exit.kept.as_slice())
 }
 
-/// Whether one of the exits says no more than this case. It takes no memory.
+/// Whether one of `exits` says no more than `case`. Allocates nothing.
 pub fn is_exit(exits: &[ExitCase], case: &Case) -> bool
     ensures { result ≡ is_exit exits.now case.now }
 {

@@ -10,7 +10,7 @@ use mlk_cert_parts::{NameSet, Own, Shared};
 use mlk_text::Name;
 use std::alloc::{AllocError, Global};
 
-/// Whether the name is among these. It takes no memory.
+/// Whether `name` is one of `names`. Allocates nothing.
 #[tactic(auto, unfolding(crate::specs::Names::is_among))]
 pub fn is_among(names: &[Name], name: &Name) -> bool
     ensures { result ≡ is_among names.now name.now }
@@ -18,7 +18,7 @@ pub fn is_among(names: &[Name], name: &Name) -> bool
     names.iter().any(|other| *name == *other)
 }
 
-// Whether the name is this one, or is not among those that the set leaves out.
+// Whether `set` has `name`: it is that name, or all names but some others.
 #[inline(always)]
 fn has(set: &NameSet, name: &Name) -> bool
     ensures { result ≡ has set.now name.now }
@@ -29,7 +29,7 @@ fn has(set: &NameSet, name: &Name) -> bool
     }
 }
 
-/// Whether one of the sets has the name.
+/// Whether one of `sets` has `name`.
 #[tactic(auto, unfolding(crate::specs::Names::have))]
 pub fn have(sets: &[NameSet], name: &Name) -> bool
     ensures { result ≡ have sets.now name.now }
@@ -37,7 +37,7 @@ pub fn have(sets: &[NameSet], name: &Name) -> bool
     sets.iter().any(|set| has(set, name))
 }
 
-/// Whether a name is own: one of the items has it, at any level. It takes no memory.
+/// Whether `name` is own: one of the items has it, at any level. Allocates nothing.
 #[inline(always)]
 pub fn is_own(own: &[Own], name: &Name) -> bool
     ensures { result ≡ is_own own.now name.now }
@@ -51,7 +51,7 @@ fn is_equal_own(first: &Own, second: &Own) -> bool
     first == second
 }
 
-/// Whether two items are one: the same names, made new at the same level. It takes no memory.
+/// Whether two items are equal: the same names, created at the same level. Allocates nothing.
 pub fn is_same_own(first: &Own, second: &Own) -> bool
     ensures { result ≡ same_own first.now second.now }
 {
@@ -64,7 +64,7 @@ pub(crate) fn are_among(names: &[Name], others: &[Name]) -> bool
     others.iter().all(|name| is_among(names, name))
 }
 
-// Whether the set is of all names but some, each of which is among these.
+// Whether `set` is all names but some, each of which is in `names`.
 #[tactic(auto, unfolding(crate::specs::Names::spares))]
 fn spares(names: &[Name], set: &NameSet) -> bool
     ensures { result ≡ spares names.now set.now }
@@ -87,7 +87,7 @@ fn one_spares(names: &[Name], sets: &[NameSet]) -> bool
     sets.iter().any(|set| spares(names, set))
 }
 
-/// Whether names may change: they are own, or a summary lists them.
+/// Whether the names of `set` may change: they are own, or listed in `mods`.
 #[inline(always)]
 pub fn may_change(own: &[Own], mods: &[NameSet], set: &NameSet) -> bool
     ensures { result ≡ may_change own.now mods.now set.now }
@@ -119,7 +119,7 @@ fn left_without(alloc: Global, changed: &[NameSet], names: &[Name]) -> Result<Ve
     Ok(left)
 }
 
-/// The names of a list that these sets have are taken out of it; where there are none it stays the very list.
+/// Removes the names of `changed` from a list; if it has none of them, it stays the same shared list.
 #[tactic(auto, using(crate::proofs::ListSteps::none_filtered))]
 pub fn take_out(
     alloc: Global,

@@ -17,7 +17,7 @@ fn is_below(point: &Point, other: &Point) -> bool
     point.line < other.line || (point.line == other.line && point.round < other.round)
 }
 
-/// Whether points stand in the order of their lines, on one line in that of their rounds.
+/// Whether `points` are ordered by lines, and on a line by rounds.
 pub(crate) fn are_in_order(points: &[Point]) -> bool
     ensures { result ≡ ascends points_below points.now }
 {
@@ -40,14 +40,14 @@ fn is_earlier(point: &Point, line: LineNumber) -> bool
     point.line < line
 }
 
-/// Whether all points are of earlier lines.
+/// Whether all `points` are on earlier lines.
 pub(crate) fn are_earlier(points: &[Point], line: LineNumber) -> bool
     ensures { result ≡ list_all (is_earlier line) points.now }
 {
     points.iter().all(|point| is_earlier(point, line))
 }
 
-/// Whether all points are of earlier lines, where they stand in order.
+/// Whether all `points`, which are in order, are on earlier lines.
 pub(crate) fn are_earlier_in_order(points: &[Point], line: LineNumber) -> bool
     requires { ascends points_below points.now ≡ true }
     ensures { result ≡ list_all (is_earlier line) points.now }
@@ -70,7 +70,7 @@ fn is_at(point: &Point, line: LineNumber, round: usize) -> bool
     point.line == line && point.round as usize == round
 }
 
-// How many of points that stand in order are before a line and round.
+// The number of `points`, which are in order, before a line and round.
 fn place_of(points: &[Point], line: LineNumber, round: usize) -> usize
     requires { ascends points_below points.now ≡ true }
     ensures { listed_at points.now line round ≡ cases_there line round (slice_get points.now result) }
@@ -82,7 +82,7 @@ fn place_of(points: &[Point], line: LineNumber, round: usize) -> usize
     )
 }
 
-/// The cases of the point at a line and round, among points that stand in order.
+/// The cases listed at a line and round, for `points` in order.
 pub(crate) fn cases_in_order(points: &[Point], line: LineNumber, round: usize) -> &[Case]
     requires { ascends points_below points.now ≡ true }
     ensures { result.now ≡ listed_at points.now line round }
@@ -93,14 +93,14 @@ pub(crate) fn cases_in_order(points: &[Point], line: LineNumber, round: usize) -
     }
 }
 
-// Whether the point stands at a line and round, or before it.
+// Whether `point` is at a line and round, or before it.
 fn is_upto(point: &Point, line: LineNumber, round: usize) -> bool
     ensures { result ≡ is_upto line round point.now }
 {
     point.line < line || (point.line == line && point.round as usize <= round)
 }
 
-/// The points without those that stand before a line, as far as they are the first ones.
+/// Drops points at the front that are on lines before `line`.
 pub(crate) fn from_line(points: &[Point], line: LineNumber) -> &[Point]
     ensures { IsEnd points.now result.now }
 {
@@ -114,7 +114,7 @@ pub(crate) fn from_line(points: &[Point], line: LineNumber) -> &[Point]
     left
 }
 
-// The cases of the point at a line and round, among points that stand in order, one after the other.
+// The cases listed at a line and round, for `points` in order, searched one by one.
 fn cases_next(points: &[Point], line: LineNumber, round: usize) -> &[Case]
     requires { ascends points_below points.now ≡ true }
     ensures { result.now ≡ listed_at points.now line round }
@@ -132,8 +132,8 @@ fn cases_next(points: &[Point], line: LineNumber, round: usize) -> &[Case]
     &[]
 }
 
-/// The cases of the point at a line and round, among points that stand in order, of which these are the last. It is looked
-/// for among these, where it can't stand before them: a walk that goes on line by line finds it there at once.
+/// The cases listed at a line and round, for `points` in order, whose last ones are `ahead`. Only `ahead` is searched if the
+/// place can't be before it: a walk that proceeds line by line finds it there immediately.
 pub(crate) fn cases_ahead<'a>(
     points: &'a [Point],
     ahead: &'a [Point],

@@ -1,4 +1,4 @@
-// What the walk of an entry's lines is given.
+// The input of the walk of an entry's lines.
 
 ghost use Rattle.std.specs.Prelude.{◌≡◌, ◌++◌, [], IfOk, OnOk, map, filter_map, option_copied, option_map};
 ghost use Rattle.mlk_syntax.specs.Views.{routine_of};
@@ -20,8 +20,7 @@ use mlk_text::{LineNumber, Name, Value};
 use std::alloc::{AllocError, Global};
 use std::marker::Model;
 
-/// What is known of entries: the blocks of those that are certified, and which are declared. A contract sees the two
-/// lists.
+/// What is known of entries: the blocks of the certified ones, and which are declared. A contract sees the two lists.
 #[derive(Drop)]
 pub struct Entries<'a> {
     certified: IndexMap<EntryId, &'a EntryCert>,
@@ -51,7 +50,7 @@ impl<'a> Entries<'a> {
         }
     }
 
-    // Adds the block of an entry, where it has none yet.
+    // Adds the block of `entry`, unless it has one.
     fn certify(&mut self, entry: EntryId, block: &'a EntryCert) -> Result<(), AllocError>
         ensures blocks { OnOk result (self.new.0 ≡ gained (λ p. p.0) self.old.0 (entry, block.now)) }
         ensures declared { OnOk result (self.new.1 ≡ self.old.1) }
@@ -121,8 +120,8 @@ impl<'a> Entries<'a> {
         Ok(())
     }
 
-    /// What is known of a program's entries: the first block that names an entry is its own, and the rules declare
-    /// entries. What names no entry of the program is left out.
+    /// Collects what is known of a program's entries: an entry has the first block that names it, and the rules declare entries.
+    /// Names that are not entries of the program are ignored.
     pub fn of(
         alloc: Global,
         program: &Program,
@@ -138,14 +137,14 @@ impl<'a> Entries<'a> {
         Ok(found)
     }
 
-    /// The block of a certified entry, the first that names it. It takes no memory.
+    /// The block of `entry`, the first that names it, or `None` if it is not certified. Allocates nothing.
     pub fn block(&self, entry: EntryId) -> Option<&'a EntryCert>
         ensures { option_copied result ≡ block_at self.now.0 entry }
     {
         self.certified.get(&entry).copied()
     }
 
-    /// The summary of a certified entry. It takes no memory.
+    /// The summary of `entry`, or `None` if it is not certified. Allocates nothing.
     pub fn summary(&self, entry: EntryId) -> Option<&'a Summary>
         ensures { option_copied result ≡ option_map (λ b. b.summary) (block_at self.now.0 entry) }
     {
@@ -153,7 +152,7 @@ impl<'a> Entries<'a> {
         Some(&block.summary)
     }
 
-    /// Whether the entry is declared. It takes no memory.
+    /// Whether `entry` is declared. Allocates nothing.
     pub fn is_declared(&self, entry: EntryId) -> bool
         ensures { result ≡ has_entry self.now.1 entry }
     {
@@ -161,7 +160,7 @@ impl<'a> Entries<'a> {
     }
 }
 
-// Whether a name is among some own names, or among others.
+// Whether `name` is in `counted` or in `own`.
 #[inline(always)]
 #[tactic(auto, using(crate::proofs::Shared::own_both, crate::proofs::Shared::own_first, crate::proofs::Shared::own_after))]
 fn counts_as_own(counted: &[Own], own: &[Own], name: &Name) -> bool
@@ -170,21 +169,21 @@ fn counts_as_own(counted: &[Own], own: &[Own], name: &Name) -> bool
     is_own(counted, name) || is_own(own, name)
 }
 
-/// What the walk of an entry's lines is given.
+/// The input of the walk of an entry's lines.
 #[derive(Clone, Copy, Drop)]
 pub struct Scope<'a> {
     pub program: &'a Program<'a>,
     pub rules: &'a Rules,
     pub entries: &'a Entries<'a>,
-    /// the walked entry
+    /// the entry that is walked
     pub entry: EntryId,
-    /// what is believed of it
+    /// the entry's block, whose claims the walk checks
     pub block: &'a EntryCert,
-    // names that count as own, besides those of a state, where it is asked which are shared
+    // names that count as own, besides those of a state, when shared names are looked up
     counted: &'a [Own],
-    // whether the block's points stand in order, as those of a certificate do
+    // whether the block's points are in order, as those of a certificate are
     in_order: bool,
-    // the last of the points, from a line on to which the walk has come
+    // the points from the line that the walk has reached on
     ahead: &'a [Point],
     ghost order: { in_order ≡ ascends points_below block.now.points },
     ghost end: { IsEnd block.now.points ahead.now },
@@ -193,8 +192,8 @@ pub struct Scope<'a> {
 impl<'a> Scope<'a> {
     ghost use Rattle.mlk_walk_state.specs.Scope.{scope_with, scope_of, counting, listed, is_past};
 
-    /// What the walk of an entry's lines is given, where this block is believed of it. The entries are those of the same
-    /// program and rules, and of the block's certificate. It takes no memory, and goes once through the block's points.
+    /// The input of a walk of `entry` against `block`. `entries` are those of the same program and rules, and of the block's
+    /// certificate. Allocates nothing, and looks once at each of the block's points.
     pub fn of(
         program: &'a Program<'a>,
         rules: &'a Rules,
@@ -208,9 +207,9 @@ impl<'a> Scope<'a> {
         Scope::counting(program, rules, entries, entry, block, &[])
     }
 
-    /// The same, where these names count as own, besides those of a state, where it is asked which names are shared: so it
-    /// can be tried what would be found in a state in which they are not own. It takes no memory, and goes once through
-    /// the block's points.
+    /// The input of a walk in which the names `counted` count as own, besides those of a state, when shared names are looked up:
+    /// it shows what would be found in a state in which they are not own. Allocates nothing, and looks once at each of the
+    /// block's points.
     pub fn counting(
         program: &'a Program<'a>,
         rules: &'a Rules,
@@ -235,8 +234,7 @@ impl<'a> Scope<'a> {
         }
     }
 
-    /// The same, for a walk that has come to a line and goes on from there: what is listed from this line on is found
-    /// sooner. It takes no memory.
+    /// The same input for a walk that continues at `line`: cases listed from there on are found faster. Allocates nothing.
     pub fn advanced(&self, line: LineNumber) -> Scope<'a>
         ensures { scope_of result ≡ scope_of self.now }
     {
@@ -259,22 +257,22 @@ impl<'a> Scope<'a> {
         self.rules
     }
 
-    /// The walked entry's own summary.
+    /// The summary of the entry that is walked.
     pub fn summary(&self) -> &'a Summary
         ensures { result.now ≡ (scope_of self.now).summary }
     {
         &self.block.summary
     }
 
-    /// Whether the walked entry is declared. It takes no memory.
+    /// Whether the entry that is walked is declared. Allocates nothing.
     pub fn declared(&self) -> bool
         ensures { result ≡ (scope_of self.now).declared }
     {
         self.entries.is_declared(self.entry)
     }
 
-    /// The cases that are listed at a line, or at one of its rounds. It takes no memory. Where the block's points stand in
-    /// order, they are searched by halves, or from the line on to which the walk has come, else one by one.
+    /// The cases that are listed at a line or at one of its rounds. If the block's points are in order, the search is binary, or
+    /// starts at the line that the walk has reached; otherwise it is linear. Allocates nothing.
     pub fn listed(&self, line: LineNumber, round: usize) -> &'a [Case]
         ensures { result.now ≡ listed (scope_of self.now) line round }
     {
@@ -286,7 +284,7 @@ impl<'a> Scope<'a> {
         }
     }
 
-    /// Whether all points are of earlier lines, so that nothing is listed at this line. It takes no memory.
+    /// Whether all points are on lines before `line`, so that nothing is listed there or later. Allocates nothing.
     pub fn is_past(&self, line: LineNumber) -> bool
         ensures { result ≡ is_past (scope_of self.now) line }
     {
@@ -298,9 +296,9 @@ impl<'a> Scope<'a> {
         }
     }
 
-    /// Whether the name is shared in a frame of the walked entry with these names of its own: some call of the program
-    /// passes it by reference, or a formal of this name receives one that is passed so; and where it is own, it is such a
-    /// formal of this entry, or this entry passes it on. It takes no memory.
+    /// Whether `name` is shared in a frame of the walked entry with the own names `own`: some call of the program passes it by
+    /// reference, or a formal of this name receives a name passed by reference; and if it is own, it is such a formal of this
+    /// entry, or this entry passes it. Allocates nothing.
     #[inline(always)]
     pub fn is_shared_in(&self, own: &[Own], name: &Name) -> bool
         ensures { result ≡ (scope_of self.now).is_shared own.now name.now }

@@ -9,21 +9,21 @@ use mlk_text::{Code, List, copy_of};
 use std::alloc::{AllocError, Global};
 
 /// A case, and the symbols that the running command has captured so far: those of subscripts, actuals and lock names that
-/// are evaluated and not yet used, the oldest first.
+/// were evaluated and not used yet, the oldest first.
 #[derive(Drop, PartialEq, Eq)]
 pub struct State {
     pub case: Case,
     pub captured: List<Sym>,
 }
 
-/// Why a state is refused, and the state as it was.
+/// Why a state is refused, and the state as it was before.
 #[derive(Drop)]
 pub struct RefusedState {
     pub code: Code,
     pub state: State,
 }
 
-/// The last so many of the symbols, or all where there are fewer.
+/// The last `count` symbols, or all if there are fewer.
 pub fn last_of(captured: &[Sym], count: usize) -> &[Sym]
     ensures { result.now ≡ drop (length captured.now - count) captured.now }
 {
@@ -31,7 +31,7 @@ pub fn last_of(captured: &[Sym], count: usize) -> &[Sym]
     last
 }
 
-/// The symbols without the last so many.
+/// All symbols but the last `count`.
 pub fn before_last(captured: &[Sym], count: usize) -> &[Sym]
     ensures { result.now ≡ take (length captured.now - count) captured.now }
 {
@@ -40,7 +40,7 @@ pub fn before_last(captured: &[Sym], count: usize) -> &[Sym]
 }
 
 impl State {
-    /// The state of a case at the begin of a command, with nothing captured yet. It shares the case's lists.
+    /// The state with the case `case` before a command, with nothing captured. It shares the case's lists.
     #[inline(always)]
     pub fn at_rest(alloc: Global, case: &Case) -> Result<State, AllocError>
         ensures { IfOk result (λ s. s ≡ at_rest case.now) }
@@ -51,7 +51,7 @@ impl State {
         })
     }
 
-    /// The state without the last so many captured symbols.
+    /// Removes the last `count` captured symbols.
     #[inline(always)]
     pub fn without_last(self, count: usize) -> State
         ensures { result ≡ without_last count self }
@@ -65,7 +65,7 @@ impl State {
         }
     }
 
-    /// The last so many captured symbols are forgotten.
+    /// Removes the last `count` captured symbols in place.
     #[inline(always)]
     pub fn forget_last(&mut self, count: usize)
         ensures { self.new ≡ without_last count self.old }
@@ -74,7 +74,7 @@ impl State {
         self.captured.truncate(left);
     }
 
-    /// An equal state, which shares its lists.
+    /// Copies the state; the copy shares its lists.
     #[inline(always)]
     pub fn copy(&self) -> Result<State, AllocError>
         ensures { IfOk result (λ s. s ≡ self.now) }
@@ -85,7 +85,7 @@ impl State {
         })
     }
 
-    /// The state with these terms held.
+    /// The state with the held terms `held`.
     pub fn holding(self, held: Shared<LockTerm>) -> State
         ensures { result ≡ holding held self }
     {
@@ -107,7 +107,7 @@ impl State {
         State { case, captured }
     }
 
-    /// The state with this said of `$TEST`.
+    /// The state with `test` for `$TEST`.
     pub fn tested(mut self, test: Test) -> State
         ensures { result ≡ tested test self }
     {

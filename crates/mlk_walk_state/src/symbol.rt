@@ -1,4 +1,4 @@
-// What is known of expressions.
+// Symbols of expressions.
 
 ghost use Rattle.std.specs.Prelude.{◌≡◌, IfOk, true, drop};
 ghost use Rattle.mlk_syntax.specs.ExprTrees.{tree_of, links, links_from, subs_from, sub_trees};
@@ -42,7 +42,7 @@ fn between_symbols(alloc: Global, op: Op, left: Sym, right: Sym) -> Result<Sym, 
     }
 }
 
-// The symbol of a local, with these subscripts.
+// The symbol of the local `name` with the given subscripts.
 #[inline(always)]
 fn local_symbol(shared: bool, name: &Name, subscripts: &[Subscript]) -> Result<Sym, AllocError>
     ensures { IfOk result (λ s. s ≡ local_symbol shared name.now (subs_from (sub_trees subscripts.now))) }
@@ -56,7 +56,7 @@ fn local_symbol(shared: bool, name: &Name, subscripts: &[Subscript]) -> Result<S
     }
 }
 
-// Operands after the first, each applied to what stands before it. Once that is no constant, the whole is unknown.
+// Applies the operators after the first operand from left to right. Once a value is not constant, the result is unknown.
 #[cycle(symbols)]
 fn chain_symbol(
     alloc: Global,
@@ -78,8 +78,8 @@ fn chain_symbol(
     Ok(symbol)
 }
 
-/// The symbol of an expression in a state: a constant, a local that is not shared, the job's number, or unknown. Operators
-/// on constants are computed where their result is exact.
+/// The symbol of an expression in a state: a constant, a local that is not shared, the job's number, or unknown. Operators on
+/// constants are computed if their result is exact.
 #[cycle(symbols)]
 #[tactic(auto, using(crate::proofs::ExprTrees::local_in, crate::proofs::ExprTrees::binary_in))]
 pub fn symbol_of(
@@ -131,8 +131,8 @@ fn known_test(test: Test) -> Option<bool>
     }
 }
 
-/// Whether an expression is known to be true or to be false in a state: a constant `0` or `1`, `$TEST` where it is known,
-/// and `'` before these.
+/// The truth value of an expression in a state, if it is known: of a constant `0` or `1`, of `$TEST` if it is known, and of `'`
+/// before these; otherwise `None`.
 pub fn truth_of(
     alloc: Global,
     scope: &Scope,

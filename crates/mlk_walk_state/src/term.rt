@@ -25,21 +25,21 @@ pub(crate) fn is_same(first: &LockTerm, second: &LockTerm) -> bool
     is_equal(first, second)
 }
 
-// Whether the first is the second, or above it.
+// Whether `first` is `second` or above it.
 fn is_prefix(first: &LockTerm, second: &LockTerm) -> bool
     ensures { result ≡ is_prefix first.now second.now }
 {
     prefix(first, second)
 }
 
-/// Whether a held term is this one, or above it.
+/// Whether a held term is `term` or above it.
 pub fn is_within(held: &[LockTerm], term: &LockTerm) -> bool
     ensures { result ≡ is_within held.now term.now }
 {
     held.iter().any(|other| is_prefix(other, term))
 }
 
-/// The rank of the family that is the term or above it.
+/// The rank of the family that is `term` or above it, or `None`.
 pub fn rank(rules: &Rules, term: &LockTerm) -> Option<u32>
     ensures { result ≡ rank_of rules.now.families term.now }
 {
@@ -61,7 +61,7 @@ fn has_such(names: &[NameSet], symbols: &[KnownSym]) -> bool
     symbols.iter().any(|symbol| is_such(names, symbol))
 }
 
-/// Whether some term mentions one of the names in a subscript. It takes no memory.
+/// Whether some term mentions one of the names in a subscript. Allocates nothing.
 pub fn mention(names: &[NameSet], terms: &[LockTerm]) -> bool
     ensures { result ≡ mention names.now terms.now }
 {
@@ -77,7 +77,7 @@ fn place_in(held: &[LockTerm], term: &LockTerm) -> Option<usize>
     held.iter().position(|other| is_same(term, other))
 }
 
-/// One less of a term, where it is held.
+/// Removes one occurrence of `term`, or returns `None` if it is not held.
 pub fn take_one(held: Vec<LockTerm>, term: &LockTerm) -> Option<Vec<LockTerm>>
     ensures { option_map (λ v. v.items) result ≡ taken term.now held.items }
 {
@@ -87,7 +87,7 @@ pub fn take_one(held: Vec<LockTerm>, term: &LockTerm) -> Option<Vec<LockTerm>>
     Some(held)
 }
 
-/// One less of each of these terms, where they are held.
+/// Removes one occurrence of each of `terms`, or returns `None` if one is not held.
 pub fn take_all(held: Vec<LockTerm>, terms: &[LockTerm]) -> Option<Vec<LockTerm>>
     ensures { option_map (λ v. v.items) result ≡ all_taken terms.now held.items }
 {
@@ -100,7 +100,7 @@ pub fn take_all(held: Vec<LockTerm>, terms: &[LockTerm]) -> Option<Vec<LockTerm>
     Some(held)
 }
 
-/// The first of these terms that is not held besides those before it.
+/// The first of `terms` that is not held besides those before it, or `None`.
 pub fn first_missing(
     held: Vec<LockTerm>,
     terms: &[LockTerm],
@@ -127,7 +127,7 @@ fn put(alloc: Global, held: &mut Vec<LockTerm>, term: LockTerm) -> Result<(), Al
     Ok(())
 }
 
-/// The held terms and these, each at its place.
+/// Adds each of `terms` to the held terms, in order.
 pub fn put_all(
     alloc: Global,
     held: &[LockTerm],
@@ -144,7 +144,7 @@ pub fn put_all(
     Ok(all)
 }
 
-/// Copies of terms.
+/// Copies `terms`.
 pub fn copies(alloc: Global, terms: &[LockTerm]) -> Result<Vec<LockTerm>, AllocError>
     ensures { IfOk result (λ v. v.items ≡ terms.now) }
 {

@@ -1,31 +1,31 @@
-//! Who is told how far long work has come.
+//! Progress reporting for long-running work.
 #![tactic(auto)]
 
-/// What is being done.
+/// A stage of the work.
 #[derive(Clone, Copy, Debug, Drop, PartialEq, Eq)]
 pub enum Stage {
-    /// the texts of routines are read
+    /// reading the texts of routines
     Reading,
-    /// a certificate is made, in this round, counted from 1
+    /// making a certificate, in this round, counted from 1
     Making(usize),
-    /// the entries are checked by a certificate
+    /// checking the entries by a certificate
     Checking,
 }
 
-/// Who is told how far long work has come. What is done with it changes nothing of the work.
+/// An observer of the progress of long-running work. It does not affect the work.
 pub trait Watch {
-    /// So many of so many routines are done at a stage; of entries, where they are checked. It may be told very often.
+    /// `done` of `of` routines are finished in `stage`, or of entries while they are checked. Called very often.
     fn see(&self, stage: Stage, done: usize, of: usize);
 
-    /// All work is done, and something else may be written now.
+    /// All work is finished, and other output may follow.
     fn end(&self);
 
-    /// Takes what is not needed any more. Where the process ends soon it may be kept: the system then takes all memory
-    /// back at once.
+    /// Takes a value that is not needed any more. If the process ends soon, it may be leaked: the system then frees all memory at
+    /// once.
     fn discard<T: Drop>(&self, value: T);
 }
 
-/// Nobody.
+/// A `Watch` that ignores everything.
 #[derive(Clone, Copy, Debug, Drop)]
 pub struct Unwatched;
 

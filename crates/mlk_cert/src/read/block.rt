@@ -1,4 +1,4 @@
-// Blocks of entries, read.
+// The readers of blocks.
 
 ghost use Rattle.std.specs.Prelude.{◌≡◌, ◌++◌, ◌∷◌, [], List, ℕ, IfOk, OnOk, map, option_map, codes, not, true};
 ghost use Rattle.mlk_text.specs.Failures.{Reads};
@@ -50,7 +50,7 @@ fn summary(alloc: Global, bytes: &[u8]) -> Result<(Summary, &[u8]), Failure<Bloc
     Ok((summary, rest))
 }
 
-// Notes a text, and says whether it is new.
+// Adds `text` to `seen`, and returns whether it is new.
 fn is_new(alloc: Global, seen: &mut IndexSet<Vec<u8>>, text: &Value) -> Result<bool, AllocError>
     ensures new { IfOk result (λ b. b ≡ not (has_text (map (λ k. k.items) seen.old.keys) text.now)) }
     ensures keys { IfOk result (λ b. b ≡ true → map (λ k. k.items) seen.new.keys ≡ map
@@ -61,7 +61,7 @@ fn is_new(alloc: Global, seen: &mut IndexSet<Vec<u8>>, text: &Value) -> Result<b
     Ok(new)
 }
 
-// The line of an entry, whose text must be new.
+// Reads the line of an entry, whose text must be new.
 #[tactic(auto, unfolding(crate::specs::Blocks::new_entry_at))]
 fn new_entry<'a>(
     alloc: Global,
@@ -82,7 +82,7 @@ fn new_entry<'a>(
     }))
 }
 
-// A block after its word, whose entry must be new.
+// Reads a block after its word; its entry must be new.
 #[tactic(auto, unfolding(crate::specs::Blocks::new_block_at))]
 fn block<'a>(
     alloc: Global,
@@ -109,8 +109,8 @@ fn block<'a>(
     Ok((block, rest))
 }
 
-/// The blocks at the front, and what is left after them; their points name these cases, where there are any. The numbers
-/// that stand at points are added to those that were read before.
+/// Reads the blocks at the front: the blocks, and the rest. Their points refer to `cases` by number, if there are any; these
+/// numbers are added to `named`.
 pub(crate) fn blocks<'a>(
     alloc: Global,
     cases: Option<&[Case]>,

@@ -1,4 +1,4 @@
-// Cases, read.
+// The readers of cases.
 
 ghost use Rattle.std.specs.Prelude.{◌≡◌, ◌∷◌, [], suc, length, option_map, IfOk, codes};
 ghost use Rattle.mlk_text.specs.Reading.{many, put};
@@ -71,7 +71,7 @@ fn saved<'a>(
     Ok((Shared::new(alloc, found)?, rest))
 }
 
-/// The terms of a list.
+/// Reads a list of terms.
 pub(crate) fn terms(
     alloc: Global,
     bytes: &[u8],
@@ -84,7 +84,7 @@ pub(crate) fn terms(
     Ok((found, fit, rest))
 }
 
-/// The names that may change.
+/// Reads the names that may change.
 pub(crate) fn mods(
     alloc: Global,
     bytes: &[u8],
@@ -211,7 +211,7 @@ fn saved_part<'a>(
     Ok((found, rest))
 }
 
-/// The case of an exit, whether it keeps to its limits, and what is left after it.
+/// Reads the case of an exit: the case, whether it respects its limits, and the rest.
 #[tactic(auto, unfolding(mlk_cert_parts::specs::Reading::exit_at))]
 pub(crate) fn exit<'a>(
     alloc: Global,
@@ -229,7 +229,7 @@ pub(crate) fn exit<'a>(
     Ok((ExitCase { test, held, kept }, fit_both(first, second), rest))
 }
 
-/// A case, whether it keeps to its limits, and what is left after it.
+/// Reads a case: the case, whether it respects its limits, and the rest.
 #[tactic(auto, unfolding(mlk_cert_parts::specs::Reading::case_at))]
 pub(crate) fn case<'a>(
     alloc: Global,

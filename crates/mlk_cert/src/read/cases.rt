@@ -1,4 +1,4 @@
-// The lines of cases that stand in front of blocks, read.
+// The readers of the case lines before the blocks.
 
 ghost use Rattle.std.specs.Prelude.{◌≡◌, ◌==◌, suc, IfOk, option_map};
 ghost use Rattle.mlk_text.specs.Reading.{with};
@@ -20,14 +20,14 @@ use mlk_text::Failure;
 use mlk_text::lexeme::{byte_of, digits};
 use std::alloc::Global;
 
-// Whether a case has the number that comes after so many.
+// Whether `number` is that of the case after `count` others.
 fn is_next(count: usize, number: u32) -> bool
     ensures { result ≡ (number == suc count) }
 {
     number > 0 && (number - 1) as usize == count
 }
 
-// What is left after a numeral and a space, whatever number it is of.
+// The rest after a numeral of any size and a space, or `None` if there is none.
 fn after_numeral(bytes: &[u8]) -> Option<&[u8]> {
     if bytes.first() == Some(&b'0') {
         return None;
@@ -39,8 +39,8 @@ fn after_numeral(bytes: &[u8]) -> Option<&[u8]> {
     byte_of(b' ', rest)
 }
 
-// What is told of a line whose number is past all that a text has room for, or is none: where all else is right, that the
-// number is not the next.
+// The refusal of a case line whose number is malformed or too large: 603 if the rest of the line is valid, since the number is
+// then not the next one.
 fn number_refused<'a>(
     alloc: Global,
     memories: &mut Memories<'a>,
@@ -59,7 +59,7 @@ fn number_refused<'a>(
     }
 }
 
-// The rest of the line of a case, after so many cases of which the last has this text.
+// Reads the rest of a case line, after `count` cases, the last of which has the text `last`.
 #[tactic(auto, unfolding(crate::specs::Blocks::after_at, crate::specs::Numbered::numbered_case_at))]
 fn numbered_case<'a>(
     alloc: Global,
@@ -90,7 +90,7 @@ fn numbered_case<'a>(
     }
 }
 
-/// The cases in front, and what is left after them.
+/// Reads the cases at the front: the cases, and the rest.
 pub(crate) fn cases(alloc: Global, bytes: &[u8]) -> Result<(Vec<Case>, &[u8]), Failure<BlockFault>>
     ensures { Reads (λ x. (x.0.items, x.1.now)) result (with cases_in (cases_at bytes.now)) }
 {

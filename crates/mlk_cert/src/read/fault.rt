@@ -1,4 +1,4 @@
-// Why a certificate text is refused.
+// Why the text of a certificate is refused.
 
 ghost use Rattle.std.specs.Prelude.{◌≡◌, true};
 ghost use Rattle.mlk_cert.specs.Faults.{has_line, is_later};
@@ -14,7 +14,7 @@ pub struct CertFault {
     pub line: LineNumber,
 }
 
-/// A fault behind the head line, and how many bytes are left at its place.
+/// A fault after the head line, and how many bytes are left there.
 #[derive(Drop, Debug)]
 pub(crate) struct BlockFault {
     pub code: Code,
@@ -33,7 +33,7 @@ fn has_line(bytes: &[u8]) -> bool
     false
 }
 
-/// The fault of a line that has another form: that, or where the line does not end that the text ends too soon.
+/// The fault of a line of a wrong form: 602, or 606 if the line is not terminated, since the text then ends too early.
 pub(crate) fn other_form(bytes: &[u8]) -> BlockFault {
     let left = bytes.len();
     if has_line(bytes) {

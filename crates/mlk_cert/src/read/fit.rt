@@ -1,9 +1,9 @@
-// Whether what was read keeps to limits and orders.
+// Whether a part respects its limits and orders.
 
 ghost use Rattle.std.specs.Prelude.{◌≡◌, ◌&&◌};
 ghost use Rattle.mlk_cert.specs.Fitting.{passes};
 
-/// Whether limits and orders are kept; of both, a broken limit is told.
+/// Whether a part respects its limits and orders; a broken limit is reported before a broken order.
 #[derive(Clone, Copy)]
 pub(crate) enum Fit {
     Yes,
@@ -11,7 +11,7 @@ pub(crate) enum Fit {
     Order,
 }
 
-/// The answer for a list.
+/// The result for a list.
 pub(crate) fn fit_of(few: bool, ordered: bool) -> Fit
     ensures { passes result ≡ (few && ordered) }
 {
@@ -21,7 +21,7 @@ pub(crate) fn fit_of(few: bool, ordered: bool) -> Fit
     if ordered { Fit::Yes } else { Fit::Order }
 }
 
-/// The answer for two parts.
+/// The result for two parts.
 pub(crate) fn fit_both(first: Fit, second: Fit) -> Fit
     ensures { passes result ≡ (passes first && passes second) }
 {
@@ -35,7 +35,7 @@ pub(crate) fn fit_both(first: Fit, second: Fit) -> Fit
 }
 
 impl Fit {
-    /// Whether limits and orders are kept.
+    /// Whether limits and orders are respected.
     pub fn is_yes(self) -> bool
         ensures { result ≡ passes self }
     {

@@ -1,4 +1,4 @@
-// The lines of a summary, read.
+// The readers of summary lines.
 
 ghost use Rattle.std.specs.Prelude.{◌≡◌, ◌&&◌, [], suc, length, option_map, IfOk, codes};
 ghost use Rattle.mlk_text.specs.Failures.{Reads};
@@ -22,7 +22,7 @@ use mlk_text::limit::GREATEST_RANK;
 use mlk_text::{Code, Failure, List};
 use std::alloc::Global;
 
-/// The end of a line, after what was read of it.
+/// Reads the end of a line, after its value `value`.
 pub(crate) fn line_end<'a, T: Drop>(
     value: T,
     fit: Fit,
@@ -48,7 +48,7 @@ pub(crate) fn line_end<'a, T: Drop>(
     }
 }
 
-/// The line of the locks that a caller must hold.
+/// Reads the line of the locks that a caller must hold.
 #[tactic(auto, unfolding(mlk_cert_lexemes::specs::Reading::part_at, crate::specs::Blocks::rest_at))]
 pub(crate) fn need_line(
     alloc: Global,
@@ -80,7 +80,7 @@ fn low(bytes: &[u8]) -> Option<(Option<u32>, &[u8])>
     Some((Some(rank), rest))
 }
 
-/// The line of the least rank.
+/// Reads the line of the least rank.
 #[tactic(auto, unfolding(mlk_cert_lexemes::specs::Reading::part_at, crate::specs::Blocks::rest_at))]
 pub(crate) fn low_line(bytes: &[u8]) -> Result<(Option<u32>, &[u8]), Failure<BlockFault>>
     ensures { Reads (λ x. (x.0, x.1.now)) result (part_at (codes "low ") (rest_at low_at fits) bytes.now) }
@@ -107,7 +107,7 @@ fn drops(bytes: &[u8]) -> Option<(bool, &[u8])>
     Some((true, rest))
 }
 
-/// The line that says whether all locks may be released.
+/// Reads the line that says whether all locks may be released.
 #[tactic(auto, unfolding(mlk_cert_lexemes::specs::Reading::part_at, crate::specs::Blocks::rest_at))]
 pub(crate) fn drops_line(bytes: &[u8]) -> Result<(bool, &[u8]), Failure<BlockFault>>
     ensures { Reads (λ x. (x.0, x.1.now)) result (part_at (codes "drops ") (rest_at drops_at fits) bytes.now) }
@@ -121,7 +121,7 @@ pub(crate) fn drops_line(bytes: &[u8]) -> Result<(bool, &[u8]), Failure<BlockFau
     line_end(drops, Fit::Yes, rest, bytes)
 }
 
-/// The line of the names that may change.
+/// Reads the line of the names that may change.
 #[tactic(auto, unfolding(mlk_cert_lexemes::specs::Reading::part_at, crate::specs::Blocks::rest_at))]
 pub(crate) fn mods_line(
     alloc: Global,
@@ -140,7 +140,7 @@ pub(crate) fn mods_line(
     }
 }
 
-/// Whether a text stands above the last, where there is one.
+/// Whether `text` is above `last`; `true` if there is none.
 pub(crate) fn is_above(last: Option<&[u8]>, text: &[u8]) -> bool
     ensures { result ≡ above_last (option_map (λ x. x.now) last.entry) text.now }
 {
@@ -150,7 +150,7 @@ pub(crate) fn is_above(last: Option<&[u8]>, text: &[u8]) -> bool
     }
 }
 
-// The rest of an exit's line, after so many exits of which the last has this text.
+// Reads the rest of an exit line, after `count` exits, the last of which has the text `last`.
 #[tactic(auto, unfolding(crate::specs::Blocks::after_at))]
 fn exit_line<'a>(
     alloc: Global,
@@ -175,7 +175,7 @@ fn exit_line<'a>(
     }
 }
 
-/// The lines of exits, and what is left after them.
+/// Reads the lines of exits: the exits, and the rest.
 pub(crate) fn exits(
     alloc: Global,
     bytes: &[u8],

@@ -1,4 +1,4 @@
-// Lists that stand on many lines, and are kept once.
+// Lists that occur on many lines and are stored once.
 
 ghost use Rattle.std.specs.Prelude.{◌≡◌, ◌++◌, ◌∷◌, [], IfOk, IfSome, List, Bool};
 ghost use Rattle.mlk_cert.specs.Memories.{Remembers, Recalls};
@@ -11,7 +11,7 @@ use mlk_text::lexeme::byte_of;
 use std::alloc::{AllocError, Global};
 use std::marker::Model;
 
-/// What lists hold that are kept once: whether such a list keeps to its limits.
+/// The elements of lists that are stored once: whether such a list respects its limits.
 pub(crate) trait Limited: Item {
     ghost fits: { List Self → Bool };
 }
@@ -41,7 +41,7 @@ struct Known<'a, T> {
     text: &'a [u8],
 }
 
-/// The last list that was read at one place of a line.
+/// The last list that was read at a certain place of a line.
 #[derive(Drop)]
 pub(crate) struct Memory<'a, T: Limited> {
     last: Option<Known<'a, T>>,
@@ -63,7 +63,7 @@ impl<'a, T: Limited> Memory<'a, T> {
         Memory { last: None }
     }
 
-    /// The list at the front, where its text is the one of the last, and what is left after it.
+    /// Reads the list at the front if its text is that of the last list: the list, and the rest; otherwise `None`.
     pub fn recall<'b>(&self, bytes: &'b [u8]) -> Result<Option<(Shared<T>, &'b [u8])>, AllocError>
         ensures { IfOk result (λ o. IfSome o (λ x. Recalls T.reads T.fits bytes.now x.0 x.1.now)) }
     {
@@ -79,7 +79,7 @@ impl<'a, T: Limited> Memory<'a, T> {
         Ok(Some((known.list.clone()?, rest)))
     }
 
-    /// Notes a list and its text.
+    /// Stores a list and its text.
     pub fn note(&mut self, list: Shared<T>, text: &'a [u8])
         requires { Remembers T.reads T.fits list text.now }
     {
@@ -87,7 +87,7 @@ impl<'a, T: Limited> Memory<'a, T> {
     }
 }
 
-/// The list of no saved test, which most cases have, made once.
+/// The empty list of saved tests, which most cases have, allocated once.
 #[derive(Drop)]
 pub(crate) struct NoTests {
     list: Option<Shared<Test>>,
@@ -108,7 +108,7 @@ impl NoTests {
         NoTests { list: None }
     }
 
-    /// The list.
+    /// The empty list.
     pub fn list(&mut self, alloc: Global) -> Result<Shared<Test>, AllocError>
         ensures { IfOk result (λ l. l ≡ []) }
     {

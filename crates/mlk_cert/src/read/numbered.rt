@@ -1,4 +1,4 @@
-// Points that name cases by their numbers, read line by line.
+// The readers of points that refer to cases by number.
 
 ghost use Rattle.std.specs.Prelude.{◌≡◌, ◌++◌, ◌-◌, IfOk, OnOk, Some, option_copied, option_to_list, slice_get, length};
 ghost use Rattle.mlk_text.specs.Failures.{Reads};
@@ -31,7 +31,7 @@ fn are_upto(most: usize, numbers: &[CaseNumber]) -> bool
     true
 }
 
-// The numbers of a point, where there are so many cases, and whether they keep to their limits.
+// Reads the numbers of a point in a certificate with `most` cases, and returns whether they respect their limits.
 #[tactic(auto, unfolding(crate::specs::Numbered::numbers_at))]
 fn numbers(
     alloc: Global,
@@ -49,7 +49,7 @@ fn numbers(
     Ok((found, fit, rest))
 }
 
-// Whether a point at this place may stand next.
+// Whether a point at this place may follow `point`.
 fn next_fit(point: Option<&Point>, line: u32, round: u32) -> Fit
     ensures { passes result ≡ next_place_fits (option_copied point.entry) line round }
 {
@@ -62,7 +62,7 @@ fn next_fit(point: Option<&Point>, line: u32, round: u32) -> Fit
     )
 }
 
-// The rest of the line of a point, after this point, where there are so many cases.
+// Reads the rest of the line of a point, after `point`, in a certificate with `most` cases.
 #[tactic(auto, unfolding(crate::specs::Blocks::after_at, crate::specs::Numbered::numbered_point_at))]
 fn numbered_point<'a>(
     alloc: Global,
@@ -89,7 +89,7 @@ fn numbered_point<'a>(
     }
 }
 
-// One more case: that with this number, where there is one.
+// Appends the case with the number `number`, if there is one.
 fn add_case(found: &mut Vec<Case>, cases: &[Case], number: CaseNumber) -> Result<(), AllocError>
     ensures { OnOk result (found.new.items ≡ found.old.items ++ option_to_list (slice_get cases.now (number - 1))) }
 {
@@ -100,7 +100,7 @@ fn add_case(found: &mut Vec<Case>, cases: &[Case], number: CaseNumber) -> Result
     Ok(())
 }
 
-// The cases with these numbers.
+// The cases with the numbers `numbers`.
 fn cases_by(alloc: Global, cases: &[Case], numbers: &[CaseNumber]) -> Result<Vec<Case>, AllocError>
     ensures { IfOk result (λ v. v.items ≡ cases_by cases.now numbers.now) }
 {
@@ -111,7 +111,7 @@ fn cases_by(alloc: Global, cases: &[Case], numbers: &[CaseNumber]) -> Result<Vec
     Ok(found)
 }
 
-// A point with the cases of its numbers, which are added to those that were read before.
+// The point with the cases of its numbers; these numbers are added to `named`.
 fn point_by(
     alloc: Global,
     cases: &[Case],
@@ -131,8 +131,7 @@ fn point_by(
     })
 }
 
-/// The points at the front, which name these cases, and what is left after them. The numbers that stand there are added to
-/// those that were read before.
+/// Reads the points at the front, which refer to `cases`: the points, and the rest. The numbers are added to `named`.
 pub(crate) fn numbered_points<'a>(
     alloc: Global,
     cases: &[Case],

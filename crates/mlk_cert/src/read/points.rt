@@ -1,4 +1,4 @@
-// Points, read line by line.
+// The readers of points.
 
 ghost use Rattle.std.specs.Prelude.{◌≡◌, ◌==◌, ◌&&◌, OnOk, IfOk, option_map, option_copied, List, ℕ};
 ghost use Rattle.mlk_text.specs.Failures.{Reads};
@@ -25,7 +25,7 @@ use mlk_text::lexeme::byte_of;
 use mlk_text::{Failure, LineNumber, List};
 use std::alloc::{AllocError, Global};
 
-/// The place of a point.
+/// Reads the place of a point: the place, and the rest; otherwise `None`.
 #[tactic(auto, unfolding(crate::specs::Blocks::place_at))]
 pub(crate) fn place(bytes: &[u8]) -> Option<((u32, u32), &[u8])>
     ensures { option_map (λ x. (x.0, x.1.now)) result ≡ place_at bytes.now }
@@ -48,7 +48,7 @@ fn is_at(point: &Point, line: u32, round: u32) -> bool
     point.line.number() == line && point.round == round
 }
 
-// Whether a case of this text may stand next at a place.
+// Whether a case with the text `text` may follow at this place.
 fn next_fit(point: Option<&Point>, last: Option<&[u8]>, line: u32, round: u32, text: &[u8]) -> Fit
     ensures { passes result ≡ next_case_fits (option_copied point.entry) (option_map
         (λ x. x.now) last.entry) line round text.now }
@@ -68,7 +68,7 @@ fn next_fit(point: Option<&Point>, last: Option<&[u8]>, line: u32, round: u32, t
     )
 }
 
-// The rest of an `at` line, after this point whose last case has this text.
+// Reads the rest of an `at` line, after `point`, whose last case has the text `last`.
 #[tactic(auto, unfolding(crate::specs::Blocks::after_at, crate::specs::Blocks::listed_case_at))]
 fn at_line<'a>(
     alloc: Global,
@@ -124,7 +124,7 @@ fn one_more(point: Point, case: Case) -> Result<Point, AllocError>
     Ok(Point { line, round, cases })
 }
 
-// One more case: at the last point, where it is at its place, else at a new one.
+// Adds a case: to the last point if it is at the same place, otherwise to a new one.
 fn add(alloc: Global, points: &mut Vec<Point>, listed: (u32, u32, Case)) -> Result<(), AllocError>
     ensures { OnOk result (points.new.items ≡ add_case points.old.items listed) }
 {
@@ -142,7 +142,7 @@ fn add(alloc: Global, points: &mut Vec<Point>, listed: (u32, u32, Case)) -> Resu
     Ok(())
 }
 
-/// The points at the front, and what is left after them.
+/// Reads the points at the front: the points, and the rest.
 pub(crate) fn points(
     alloc: Global,
     bytes: &[u8],
@@ -168,8 +168,8 @@ pub(crate) fn points(
     Ok((List::of(found), rest))
 }
 
-/// The points at the front, with their cases or with the numbers of these, and what is left after them. Such numbers are
-/// added to those that were read before.
+/// Reads the points at the front, with their cases or the numbers of these: the points, and the rest. The numbers are added
+/// to `named`.
 pub(crate) fn listed_points<'a>(
     alloc: Global,
     cases: Option<&[Case]>,

@@ -1,4 +1,4 @@
-// Cases that no point names.
+// Cases to which no point refers.
 
 ghost use Rattle.std.specs.Prelude.{◌≡◌, ◌-◌, IfOk, map, is_some, not, position, replicate, slice_set, false, true};
 ghost use Rattle.mlk_cert_lexemes.specs.Lists.{ascends, below};
@@ -10,7 +10,7 @@ use crate::number::CaseNumber;
 use mlk_cert_parts::Case;
 use std::alloc::{AllocError, Global};
 
-// Sets the mark of the case with this number, where there is one.
+// Sets the mark of the case with the number `number`, if there is one.
 fn mark(marks: &mut Vec<bool>, number: CaseNumber)
     ensures { marks.new.items ≡ slice_set marks.old.items (number - 1) true }
 {
@@ -20,7 +20,7 @@ fn mark(marks: &mut Vec<bool>, number: CaseNumber)
     }
 }
 
-// A mark for each of so many cases, set where one of the numbers is its own.
+// The marks of `count` cases, set for those with one of `numbers`.
 fn marks(alloc: Global, count: usize, numbers: &[CaseNumber]) -> Result<Vec<bool>, AllocError>
     ensures { IfOk result (λ v. v.items ≡ marked (replicate count false) numbers.now) }
 {
@@ -32,20 +32,20 @@ fn marks(alloc: Global, count: usize, numbers: &[CaseNumber]) -> Result<Vec<bool
     Ok(marks)
 }
 
-// How many marks stand before the first that is not set, where there is one.
+// The index of the first mark that is not set, or `None`.
 fn first_unset(marks: &[bool]) -> Option<usize>
     ensures { result ≡ position not marks.now }
 {
     marks.iter().position(|mark| !*mark)
 }
 
-/// How many cases stand before the first that none of these numbers names, where there is one.
+/// The index of the first case to which none of `numbers` refers, or `None`.
 pub(crate) fn unnamed(
     alloc: Global,
     cases: &[Case],
     numbers: &[CaseNumber],
 ) -> Result<Option<usize>, AllocError>
-    // Each case has a text of its own.
+    // No two cases have the same text.
     requires { ascends below (map case_text cases.now) ≡ true }
     ensures { IfOk result (λ o. not (is_some o) ≡ are_named (texts_by cases.now numbers.now) cases.now) }
 {

@@ -1,4 +1,4 @@
-// A whole certificate, read.
+// The reader of whole certificates.
 
 ghost use Rattle.std.specs.Prelude.{◌≡◌, ◌≤◌, ◌+◌, length, map, option_map, IfOk, IfErr, List, None, true};
 ghost use Rattle.mlk_text.specs.Failures.{Reads};
@@ -39,7 +39,7 @@ fn lines_in(bytes: &[u8]) -> u32
     lines
 }
 
-// A fault behind the head line, and its line; where the text ends too soon, the number of whole lines.
+// Gives a fault after the head line its line; if the text ends too early, that is the number of complete lines.
 fn fault_at(bytes: &[u8], refusal: BlockFault) -> CertFault
     requires { length bytes.now ≤ longest }
     ensures { IsLater bytes.now result }
@@ -54,7 +54,7 @@ fn fault_at(bytes: &[u8], refusal: BlockFault) -> CertFault
     CertFault { code, line }
 }
 
-// Nothing stands after the last line.
+// Checks that nothing follows the last line.
 fn finished(found: Vec<EntryCert>, after: &[u8]) -> Result<Vec<EntryCert>, Failure<BlockFault>>
     ensures { Reads (λ x. x.items) result (finished found.items after.now) }
 {
@@ -67,8 +67,7 @@ fn finished(found: Vec<EntryCert>, after: &[u8]) -> Result<Vec<EntryCert>, Failu
     Ok(found)
 }
 
-// The blocks up to the end; their points name these cases, where there are any. The numbers that stand at points are added
-// to those that were read before.
+// Reads the blocks and the end line. Points refer to `cases` by number, if there are any; these numbers are added to `named`.
 #[tactic(auto, unfolding(crate::specs::Blocks::body_at))]
 fn body(
     alloc: Global,
@@ -89,7 +88,7 @@ fn body(
     Ok(whole)
 }
 
-/// The blocks up to the end, whose points have their cases with them.
+/// Reads the blocks and the end line of the first format, whose points contain their cases.
 pub(crate) fn first_body(alloc: Global, bytes: &[u8]) -> Result<Vec<EntryCert>, Failure<BlockFault>>
     ensures { Reads (λ x. x.items) result (body_at (listed_points_at None) bytes.now) }
 {
@@ -98,7 +97,7 @@ pub(crate) fn first_body(alloc: Global, bytes: &[u8]) -> Result<Vec<EntryCert>, 
     Ok(found)
 }
 
-// How many bytes are left after so many lines.
+// The number of bytes after the first `lines` lines.
 fn left_after(lines: usize, bytes: &[u8]) -> usize {
     let mut passed: usize = 0;
     let mut left = bytes.len();
@@ -114,7 +113,7 @@ fn left_after(lines: usize, bytes: &[u8]) -> usize {
     left
 }
 
-// The blocks, where points name each of the cases by these numbers.
+// Returns the blocks `found` if points refer to each of `cases`, by the numbers `named`.
 fn all_named(
     alloc: Global,
     cases: &[Case],
@@ -135,7 +134,7 @@ fn all_named(
     }
 }
 
-// The cases in front, and the blocks up to the end, whose points name them.
+// Reads the cases at the front, then the blocks and the end line of the second format.
 #[tactic(auto, unfolding(crate::specs::Numbered::second_body_at))]
 fn second_body(alloc: Global, bytes: &[u8]) -> Result<Vec<EntryCert>, Failure<BlockFault>>
     ensures { Reads (λ x. x.items) result (second_body_at bytes.now) }
@@ -147,7 +146,7 @@ fn second_body(alloc: Global, bytes: &[u8]) -> Result<Vec<EntryCert>, Failure<Bl
     Ok(whole)
 }
 
-// The blocks behind the head line of a format.
+// Reads the text after the head line, in the given format.
 fn body_in(
     alloc: Global,
     format: CertFormat,
@@ -161,7 +160,7 @@ fn body_in(
     }
 }
 
-// The format that the head line tells, and what is left after that line.
+// Reads the head line: the format, and the rest; otherwise `None`.
 fn head(bytes: &[u8]) -> Option<(CertFormat, &[u8])>
     ensures { option_map (λ x. (x.0, x.1.now)) result ≡ head_at bytes.now }
 {
@@ -174,7 +173,7 @@ fn head(bytes: &[u8]) -> Option<(CertFormat, &[u8])>
     Some((CertFormat::Second, rest))
 }
 
-/// The fault of a whole text, at its first line.
+/// The refusal of a whole text, at its first line.
 pub(crate) fn at_first(code: Code) -> CertFault
     ensures { result ≡ at_first code }
 {
@@ -182,13 +181,13 @@ pub(crate) fn at_first(code: Code) -> CertFault
     CertFault { code, line }
 }
 
-/// The certificate of a text, in either format.
+/// Reads the certificate of a text, in either format.
 pub fn read_cert(alloc: Global, bytes: &[u8]) -> Result<Certificate, Failure<CertFault>>
-    // What is read has this text.
+    // The certificate has this text.
     ensures ok { IfOk result (λ c. Spells c bytes.now) }
     // A certificate that has this text is read, and no other, unless memory runs out.
     ensures back { IsReading bytes.now result }
-    // A refusal has a code of certificates and its line.
+    // A refusal has one of the certificate codes and its line.
     ensures place { IfErr result (λ e. IsPlaced bytes.now e) }
 {
     if bytes.len() > LONGEST_TEXT {

@@ -1,4 +1,4 @@
-// Points, summaries and blocks, written.
+// The writers of points, summaries and blocks.
 
 ghost use Rattle.std.specs.Prelude.{◌≡◌, ◌++◌, ◌∷◌, OnOk, codes};
 ghost use Rattle.mlk_cert_lexemes.specs.Texts.{line, listed, term_text};
@@ -22,7 +22,7 @@ impl Written for ExitCase {
     }
 }
 
-/// The place of a point.
+/// Appends the place of a point.
 pub fn push_place(text: &mut WrittenText, line: u32, round: u32) -> Result<(), AllocError>
     ensures { OnOk result (text.new ≡ text.old ++ place_text line round) }
 {
@@ -80,7 +80,7 @@ fn push_drops(text: &mut WrittenText, drops: bool) -> Result<(), AllocError>
     }
 }
 
-// What a caller must hold, and the least rank.
+// Appends the needs and the least rank.
 fn push_need(text: &mut WrittenText, summary: &Summary) -> Result<(), AllocError>
     ensures { OnOk result (text.new ≡ text.old ++ (line (codes "need ")
         (listed term_text summary.now.need) ++ line (codes "low ") (low_text summary.now.low))) }
@@ -93,7 +93,7 @@ fn push_need(text: &mut WrittenText, summary: &Summary) -> Result<(), AllocError
     Ok(())
 }
 
-// Whether all locks may be released, and the names that may change.
+// Appends whether all locks may be released, and the names that may change.
 fn push_changes(text: &mut WrittenText, summary: &Summary) -> Result<(), AllocError>
     ensures { OnOk result (text.new ≡ text.old ++ (line (codes "drops ")
         (drops_text summary.now.drops) ++ line (codes "mods ") (listed names_text summary.now.mods))) }
@@ -115,7 +115,7 @@ fn push_summary(text: &mut WrittenText, summary: &Summary) -> Result<(), AllocEr
     Ok(())
 }
 
-/// The lines of a block before its points.
+/// Appends the lines of a block before its points.
 pub fn push_front(text: &mut WrittenText, block: &EntryCert) -> Result<(), AllocError>
     ensures { OnOk result (text.new ≡ text.old ++ (line (codes "entry ") block.now.entry ++ summary_text block.now.summary)) }
 {

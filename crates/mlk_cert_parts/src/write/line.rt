@@ -1,4 +1,4 @@
-// Terms, names and cases, written.
+// The writers of terms, names and cases.
 
 ghost use Rattle.std.specs.Prelude.{◌≡◌, ◌++◌, ◌∷◌, ◌<◌, OnOk, codes};
 ghost use Rattle.mlk_cert_lexemes.specs.Texts.{listed, hex, byte_text, constant_text, symbol_text, subs_text, term_text, name_text};
@@ -73,7 +73,7 @@ fn push_saved(text: &mut WrittenText, tests: &[Test]) -> Result<(), AllocError>
     Ok(())
 }
 
-// What is said of `$TEST`, and the held locks.
+// Appends what is known of `$TEST`, and the held locks.
 fn push_front(text: &mut WrittenText, test: Test, held: &[LockTerm]) -> Result<(), AllocError>
     ensures { OnOk result (text.new ≡ text.old ++ (codes "T=" ++ (sign test ∷
         (codes " H=" ++ listed term_text held.now)))) }
@@ -85,7 +85,7 @@ fn push_front(text: &mut WrittenText, test: Test, held: &[LockTerm]) -> Result<(
     Ok(())
 }
 
-/// The case of an exit.
+/// Appends the case of an exit.
 pub(crate) fn push_exit(text: &mut WrittenText, exit: &ExitCase) -> Result<(), AllocError>
     ensures { OnOk result (text.new ≡ text.old ++ exit_text exit.now) }
 {
@@ -95,7 +95,7 @@ pub(crate) fn push_exit(text: &mut WrittenText, exit: &ExitCase) -> Result<(), A
     Ok(())
 }
 
-// New and kept names.
+// Appends own and kept names.
 fn push_names(text: &mut WrittenText, own: &[Own], kept: &[Name]) -> Result<(), AllocError>
     ensures { OnOk result (text.new ≡ text.old ++ (codes " O=" ++ (listed own_text own.now ++
         (codes " K=" ++ listed name_text kept.now)))) }
@@ -107,7 +107,7 @@ fn push_names(text: &mut WrittenText, own: &[Own], kept: &[Name]) -> Result<(), 
     Ok(())
 }
 
-/// A case.
+/// Appends a case.
 pub fn push_case(text: &mut WrittenText, case: &Case) -> Result<(), AllocError>
     ensures { OnOk result (text.new ≡ text.old ++ case_text case.now) }
 {

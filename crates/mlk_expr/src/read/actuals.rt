@@ -1,4 +1,4 @@
-// Calls, and the actuals that they are given.
+// Calls and their actuals.
 
 ghost use Rattle.std.specs.Prelude.{◌≡◌, ◌<◌, vec_len, vec_capacity, ◌∷◌, [], suc, length};
 ghost use Rattle.mlk_text.specs.Lexemes.{byte_at};
@@ -49,7 +49,7 @@ fn actual<'a>(
     }
 }
 
-// One or more actuals to the closing parenthesis.
+// Reads one or more actuals up to the closing parenthesis.
 #[tactic(auto, unfolding(crate::specs::Reading::list_with))]
 #[cycle(reading)]
 fn some_actuals<'a>(
@@ -70,7 +70,7 @@ fn some_actuals<'a>(
     Ok((found, rest))
 }
 
-/// The actuals after an opening parenthesis, and what is after the closing one.
+/// Reads the actuals after an opening parenthesis: the actuals, and the rest after the closing one.
 #[tactic(auto, unfolding(crate::specs::Reading::actuals_with))]
 #[cycle(reading)]
 pub(crate) fn actuals<'a>(
@@ -116,7 +116,7 @@ fn actuals_rest<'a>(
     Ok((found, rest))
 }
 
-/// A call after its `$$`, at which the whole begins.
+/// Reads a call after its `$$`, at which `whole` begins.
 #[tactic(auto, unfolding(crate::specs::Reading::call_with))]
 #[cycle(reading)]
 pub(crate) fn call<'a>(

@@ -1,4 +1,4 @@
-// What a `$` begins: functions and special variables.
+// Functions and special variables: everything that begins with `$`.
 
 ghost use Rattle.std.specs.Prelude.{◌≡◌, ◌<◌, vec_len, vec_capacity, ◌∷◌, [], suc, length};
 ghost use Rattle.mlk_text.specs.Lexemes.{byte_at};
@@ -24,7 +24,7 @@ use mlk_text::lexeme::{byte_of, word_at};
 use mlk_text::{Failure, giving_up, make_room};
 use std::alloc::Global;
 
-// Expressions to the closing parenthesis.
+// Reads expressions up to the closing parenthesis.
 #[tactic(auto, unfolding(crate::specs::Reading::list_with))]
 #[cycle(reading)]
 fn exprs<'a>(
@@ -68,7 +68,7 @@ fn exprs_rest<'a>(
     Ok((found, rest))
 }
 
-// An argument that is a name, and at most so many after it.
+// Reads the arguments after a first one that is a name, at most `most`.
 #[cycle(reading)]
 fn others<'a>(
     alloc: Global,
@@ -99,7 +99,7 @@ fn others<'a>(
     Ok((found, rest))
 }
 
-// The arguments of a function but `$SELECT`, to the closing parenthesis.
+// Reads the arguments of a function other than `$SELECT`, up to the closing parenthesis.
 #[tactic(auto, unfolding(crate::specs::Reading::arguments_with))]
 #[cycle(reading)]
 fn arguments<'a>(
@@ -133,7 +133,7 @@ fn arguments<'a>(
     Ok((args, rest))
 }
 
-// A condition and its value.
+// Reads a condition and its value.
 #[cycle(reading)]
 fn choice<'a>(
     alloc: Global,
@@ -152,7 +152,7 @@ fn choice<'a>(
     }
 }
 
-// Choices to the closing parenthesis.
+// Reads choices up to the closing parenthesis.
 #[tactic(auto, unfolding(crate::specs::Reading::list_with))]
 #[cycle(reading)]
 fn choices<'a>(
@@ -197,7 +197,7 @@ fn choices_rest<'a>(
     Ok((found, rest))
 }
 
-// A function after its opening parenthesis.
+// Reads a function after its opening parenthesis.
 #[tactic(auto, unfolding(crate::specs::Reading::function_with))]
 #[cycle(reading)]
 fn function<'a>(
@@ -221,7 +221,7 @@ fn function<'a>(
     Ok((Expr::Func(function, args), rest))
 }
 
-/// What a `$` begins, at which the whole begins.
+/// Reads a function, a special variable or a call after its `$`, at which `whole` begins.
 #[tactic(auto, unfolding(crate::specs::Reading::dollar_with))]
 #[cycle(reading)]
 #[inline(always)]

@@ -33,7 +33,7 @@ fn subscript<'a>(
     Ok((Subscript { column, value }, rest))
 }
 
-// Subscripts to the closing parenthesis, at most 32.
+// Reads subscripts up to the closing parenthesis, at most 32.
 #[tactic(auto, unfolding(crate::specs::Reading::list_with))]
 #[cycle(reading)]
 fn subs<'a>(
@@ -82,7 +82,7 @@ fn subs_rest<'a>(
     Ok((found, rest))
 }
 
-// The same in a function of its own, so that the place of its result is cleared only where it is called.
+// Calls `subs`, as a function of its own, so that the slot of the result is cleared only if there are subscripts.
 #[cycle(reading)]
 #[inline(always)]
 fn some_subs<'a>(
@@ -96,7 +96,7 @@ fn some_subs<'a>(
     subs(alloc, context, bytes)
 }
 
-/// The subscripts at the front, which may be none, and what is after them.
+/// Reads the subscripts at the front: the subscripts, and the rest. Without a parenthesis there are none.
 #[tactic(auto, unfolding(crate::specs::Reading::subs_with))]
 #[cycle(reading)]
 #[inline(always)]
@@ -113,7 +113,7 @@ pub(crate) fn subscripts<'a>(
     some_subs(alloc, context, rest)
 }
 
-/// A local with its subscripts.
+/// Reads a local with its subscripts.
 #[cycle(reading)]
 #[inline(always)]
 pub(crate) fn local<'a>(
@@ -128,7 +128,7 @@ pub(crate) fn local<'a>(
     Ok((Expr::Local(name, subs), rest))
 }
 
-/// A global with its subscripts after its caret, at which the whole begins.
+/// Reads a global with its subscripts, after its caret, at which `whole` begins.
 #[cycle(reading)]
 #[inline(always)]
 pub(crate) fn global<'a>(

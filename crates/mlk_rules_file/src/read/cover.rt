@@ -1,4 +1,4 @@
-// Covers of rule files.
+// Covers in rule files.
 
 ghost use Rattle.std.specs.Prelude.{◌≡◌, IfOk, option_map};
 ghost use Rattle.toml.specs.View.{view};
@@ -55,7 +55,7 @@ fn parts_of(
     Ok(Some(List::of(found)))
 }
 
-// The lock of a spelling, where the pattern has its variables.
+// The lock of the spelling `s`, or `None` if it has a variable that the pattern does not have.
 fn template_of(
     alloc: Global,
     items: &[SpelledItem],
@@ -72,7 +72,7 @@ fn template_of(
     }))
 }
 
-// The same of a second lock, which a cover may lack.
+// The second lock, which is optional in a cover; `None` if it has a variable that the pattern does not have.
 fn second_template(
     alloc: Global,
     items: &[SpelledItem],
@@ -129,7 +129,7 @@ fn cover_kinds(
     cover_placed(alloc, index, p, l, second, reads)
 }
 
-// A cover of its pattern, its lock and, where it is named, its second lock, each as it is spelled, if it is spelled well.
+// The cover with the given pattern, lock and optional second lock. Refused if one of them is spelled wrongly or is too long.
 fn cover_by(
     alloc: Global,
     index: usize,
@@ -156,7 +156,7 @@ fn cover_by(
     }
 }
 
-// The second lock as it is spelled, where it is named.
+// The spelling of the second lock, if it is given.
 fn spelled_second(alloc: Global, also: Option<&str>) -> Result<Option<Option<Spelling>>, AllocError>
     ensures { IfOk result (λ s. s ≡ option_map spelling_of (option_map (λ t. t.now) also.entry)) }
 {
@@ -166,7 +166,7 @@ fn spelled_second(alloc: Global, also: Option<&str>) -> Result<Option<Option<Spe
     }
 }
 
-/// The cover of an element, which has this index.
+/// Reads the cover `element`, which has the index `index`.
 #[tactic(auto, unfolding(crate::specs::RuleSections::cover_of))]
 pub fn cover(
     alloc: Global,

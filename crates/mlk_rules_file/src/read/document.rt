@@ -1,4 +1,4 @@
-// Rule files as a whole.
+// Whole rule files.
 
 ghost use Rattle.std.specs.Prelude.{◌≡◌, IfOk, IfErr};
 ghost use Rattle.toml.specs.View.{table_view};
@@ -84,14 +84,14 @@ fn lists_of(alloc: Global, table: &Table) -> Result<RuleLists, Failure<RulesFaul
     })
 }
 
-/// Reads the rules from the bytes of a rule file. Of what is refused the first refusal counts, in the order of the
+/// Reads rules from the bytes of a rule file. If it has several faults, the first one is returned, in the order of the
 /// sections; families are compared last.
 pub fn read_rules(alloc: Global, bytes: &[u8]) -> Result<Rules, Failure<RulesFault>>
-    // What is read is what the bytes say,
+    // The rules are those that the bytes spell,
     ensures ok { IfOk result (SaysRules bytes.now) }
     // and sound: no two families meet, and each private pattern has `$J` once.
     ensures sound { IfOk result IsSound }
-    // What is refused, unless memory ran out, is refused by the definition, for this reason at this place.
+    // If the file is refused, unless memory ran out, the definition refuses it for the same reason at the same place.
     ensures refused { IfErr result (RefusesRules bytes.now) }
 {
     let table = table_of(alloc, bytes)?;

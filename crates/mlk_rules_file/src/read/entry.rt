@@ -1,4 +1,4 @@
-// Entries of rule files.
+// Entries in rule files.
 
 ghost use Rattle.toml.specs.View.{view};
 ghost use Rattle.mlk_text.specs.Failures.{Answers};
@@ -9,7 +9,7 @@ use crate::read::tables::text_key;
 use mlk_text::{Code, Failure, Value, spelling};
 use std::alloc::Global;
 
-/// The entry of an element, which has this index.
+/// Reads the entry `element`, which has the index `index`.
 #[tactic(auto, unfolding(crate::specs::RuleSections::entry_of))]
 pub fn entry(
     alloc: Global,

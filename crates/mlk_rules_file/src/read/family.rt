@@ -1,4 +1,4 @@
-// Families of rule files.
+// Families in rule files.
 
 ghost use Rattle.std.specs.Prelude.{◌≡◌, ◌++◌, IfOk, OnOk};
 ghost use Rattle.toml.specs.View.{view};
@@ -75,7 +75,7 @@ fn family_by(
     })
 }
 
-/// The family of an element, which has this index.
+/// Reads the family `element`, which has the index `index`.
 #[tactic(auto, unfolding(crate::specs::RuleSections::family_of))]
 pub fn family(
     alloc: Global,

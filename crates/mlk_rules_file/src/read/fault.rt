@@ -8,10 +8,10 @@ use mlk_text::{Code, Failure};
 use std::fmt::{self, Display, Formatter, Write};
 use thiserror::Error;
 
-/// Where in a rule file.
+/// A section of a rule file.
 #[derive(Clone, Copy, Debug, Drop, PartialEq, Eq)]
 pub enum Section {
-    /// The file as a whole, and the keys at its top.
+    /// The whole file, and the keys at its top.
     File,
     Lock,
     Cover,
@@ -35,7 +35,7 @@ impl Section {
         }
     }
 
-    /// The word that is printed.
+    /// The section's word, as it is printed.
     pub fn word(self) -> &'static [u8]
         ensures { result.now ≡ section_word self }
     {
@@ -43,8 +43,7 @@ impl Section {
     }
 }
 
-/// Why a rule file is refused, and where: the index counts the elements of a section from 1; it is 0 where the
-/// section itself is meant.
+/// Why a rule file is refused, and where: `index` counts the elements of the section from 1; it is 0 for the section itself.
 #[derive(Clone, Copy, Debug, Drop, PartialEq, Eq, Error)]
 #[error("{code}, in section {section}, element {index}")]
 pub struct RulesFault {
@@ -59,7 +58,7 @@ impl Display for Section {
     }
 }
 
-// The refusal with this code at a place of the file.
+// The refusal `code` at a place of the file.
 pub(crate) fn refused(code: Code, section: Section, index: usize) -> Failure<RulesFault>
     ensures { result ≡ Refused (record { code = code; section = section; index = index }) }
 {

@@ -1,4 +1,4 @@
-// The items of names and patterns as they are spelled, and what may stand where.
+// The items of names and patterns as spelled, and which are allowed where.
 
 ghost use Rattle.std.specs.Prelude.{◌≡◌};
 ghost use Rattle.mlk_rules_file.specs.RuleKinds.{is_long, is_long_second, is_node, is_literals, is_jobless, has_one_job, is_item, has_variable, is_new, is_distinct, has_its_job, is_family_name, is_pattern, is_template, is_second_template};
@@ -7,10 +7,10 @@ use crate::read::fault::Section;
 use mlk_names::{Extent, Root};
 use mlk_text::{List, Name, Value};
 
-/// The most items of a name or a pattern.
+/// The maximum number of items of a name or a pattern.
 pub const MOST_ITEMS: usize = 8;
 
-/// What stands between the parentheses of a name or a pattern.
+/// An item between the parentheses of a name or a pattern.
 #[derive(Drop, Debug)]
 pub enum SpelledItem {
     Literal(Value),
@@ -18,7 +18,7 @@ pub enum SpelledItem {
     Job,
 }
 
-/// A name or a pattern as it is spelled: a tree where `...` stands last.
+/// A name or a pattern as spelled: a tree if it ends with `...`.
 #[derive(Drop, Debug)]
 pub struct Spelling {
     pub root: Root,
@@ -36,7 +36,7 @@ pub fn is_long(spelling: &Option<Spelling>) -> bool
     }
 }
 
-/// The same of a second lock, which a cover may lack.
+/// `is_long` of a second lock, which is optional in a cover.
 pub fn is_long_second(spelling: &Option<Option<Spelling>>) -> bool
     ensures { result ≡ is_long_second spelling.now }
 {
@@ -79,7 +79,7 @@ fn has_one_job(items: &[SpelledItem]) -> bool
         == 1
 }
 
-/// Whether the item is the variable of this name.
+/// Whether `item` is the variable `name`.
 pub fn is_item(name: &Name, item: &SpelledItem) -> bool
     ensures { result ≡ is_item name.now item.now }
 {
@@ -128,7 +128,7 @@ fn has_its_job(section: Section, items: &[SpelledItem]) -> bool
     }
 }
 
-/// Whether a family may have this name.
+/// Whether `s` is allowed as the name of a family.
 #[tactic(auto, unfolding(crate::specs::RuleKinds::is_family_name))]
 pub fn is_family_name(s: &Spelling) -> bool
     ensures { result ≡ is_family_name s.now }
@@ -136,7 +136,7 @@ pub fn is_family_name(s: &Spelling) -> bool
     is_literals(s.items.as_slice()) && is_node(s.extent)
 }
 
-/// Whether this may be a pattern of the section.
+/// Whether `s` is allowed as a pattern of `section`.
 #[tactic(auto, unfolding(crate::specs::RuleKinds::is_pattern))]
 pub fn is_pattern(section: Section, s: &Spelling) -> bool
     ensures { result ≡ is_pattern section s.now }
@@ -144,7 +144,7 @@ pub fn is_pattern(section: Section, s: &Spelling) -> bool
     has_its_job(section, s.items.as_slice()) && is_distinct(s.items.as_slice())
 }
 
-/// Whether this may be a cover's lock.
+/// Whether `s` is allowed as the lock of a cover.
 #[tactic(auto, unfolding(crate::specs::RuleKinds::is_template))]
 pub fn is_template(s: &Spelling) -> bool
     ensures { result ≡ is_template s.now }
@@ -152,7 +152,7 @@ pub fn is_template(s: &Spelling) -> bool
     is_jobless(s.items.as_slice()) && is_node(s.extent)
 }
 
-/// The same of a second lock, which a cover may lack.
+/// `is_template` of a second lock, which is optional in a cover.
 pub fn is_second_template(spelling: &Option<Spelling>) -> bool
     ensures { result ≡ is_second_template spelling.now }
 {

@@ -1,4 +1,4 @@
-// Reading the numbers of rule files.
+// The reader of numbers in rule files.
 
 ghost use Rattle.std.specs.Prelude.{◌≡◌, ◌≤◌, ◌∷◌, [], length, bytes_eq, IfOk};
 ghost use Rattle.mlk_text.specs.Failures.{Reads};
@@ -9,7 +9,7 @@ use mlk_text::lexeme::digits;
 use mlk_text::{Failure, NotThere, Value};
 use std::alloc::{AllocError, Global};
 
-// How many bytes at the front are a point and digits after it.
+// The length of a point with digits at the front of `bytes`.
 fn fraction_len(bytes: &[u8]) -> usize
     ensures value { result ≡ fraction_len bytes.now }
     ensures within { result ≤ length bytes.now }
@@ -20,7 +20,7 @@ fn fraction_len(bytes: &[u8]) -> usize
     if *first == b'.' { 1 + digits(after) } else { 0 }
 }
 
-// How many bytes at the front belong to a number.
+// The length of the number at the front of `bytes`.
 #[tactic(auto, unfolding(crate::specs::RuleNumbers::numeral_len))]
 fn numeral_len(bytes: &[u8]) -> usize
     ensures value { result ≡ numeral_len bytes.now }
@@ -31,7 +31,7 @@ fn numeral_len(bytes: &[u8]) -> usize
     whole + fraction_len(rest)
 }
 
-/// The value of the number at the front, and what is after it.
+/// Reads the number at the front: its value, and the rest. `NotThere` if there is none.
 #[tactic(auto, unfolding(crate::specs::RuleNumbers::literal_value_at))]
 pub fn number(alloc: Global, bytes: &[u8]) -> Result<(Value, &[u8]), Failure<NotThere>>
     ensures { Reads (λ x. (x.0, x.1.now)) result (literal_value_at bytes.now) }
@@ -61,7 +61,7 @@ fn negative(alloc: Global, value: Value) -> Result<Value, AllocError>
     Ok(Value::new(text))
 }
 
-/// The value of the number at the front, after a minus, and what is after it.
+/// Reads the number at the front, after a minus: its value, and the rest. `NotThere` if there is none.
 pub fn negative_number(alloc: Global, bytes: &[u8]) -> Result<(Value, &[u8]), Failure<NotThere>>
     ensures { Reads (λ x. (x.0, x.1.now)) result (negative_at bytes.now) }
 {

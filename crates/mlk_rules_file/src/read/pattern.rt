@@ -1,4 +1,4 @@
-// Patterns of rule files.
+// Patterns in rule files.
 
 ghost use Rattle.std.specs.Prelude.{◌≡◌, ◌++◌, IfOk, OnOk};
 ghost use Rattle.toml.specs.View.{view};
@@ -37,7 +37,7 @@ fn name_copy(root: &Root) -> Result<Name, AllocError>
     }
 }
 
-/// The pattern of a spelling.
+/// The pattern that `s` spells.
 pub fn pattern(alloc: Global, s: &Spelling) -> Result<Pattern, AllocError>
     ensures { IfOk result (λ p. p ≡ pattern s.now) }
 {
@@ -70,7 +70,7 @@ fn pattern_by(
     Ok(pattern(alloc, &s)?)
 }
 
-/// The private or readonly pattern of an element, which has this index.
+/// Reads the private or readonly pattern `element`, which has the index `index`.
 #[tactic(auto, unfolding(crate::specs::RuleSections::rule_pattern_of))]
 pub fn rule_pattern(
     alloc: Global,

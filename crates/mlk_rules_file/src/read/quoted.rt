@@ -1,4 +1,4 @@
-// Texts in quotes.
+// Quoted texts.
 
 ghost use Rattle.mlk_text.specs.Failures.{Reads};
 ghost use Rattle.mlk_rules_file.specs.RuleTexts.{quoted};
@@ -7,7 +7,7 @@ use mlk_text::lexeme::byte_of;
 use mlk_text::{Failure, NotThere, Value};
 use std::alloc::Global;
 
-/// The value up to the closing quote, and what is after it. It may have any byte.
+/// Reads the value up to the closing quote: the value, and the rest. Any byte is allowed in it.
 pub fn quoted(alloc: Global, bytes: &[u8]) -> Result<(Value, &[u8]), Failure<NotThere>>
     ensures { Reads (λ x. (x.0, x.1.now)) result (quoted bytes.now) }
 {

@@ -16,7 +16,7 @@ use mlk_text::{Code, Failure, List, Value as Text};
 use std::alloc::Global;
 use toml::{Table, Value};
 
-/// The most elements of a section.
+/// The maximum number of elements of a section.
 const MOST_ELEMENTS: usize = 1024;
 
 fn is_tables(values: &[Value]) -> bool
@@ -57,7 +57,7 @@ fn count(values: &[Value]) -> usize
     values.len()
 }
 
-/// The elements of a section, at most 1,024 tables.
+/// The elements of `section`, at most 1,024 tables.
 #[tactic(auto, unfolding(crate::specs::RuleSections::section_of))]
 pub fn section_of(section: Section, table: &Table) -> Result<&[Value], Failure<RulesFault>>
     ensures { Answers (λ s. items_view s.now) result (section_of section (table_view table.now)) }
@@ -71,7 +71,7 @@ pub fn section_of(section: Section, table: &Table) -> Result<&[Value], Failure<R
     Ok(values)
 }
 
-/// The families of elements.
+/// Reads the families of the section's elements.
 pub fn families(alloc: Global, values: &[Value]) -> Result<List<Family>, Failure<RulesFault>>
     ensures { Answers (λ x. x) result (each family_of 1 (items_view values.now)) }
 {
@@ -82,7 +82,7 @@ pub fn families(alloc: Global, values: &[Value]) -> Result<List<Family>, Failure
     Ok(List::of(found))
 }
 
-/// The covers of elements.
+/// Reads the covers of the section's elements.
 pub fn covers(alloc: Global, values: &[Value]) -> Result<List<Cover>, Failure<RulesFault>>
     ensures { Answers (λ x. x) result (each cover_of 1 (items_view values.now)) }
 {
@@ -93,7 +93,7 @@ pub fn covers(alloc: Global, values: &[Value]) -> Result<List<Cover>, Failure<Ru
     Ok(List::of(found))
 }
 
-/// The private or readonly patterns of elements.
+/// Reads the private or readonly patterns of the section's elements.
 pub fn patterns(
     alloc: Global,
     section: Section,
@@ -108,7 +108,7 @@ pub fn patterns(
     Ok(List::of(found))
 }
 
-/// The entries of elements.
+/// Reads the entries of the section's elements.
 pub fn entries(alloc: Global, values: &[Value]) -> Result<List<Text>, Failure<RulesFault>>
     ensures { Answers (λ x. x) result (each entry_of 1 (items_view values.now)) }
 {

@@ -1,4 +1,4 @@
-// Reading the texts of rule files.
+// The readers of texts in rule files.
 
 ghost use Rattle.std.specs.Prelude.{◌≡◌, bytes_eq, IfOk, option_map};
 ghost use Rattle.mlk_text.specs.Failures.{Reads};
@@ -57,7 +57,7 @@ fn comma(bytes: &[u8]) -> Option<&[u8]>
     byte_of(b',', bytes)
 }
 
-// Items with commas between them, of which none ends the list by `...`.
+// Items separated by commas, up to a closing parenthesis or to the `...` that ends the list.
 struct PatternItems;
 
 impl Items for PatternItems {
@@ -138,7 +138,7 @@ fn spelling(alloc: Global, bytes: &[u8]) -> Result<Spelling, Failure<NotThere>>
     })
 }
 
-/// The text as a lock name, where it is spelled well.
+/// `bytes` as a lock name, or `None` if it is spelled wrongly.
 pub fn spelled_name(alloc: Global, bytes: &[u8]) -> Result<Option<Spelling>, AllocError>
     ensures { IfOk result (λ s. s ≡ spelling_of bytes.now) }
 {
@@ -149,7 +149,7 @@ pub fn spelled_name(alloc: Global, bytes: &[u8]) -> Result<Option<Spelling>, All
     }
 }
 
-/// The text as a pattern, where it is spelled well.
+/// `bytes` as a pattern, or `None` if it is spelled wrongly.
 pub fn spelled_pattern(alloc: Global, bytes: &[u8]) -> Result<Option<Spelling>, AllocError>
     ensures { IfOk result (λ s. s ≡ pattern_of bytes.now) }
 {

@@ -28,7 +28,7 @@ fn is_key(section: Section, key: &str) -> bool
     }
 }
 
-/// Whether the table has no keys but those of elements of the section, or of the file.
+/// Whether all keys of `table` are allowed in elements of `section`, or at the top of the file.
 pub fn has_only(section: Section, table: &Table) -> bool
     ensures { result ≡ has_only section (table_view table.now) }
 {
@@ -58,7 +58,7 @@ fn integer_at(table: &Table, key: &str) -> Option<i64>
     }
 }
 
-/// The name and the rank of a family.
+/// The name and the rank of a family, or `None` if the keys or the types of their values are wrong.
 pub fn family_keys(element: &Value) -> Option<(&str, i64)>
     ensures { option_map (λ x. (x.0.now, x.1)) result ≡ family_keys (as_table (view element.now)) }
 {
@@ -77,7 +77,7 @@ pub fn family_keys(element: &Value) -> Option<(&str, i64)>
     Some((name, rank))
 }
 
-// The text that a key has.
+// The text at a key, or `None` if `value` is not a text.
 fn its_text(value: &Value) -> Option<Option<&str>>
     ensures { option_map (λ o. option_map (λ s. s.now) o) result ≡ as_text (Some (view value.now)) }
 {
@@ -87,7 +87,7 @@ fn its_text(value: &Value) -> Option<Option<&str>>
     }
 }
 
-// The text at a key that may be missing.
+// The text at an optional key: `Some(None)` if the key is missing, `None` if its value is not a text.
 fn text_if<'a>(table: &'a Table, key: &str) -> Option<Option<&'a str>>
     ensures { option_map (λ o. option_map (λ s. s.now) o) result ≡ text_if key.now (table_view table.now) }
 {
@@ -97,7 +97,7 @@ fn text_if<'a>(table: &'a Table, key: &str) -> Option<Option<&'a str>>
     }
 }
 
-// What a cover with this text asks of reads; `None` if the text is no such word.
+// The read policy of a cover with this text, or `None` if the text is not one of its words.
 fn policy_of(text: Option<&str>) -> Option<ReadPolicy>
     ensures { result ≡ policy_of (option_map (λ t. t.now) text.entry) }
 {
@@ -115,7 +115,7 @@ fn policy_of(text: Option<&str>) -> Option<ReadPolicy>
     }
 }
 
-// What a cover asks of reads, by a key that may be missing.
+// The read policy of a cover, at an optional key.
 fn policy_at(table: &Table, key: &str) -> Option<ReadPolicy>
     ensures { result ≡ policy_at key.now (table_view table.now) }
 {
@@ -130,12 +130,12 @@ fn policy_at(table: &Table, key: &str) -> Option<ReadPolicy>
 pub struct CoverKeys<'a> {
     pub global: &'a str,
     pub lock: &'a str,
-    /// the second lock, if it is there
+    /// the second lock, if it is given
     pub also: Option<&'a str>,
     pub reads: ReadPolicy,
 }
 
-/// The keys of a cover; `None` if one of another name is there, or one has no value of its kind.
+/// The keys of a cover, or `None` if it has another key, or a value of the wrong type.
 pub fn cover_keys(element: &Value) -> Option<CoverKeys<'_>>
     ensures { option_map (λ x. (x.global.now, x.lock.now, option_map (λ s. s.now) x.also, x.reads)) result
         ≡ cover_keys (as_table (view element.now)) }
@@ -166,7 +166,7 @@ pub fn cover_keys(element: &Value) -> Option<CoverKeys<'_>>
     })
 }
 
-/// The one text of an element with this one key.
+/// The text of an element whose only key is `key`, or `None`.
 pub fn text_key<'a>(section: Section, key: &str, element: &'a Value) -> Option<&'a str>
     ensures { option_map (λ x. x.now) result ≡ text_key section key.now (as_table (view element.now)) }
 {
