@@ -10,4 +10,5 @@ returns c =
     let three = c.in_ok-app-3.ensures ∙ ap₂ with_subcommand two (ap (λ a. a.top) c.in_ok-verify_command.ensures) in
     let four = c.in_ok-app-4.ensures ∙ ap₂ with_subcommand three (ap (λ a. a.top) c.in_ok-replay_command.ensures) in
     let five = c.in_ok-app-5.ensures ∙ ap₂ with_subcommand four (ap (λ a. a.top) c.in_ok-convert_command.ensures) in
-    IfOk-weaker c.with_command-6.result _ _ (λ made h. h ∙ ap₂ with_subcommand five (ap (λ a. a.top) c.in_ok-survey_command.ensures)) c.with_command-6.ensures
+    let six = c.in_ok-app-6.ensures ∙ ap₂ with_subcommand five (ap (λ a. a.top) c.in_ok-survey_command.ensures) in
+    IfOk-weaker c.with_command-7.result _ _ (λ made h. h ∙ ap₂ with_subcommand six (ap (λ a. a.top) c.in_ok-suggest_command.ensures)) c.with_command-7.ensures
