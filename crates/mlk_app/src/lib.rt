@@ -8,6 +8,7 @@ mod notice;
 mod printed;
 mod program;
 mod source;
+mod suggestion;
 
 pub use file::{LONGEST_FILE, read_whole};
 pub use mlk_watch::{Stage, Unwatched, Watch};

@@ -1,11 +1,12 @@
 // The program, from its words to its status.
 
-ghost use Rattle.std.specs.Prelude.{◌≡◌, ◌≢◌, ◌⊎◌, IfOk, OnOk, map};
+ghost use Rattle.std.specs.Prelude.{◌≡◌, ◌≢◌, ◌⊎◌, ◌∷◌, IfOk, OnOk, [], map};
 ghost use Rattle.mlk_syntax.specs.Views.{routine_of};
 ghost use Rattle.std.specs.IoError.{error_kind};
 ghost use Rattle.std.specs.Io.KnownBytes.{Appends};
 ghost use Rattle.mlk_cli.specs.declared.words.Request.TheVariants as wanted;
-ghost use Rattle.mlk_app.specs.Ran.{style_in, status_of, PrintsReport, PrintsOutcome, Prints, IsErrorLine, IsRefusalLine, TellsRefusal, TellsFault, TellsUnread, Answers, AnswersWords, IsRefusalSaid, IsSaid, Ran};
+ghost use Rattle.mlk_app.specs.Ran.{style_in, status_of, PrintsReport, PrintsOutcome, Prints, IsErrorLine, IsRefusalLine, TellsRefusal, TellsFault, TellsRules, TellsUnread, PrintsRules, SuggestsFor, Answers, AnswersWords, IsRefusalSaid, IsSaid, Ran};
+ghost use Rattle.mlk_app.specs.Files.{beside_path};
 ghost use Rattle.mlk_forms.specs.Told.{IsNoticed};
 ghost use Rattle.mlk_outcome.specs.Checked.{IsOfOpenGate, IsNotShut};
 
@@ -16,15 +17,18 @@ use crate::printed::{
     workers_line,
 };
 use crate::source::{FileError, Files, cert_format, read_file, read_files, read_sources};
+use crate::suggestion::suggestion_of;
 use mlk_cert::CertFault;
 use mlk_cli::{
-    Asked, Format, Output, ProgramRequest, ReportStyle, Request, SurveyRequest, UsageError,
-    read_request,
+    Asked, Format, Output, ProgramRequest, ReportStyle, Request, SuggestRequest, SurveyRequest,
+    UsageError, read_request,
 };
 use mlk_forms::{notice_told, survey_told};
 use mlk_outcome::{Checked, CheckedOutcome, NoReport, check_texts, converted};
 use mlk_output::Inputs;
-use mlk_pool::{CheckError, ReportText};
+use mlk_pool::{CheckError, ReportText, Source};
+use mlk_rules_file::{RulesFault, read_rules};
+use mlk_suggest_text::KnownRules;
 use mlk_text::Failure;
 use mlk_walk::Report;
 use mlk_watch::{Unwatched, Watch};
@@ -44,7 +48,7 @@ const FAILED: u8 = 3;
 // What the program says, before it is said.
 #[derive(Drop)]
 enum Answer {
-    /// The text of a report, of a certificate, of jobs or of a survey, and the status that it ends with.
+    /// The text of a report, of a certificate, of jobs, of a survey or of suggested rules, and the status that it ends with.
     Report(ReportText, u8),
     /// The line that says why the input is refused, and what is printed beside it, if a form is asked for.
     Refused(ReportText, Option<ReportText>),
@@ -268,6 +272,83 @@ fn answer_survey<R: Threads + Wait + Sync, F: Files, W: Watch>(
     }
 }
 
+fn rules_answer(alloc: Global, fault: &RulesFault) -> Answer
+    ensures { TellsRules fault.now result }
+{
+    match rules_line(alloc, fault) {
+        Ok(line) => Answer::Refused(line, None),
+        Err(AllocError) => Answer::OutOfMemory,
+    }
+}
+
+fn suggestion_answer(alloc: Global, sources: &[Source<'_>], known: KnownRules<'_>) -> Answer
+    ensures { PrintsRules result }
+{
+    match suggestion_of(alloc, sources, known) {
+        Ok(text) => Answer::Report(ReportText::of(text.into_bytes()), YES),
+        Err(AllocError) => Answer::OutOfMemory,
+    }
+}
+
+// Answers with the rules that are suggested for routines, from their texts.
+fn suggest_for<F: Files>(
+    alloc: Global,
+    routines: &[&str],
+    known: KnownRules<'_>,
+    files: &F,
+) -> Answer
+    ensures { SuggestsFor (F.holds files.now) (F.lacks files.now) routines.now result }
+{
+    match read_sources(alloc, files, routines) {
+        Ok(sources) => suggestion_answer(alloc, sources.as_slice(), known),
+        Err(FileError::OutOfMemory) => Answer::OutOfMemory,
+        Err(FileError::Unread(path)) => unread_answer(alloc, path),
+    }
+}
+
+// Answers with the rules that are suggested beside those of the rule file at a path.
+fn suggest_beside<F: Files>(
+    alloc: Global,
+    suggestion: &SuggestRequest<'_>,
+    path: &str,
+    files: &F,
+) -> Answer
+    requires { beside_path suggestion.now.beside ≡ path.now ∷ [] }
+    ensures { Answers (F.holds files.now) (F.lacks files.now) (wanted.Suggest suggestion.now) result }
+{
+    match read_file(alloc, files, path) {
+        Ok(text) => match read_rules(alloc, text.as_slice()) {
+            Ok(rules) => {
+                let known = KnownRules {
+                    lists: Some(rules.lists()),
+                };
+                suggest_for(alloc, suggestion.routines.as_slice(), known, files)
+            }
+            Err(Failure::OutOfMemory) => Answer::OutOfMemory,
+            Err(Failure::Refused(fault)) => rules_answer(alloc, &fault),
+        },
+        Err(FileError::OutOfMemory) => Answer::OutOfMemory,
+        Err(FileError::Unread(path)) => unread_answer(alloc, path),
+    }
+}
+
+// What is answered if rules are to be suggested, from the texts of the routines and of the rules beside them.
+fn answer_suggestion<F: Files>(
+    alloc: Global,
+    suggestion: &SuggestRequest<'_>,
+    files: &F,
+) -> Answer
+    ensures { Answers (F.holds files.now) (F.lacks files.now) (wanted.Suggest suggestion.now) result }
+{
+    match suggestion.beside {
+        None => {
+            let known = KnownRules { lists: None };
+            suggest_for(alloc, suggestion.routines.as_slice(), known, files)
+        }
+        Some(path) => suggest_beside(alloc, suggestion, path, files),
+    }
+}
+
 // What is answered to a request, from the texts of the files.
 fn answer_request<R: Threads + Wait + Sync, F: Files, W: Watch>(
     rt: &R,
@@ -285,6 +366,7 @@ fn answer_request<R: Threads + Wait + Sync, F: Files, W: Watch>(
             format,
         } => answer_conversion(alloc, *certificate, *format, files, watch),
         Request::Survey(survey) => answer_survey(rt, alloc, survey, files, watch),
+        Request::Suggest(suggestion) => answer_suggestion(alloc, suggestion, files),
     }
 }
 
@@ -384,8 +466,8 @@ pub fn wrong_words<E: Write>(error: &io::Error, err: &mut E) -> u8
 }
 
 /// Does what the words ask for, after the first, which is the program's name, and answers the status: 0 for `yes`,
-/// a certificate, jobs or a survey, 1 for `no` and, with `--strict`, for a hazard, 2 for refused input, 3 if memory runs
-/// out or for a file that can't be read or written.
+/// a certificate, jobs, a survey or suggested rules, 1 for `no` and, with `--strict`, for a hazard, 2 for refused input,
+/// 3 if memory runs out or for a file that can't be read or written.
 ///
 /// The texts of routines are read side by side, by these threads, and the lines of entries are walked so by the workers that
 /// the words ask for. Reports go to `out`, and so does the JSON or SARIF of a refusal; all else goes to `err`. A fault of
