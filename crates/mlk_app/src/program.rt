@@ -316,13 +316,14 @@ fn suggest_beside<F: Files>(
     requires { beside_path suggestion.now.beside ≡ path.now ∷ [] }
     ensures { Answers (F.holds files.now) (F.lacks files.now) (wanted.Suggest suggestion.now) result }
 {
+    let routines = suggestion.routines.as_slice();
     match read_file(alloc, files, path) {
         Ok(text) => match read_rules(alloc, text.as_slice()) {
             Ok(rules) => {
                 let known = KnownRules {
                     lists: Some(rules.lists()),
                 };
-                suggest_for(alloc, suggestion.routines.as_slice(), known, files)
+                suggest_for(alloc, routines, known, files)
             }
             Err(Failure::OutOfMemory) => Answer::OutOfMemory,
             Err(Failure::Refused(fault)) => rules_answer(alloc, &fault),

@@ -171,7 +171,7 @@ fn survey_command<'a>(alloc: Global) -> Result<Command<'a>, AllocError>
         .arg(output_option(alloc, SURVEY_OUTPUT_HELP))
 }
 
-// The rule file beside which rules are suggested, if there is one.
+// The rule file beside which rules are suggested.
 fn beside_option<'a>(alloc: Global) -> Arg<'a>
     ensures rule { rule_of result ≡ beside_rule }
     ensures local { result.global ≡ false }

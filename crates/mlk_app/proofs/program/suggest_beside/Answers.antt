@@ -10,7 +10,7 @@ pub returns-in-Ok-read_rules : goal.returns-in-Ok-read_rules
 returns-in-Ok-read_rules g c =
     let holds = g.F.Files.holds c.args.files.now in
     let lacks = g.F.Files.lacks c.args.files.now in
-    let answered = subst (λ paths. SuggestsFor holds lacks paths c.suggest_for.result) c.as_slice-2.ensures.value c.suggest_for.ensures in
+    let answered = subst (λ paths. SuggestsFor holds lacks paths c.suggest_for.result) c.as_slice-routines.ensures.value c.suggest_for.ensures in
     beside-answers holds lacks c.args.suggestion.now c.args.path.now c.in-Ok.text.items c.suggest_for.result c.requires c.in-Ok.ensures.ok answered
 
 pub returns-in-Err-Refused : goal.returns-in-Err-Refused
