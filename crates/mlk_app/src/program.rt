@@ -281,7 +281,11 @@ fn rules_answer(alloc: Global, fault: &RulesFault) -> Answer
     }
 }
 
-fn suggestion_answer(alloc: Global, sources: &[Source<'_>], known: KnownRules<'_>) -> Answer
+fn suggestion_answer<'s>(
+    alloc: Global,
+    sources: &'s [Source<'s>],
+    known: KnownRules<'_>,
+) -> Answer
     ensures { PrintsRules result }
 {
     match suggestion_of(alloc, sources, known) {

@@ -9,9 +9,9 @@ use mlk_text::push_sparing;
 use std::alloc::{AllocError, Global};
 
 /// The rule file that is suggested for `sources`, without what `known` has rules for.
-pub(crate) fn suggestion_of(
+pub(crate) fn suggestion_of<'s>(
     alloc: Global,
-    sources: &[Source<'_>],
+    sources: &'s [Source<'s>],
     known: KnownRules<'_>,
 ) -> Result<RuleText, AllocError>
     ensures { IfOk result (λ text. IsRuleText text) }
