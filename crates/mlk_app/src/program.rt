@@ -281,11 +281,7 @@ fn rules_answer(alloc: Global, fault: &RulesFault) -> Answer
     }
 }
 
-fn suggestion_answer<'s>(
-    alloc: Global,
-    sources: &'s [Source<'s>],
-    known: KnownRules<'_>,
-) -> Answer
+fn suggestion_answer<'s>(alloc: Global, sources: &'s [Source<'s>], known: KnownRules<'_>) -> Answer
     ensures { PrintsRules result }
 {
     match suggestion_of(alloc, sources, known) {
@@ -338,11 +334,7 @@ fn suggest_beside<F: Files>(
 }
 
 // What is answered if rules are to be suggested, from the texts of the routines and of the rules beside them.
-fn answer_suggestion<F: Files>(
-    alloc: Global,
-    suggestion: &SuggestRequest<'_>,
-    files: &F,
-) -> Answer
+fn answer_suggestion<F: Files>(alloc: Global, suggestion: &SuggestRequest<'_>, files: &F) -> Answer
     ensures { Answers (F.holds files.now) (F.lacks files.now) (wanted.Suggest suggestion.now) result }
 {
     match suggestion.beside {
