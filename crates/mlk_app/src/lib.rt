@@ -10,6 +10,7 @@ mod printed;
 mod program;
 mod refused;
 mod source;
+mod suggestion;
 
 pub use explained::Explaining;
 pub use file::{LONGEST_FILE, read_whole};
