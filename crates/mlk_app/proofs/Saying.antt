@@ -1,7 +1,7 @@
 -- What is answered to a request.
 use Rattle.std.proofs.Common.{◌≡◌, ◌∙◌, ℕ, List, [], Bool, true, false, Option, None, refl, sym, arith}
 use Rattle.std.specs.Prelude.{String}
-use Rattle.mlk_outcome.specs.declared.texts.Sources.{Sources}
+use Rattle.mlk_app.specs.declared.source.Sources.{Sources}
 use Rattle.std.specs.Borrow.{Bor}
 use Rattle.mlk_text.specs.declared.failure.Failure.TheVariants as failure
 use Rattle.mlk_cert.specs.declared.read.fault.CertFault.{CertFault}
@@ -9,35 +9,34 @@ use Rattle.mlk_cli.specs.declared.words.Format.{Format}
 use Rattle.mlk_cli.specs.declared.words.ProgramRequest.{ProgramRequest}
 use Rattle.mlk_cli.specs.declared.words.Request.{Request}
 use Rattle.mlk_cli.specs.declared.words.Request.TheVariants as request
-use Rattle.mlk_outcome.specs.declared.checked.Checked.{Checked}
 use Rattle.mlk_walk.specs.declared.report.Row.{Row}
 use Rattle.mlk_syntax.specs.Trees.{RoutineTree}
 use Rattle.mlk_cli.specs.declared.words.Output.{Output}
 use Rattle.mlk_cli.specs.declared.words.Output.TheVariants as output
 use Rattle.mlk_cli.specs.declared.words.ReportStyle.{ReportStyle}
 use Rattle.mlk_cli.specs.declared.words.SurveyRequest.{SurveyRequest}
-use Rattle.mlk_forms.specs.Told.{IsReportTold, IsNoticed}
+use Rattle.mlk_forms.specs.Rendering.{IsRendered, IsNoticed}
 use Rattle.mlk_forms.proofs.Styles.{passed-no-row}
-use Rattle.mlk_outcome.specs.declared.checked.NoReport.{NoReport}
-use Rattle.mlk_app.specs.declared.program.Answer.{Answer}
-use Rattle.mlk_app.specs.declared.program.Answer.TheVariants as answer
+use Rattle.mlk_outcome.specs.declared.refusal.NoReport.{NoReport}
+use Rattle.mlk_app.specs.declared.answer.Answer.{Answer}
+use Rattle.mlk_app.specs.declared.answer.Answer.TheVariants as answer
 use Rattle.mlk_app.specs.declared.source.FileError.TheVariants as error
 use Rattle.mlk_app.specs.Files.{Texts, AreTexts, Loses, LosesFirst, cert_format}
 use Rattle.mlk_app.proofs.Sources.{loses-front}
 use Rattle.mlk_cli.specs.CommandLine.{IsRequest, bytes_of}
-use Rattle.mlk_outcome.specs.Checked.{trees_of, IsChecked, IsRefusedBy}
-use Rattle.mlk_outcome.specs.Converted.{IsUnconverted}
-use Rattle.mlk_app.specs.Ran.{style_in, status_of, IsReportPrinted, Prints, TellsRefusal, TellsFault, TellsUnread, TellsPage, Answers, AnswersWords}
+use Rattle.mlk_outcome.specs.Conversion.{IsUnconverted}
+use Rattle.mlk_app.specs.Printing.{IsPrintedOfTexts, IsRefusedSources}
+use Rattle.mlk_app.specs.Ran.{style_in, status_of, IsReportPrinted, IsProgramReported, TellsRefusal, TellsFault, TellsUnread, TellsPage, Answers, AnswersWords}
 
 one-not-zero : ◌≡◌ {A = ℕ} 1 0 → ⊥
 one-not-zero e = omega (arith, e)
 
 -- what is printed of a report
-report-yes : (style : ReportStyle) (trees : List RoutineTree) (rows : List Row) (text : List ℕ) (passed : Bool) → IsReportTold style trees rows text passed → status_of passed ≡ 0 → rows ≡ []
+report-yes : (style : ReportStyle) (trees : List RoutineTree) (rows : List Row) (text : List ℕ) (passed : Bool) → IsRendered style trees rows text passed → status_of passed ≡ 0 → rows ≡ []
 report-yes style trees rows text true told ended = passed-no-row style trees rows text told
 report-yes style trees rows text false told ended = absurd (one-not-zero ended)
 
-pub report-printed : (style : ReportStyle) (trees : List RoutineTree) (rows : List Row) (text : List ℕ) (passed : Bool) (status : ℕ) → IsReportTold style trees rows text passed → status ≡ status_of passed
+pub report-printed : (style : ReportStyle) (trees : List RoutineTree) (rows : List Row) (text : List ℕ) (passed : Bool) (status : ℕ) → IsRendered style trees rows text passed → status ≡ status_of passed
     → IsReportPrinted style trees rows text status
 report-printed style trees rows text passed status told ended = record {
   passed = passed;
@@ -51,22 +50,20 @@ no-notice output.Text = refl
 no-notice output.Json = record {}
 no-notice output.Sarif = record {}
 
-pub outcome-answers : (holds : Texts) (lacks : List ℕ → Type 0) (program : ProgramRequest) (sources : Sources) (checked : Checked) (a : Answer) → AreTexts holds program sources → IsChecked sources (trees_of checked) checked.outcome → Prints (style_in program.asked) checked a
-    → Answers holds lacks (request.Program program) a
-outcome-answers holds lacks program sources checked (answer.Report text status) texts answered printed = record {
+pub program-reported : (holds : Texts) (program : ProgramRequest) (sources : Sources) (text : List ℕ) (status : ℕ) → AreTexts holds program sources → IsPrintedOfTexts (style_in program.asked) sources text status
+    → IsProgramReported holds program text status
+program-reported holds program sources text status texts (trees, read, linked, rules, said, printed) = record {
   sources = sources;
   texts = texts;
-  trees = trees_of checked;
-  outcome = checked.outcome;
-  answered = answered;
+  trees = trees;
+  read = read;
+  linked = linked;
+  rules = rules;
+  said = said;
   printed = printed;
 }
-outcome-answers holds lacks program sources checked (answer.Refused line notice help) texts answered printed = absurd printed
-outcome-answers holds lacks program sources checked (answer.Unread line help) texts answered printed = absurd printed
-outcome-answers holds lacks program sources checked (answer.Usage text) texts answered printed = absurd printed
-outcome-answers holds lacks program sources checked answer.OutOfMemory texts answered printed = record {}
 
-pub refusal-answers : (holds : Texts) (lacks : List ℕ → Type 0) (program : ProgramRequest) (sources : Sources) (r : NoReport) (a : Answer) → AreTexts holds program sources → IsRefusedBy sources r → TellsRefusal (style_in program.asked).output r a
+pub refusal-answers : (holds : Texts) (lacks : List ℕ → Type 0) (program : ProgramRequest) (sources : Sources) (r : NoReport) (a : Answer) → AreTexts holds program sources → IsRefusedSources sources r → TellsRefusal (style_in program.asked).output r a
     → Answers holds lacks (request.Program program) a
 refusal-answers holds lacks program sources r (answer.Report text status) texts refused told = absurd told
 refusal-answers holds lacks program sources r (answer.Refused line notice help) texts refused told = (
@@ -75,7 +72,7 @@ refusal-answers holds lacks program sources r (answer.Refused line notice help) 
     texts = texts;
     refusal = r;
     refused = refused;
-    told = told.0;
+    printed = told.0;
   },
   told.1,
 )

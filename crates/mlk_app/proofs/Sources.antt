@@ -4,8 +4,8 @@ use Rattle.std.proofs.lemmas.List.{drop_all, drop_more, take_more, map-append}
 use Rattle.mlk_app.specs.declared.source.FileError.{FileError}
 use Rattle.mlk_app.specs.declared.source.FileError.TheVariants as error
 use Rattle.mlk_pool.specs.declared.source.Source.{Source}
-use Rattle.mlk_outcome.specs.declared.texts.Work.{Work}
-use Rattle.mlk_outcome.specs.declared.texts.Work.TheVariants as work
+use Rattle.mlk_app.specs.declared.source.Work.{Work}
+use Rattle.mlk_app.specs.declared.source.Work.TheVariants as work
 use Rattle.mlk_cli.specs.declared.words.Asked.{Asked}
 use Rattle.mlk_cli.specs.declared.words.Asked.TheVariants as asked
 use Rattle.mlk_app.specs.Files.{Texts, IsSource, AreSources, AreHeld, IsWork, Loses, LosesFirst, work_path}

@@ -1,3 +1,4 @@
 pub mod Printed
 pub mod Files
 pub mod Ran
+pub mod Printing

@@ -1,10 +1,9 @@
 -- What the program says: what it prints on standard output, what it tells on the error stream, and the status that
 -- it ends with. This project's own choice.
-use Rattle.std.specs.Prelude.{◌≡◌, ◌⊎◌, ℕ, List, [], Bool, true, false, Option, None, Some, String}
+use Rattle.std.specs.Prelude.{◌≡◌, ◌⊎◌, ℕ, List, [], ◌∷◌, Bool, true, false, Option, None, Some, String}
 use Rattle.std.specs.Io.KnownBytes.{Keeps, Appends}
 use Rattle.mlk_syntax.specs.Trees.{RoutineTree}
 use Rattle.mlk_walk.specs.declared.report.Row.{Row}
-use Rattle.mlk_outcome.specs.declared.texts.Sources.{Sources}
 use Rattle.mlk_cli.specs.declared.words.Output.{Output}
 use Rattle.mlk_cli.specs.declared.words.Output.TheVariants.{Text as Plain}
 use Rattle.mlk_cli.specs.declared.words.ReportStyle.{ReportStyle}
@@ -12,6 +11,7 @@ use Rattle.mlk_cli.specs.declared.words.Asked.{Asked}
 use Rattle.mlk_cli.specs.declared.words.Asked.TheVariants as asked
 use Rattle.mlk_cli.specs.declared.words.ProgramRequest.{ProgramRequest}
 use Rattle.mlk_cli.specs.declared.words.SurveyRequest.{SurveyRequest}
+use Rattle.mlk_cli.specs.declared.words.SuggestRequest.{SuggestRequest}
 use Rattle.mlk_cli.specs.declared.words.Request.{Request}
 use Rattle.mlk_cli.specs.declared.words.Request.TheVariants as request
 use Rattle.mlk_text.specs.declared.failure.Failure.TheVariants as failure
@@ -19,20 +19,31 @@ use Rattle.mlk_cert.specs.declared.format.CertFormat.{CertFormat}
 use Rattle.mlk_cert.specs.declared.read.fault.CertFault.{CertFault}
 use Rattle.mlk_pool.specs.declared.error.CheckError.{CheckError}
 use Rattle.mlk_pool.specs.declared.error.CheckError.TheVariants as error
-use Rattle.mlk_outcome.specs.declared.checked.Checked.{Checked}
-use Rattle.mlk_outcome.specs.declared.checked.CheckedOutcome.{CheckedOutcome}
-use Rattle.mlk_outcome.specs.declared.checked.CheckedOutcome.TheVariants as outcome
-use Rattle.mlk_outcome.specs.declared.checked.NoReport.{NoReport}
-use Rattle.mlk_outcome.specs.declared.checked.NoReport.TheVariants as refusal
-use Rattle.mlk_app.specs.declared.program.Answer.{Answer}
-use Rattle.mlk_app.specs.declared.program.Answer.TheVariants as answer
+use Rattle.mlk_outcome.specs.declared.refusal.NoReport.{NoReport}
+use Rattle.mlk_outcome.specs.declared.refusal.NoReport.TheVariants as refusal
+use Rattle.mlk_app.specs.declared.answer.Answer.{Answer}
+use Rattle.mlk_app.specs.declared.answer.Answer.TheVariants as answer
+use Rattle.mlk_app.specs.declared.source.Sources.{Sources}
+use Rattle.mlk_app.specs.declared.source.Work.{Work}
+use Rattle.mlk_app.specs.declared.source.Work.TheVariants as work
 use Rattle.mlk_pool.specs.declared.source.Source.{Source}
-use Rattle.mlk_forms.specs.Told.{IsReportTold, IsNoticed}
+use Rattle.std.specs.Borrow.{Bor}
+use Rattle.mlk_rules_file.specs.declared.read.fault.RulesFault.{RulesFault}
+use Rattle.mlk_suggest_text.specs.RuleTexts.{IsRuleText}
+use Rattle.mlk_forms.specs.Rendering.{IsRendered, IsNoticed}
 use Rattle.mlk_app.specs.Printed.{fault_line, rules_line, certificate_line, missing_line, workers_line, stuck_line, events_line, file_line, no_page_line}
-use Rattle.mlk_app.specs.Files.{Texts, AreTexts, AreSources, IsFirstLost, cert_format, paths_of}
-use Rattle.mlk_cli.specs.CommandLine.{IsRequest, AsksNothing}
-use Rattle.mlk_outcome.specs.Checked.{trees_of, IsChecked, IsRefusedBy}
-use Rattle.mlk_outcome.specs.Converted.{IsConverted, IsUnconverted}
+use Rattle.mlk_app.specs.Files.{Texts, AreTexts, AreSources, IsFirstLost, beside_path, cert_format, paths_of}
+use Rattle.mlk_cli.specs.CommandLine.{IsRequest, AsksNothing, bytes_of}
+use Rattle.mlk_program.specs.Program.{IsProgram}
+use Rattle.mlk_rules.specs.declared.rules.RuleLists.{RuleLists}
+use Rattle.mlk_rules_file.specs.RuleSections.{SaysRules, RefusesRules}
+use Rattle.mlk_cert_parts.specs.declared.block.EntryCert.{EntryCert}
+use Rattle.mlk_cert.specs.Theorem.{Spells}
+use Rattle.mlk_pool.specs.Reading.{AreRead}
+use Rattle.mlk_pool.specs.Headline.{IsReportBy, RefusesReport, RefusesByText, RefusesTexts}
+use Rattle.mlk_outcome.specs.Making.{IsMade, IsUnmade}
+use Rattle.mlk_outcome.specs.Replaying.{IsReplayed, IsUnreplayed}
+use Rattle.mlk_outcome.specs.Conversion.{IsConverted, IsUnconverted}
 
 -- how a report is told: as text, without hazards and explanations, unless the words say otherwise
 abbrev pub plain_style : ReportStyle
@@ -48,6 +59,7 @@ abbrev pub output_in : Request → Output
 output_in (request.Program program) = (style_in program.asked).output
 output_in (request.Convert certificate format) = Plain
 output_in (request.Survey survey) = Plain
+output_in (request.Suggest suggestion) = Plain
 output_in (request.Explain code) = Plain
 
 -- 0 for a report that passes, 1 for another
@@ -59,7 +71,7 @@ status_of false = 1
 -- passes if it has none, and the text is that of the report.
 pub record IsReportPrinted (style : ReportStyle) (trees : List RoutineTree) (rows : List Row) (text : List ℕ) (status : ℕ) : Type 0 where
   pub passed : Bool
-  pub told : IsReportTold style trees rows text passed
+  pub told : IsRendered style trees rows text passed
   pub ended : status ≡ status_of passed
   pub yes : status ≡ 0 → rows ≡ []
 
@@ -79,37 +91,25 @@ IsRefusalLine (refusal.Check e) line = IsErrorLine e line
 IsRefusalLine (refusal.GaveUp entry fault) line = line ≡ stuck_line entry fault
 IsRefusalLine (refusal.Events fault) line = line ≡ events_line fault
 
--- the text and the status of a report, where memory doesn't run out
-abbrev pub PrintsReport : ReportStyle → List RoutineTree → List Row → Answer → Type 0
-PrintsReport style trees rows (answer.Report text status) = IsReportPrinted style trees rows text status
-PrintsReport style trees rows (answer.Refused line notice help) = ⊥
-PrintsReport style trees rows (answer.Unread line help) = ⊥
-PrintsReport style trees rows (answer.Usage text) = ⊥
-PrintsReport style trees rows answer.OutOfMemory = Unit {0}
+-- the report of a program by rules and a certificate's blocks is printed
+abbrev pub IsReportOfBlocks : ReportStyle → List RoutineTree → RuleLists → List EntryCert → List ℕ → ℕ → Type 0
+IsReportOfBlocks style trees rules blocks text status = (rows : List Row) × IsReportBy trees rules blocks rows × IsReportPrinted style trees rows text status
 
--- a text, where memory doesn't run out
-abbrev pub PrintsText : List ℕ → Answer → Type 0
-PrintsText shown (answer.Report text status) = (text ≡ shown) × (status ≡ 0)
-PrintsText shown (answer.Refused line notice help) = ⊥
-PrintsText shown (answer.Unread line help) = ⊥
-PrintsText shown (answer.Usage text) = ⊥
-PrintsText shown answer.OutOfMemory = Unit {0}
+-- What is printed of a program and its rules, by what is asked, and the status: the report by the certificate that is given, or by
+-- one that is made, of which it is not said which; the text of a certificate that is made; what is shown of jobs after events.
+abbrev pub IsPrinted : ReportStyle → List RoutineTree → RuleLists → Work → List ℕ → ℕ → Type 0
+IsPrinted style trees rules (work.Check given workers) text status = (blocks : List EntryCert) × Spells blocks given.items × IsReportOfBlocks style trees rules blocks text status
+IsPrinted style trees rules (work.Verify workers) text status = (blocks : List EntryCert) × IsReportOfBlocks style trees rules blocks text status
+IsPrinted style trees rules (work.Make format) text status = IsMade trees rules format text × (status ≡ 0)
+IsPrinted style trees rules (work.Replay events) text status = IsReplayed trees rules events.items text × (status ≡ 0)
 
--- what is printed of an outcome, and the status: a certificate is printed as it is, and so is what is shown of jobs
-abbrev pub IsPrinted : ReportStyle → List RoutineTree → CheckedOutcome → List ℕ → ℕ → Type 0
-IsPrinted style trees (outcome.Report rows) text status = IsReportPrinted style trees rows text status
-IsPrinted style trees (outcome.Made made) text status = (text ≡ made.items) × (status ≡ 0)
-IsPrinted style trees (outcome.Replayed shown) text status = (text ≡ shown) × (status ≡ 0)
-
-abbrev pub PrintsOutcome : ReportStyle → List RoutineTree → CheckedOutcome → Answer → Type 0
-PrintsOutcome style trees o (answer.Report text status) = IsPrinted style trees o text status
-PrintsOutcome style trees o (answer.Refused line notice help) = ⊥
-PrintsOutcome style trees o (answer.Unread line help) = ⊥
-PrintsOutcome style trees o (answer.Usage text) = ⊥
-PrintsOutcome style trees o answer.OutOfMemory = Unit {0}
-
-abbrev pub Prints : ReportStyle → Checked → Answer → Type 0
-Prints style checked a = PrintsOutcome style (trees_of checked) checked.outcome a
+-- Why there is nothing to print: by the certificate that is given, or by one that is made; no certificate is made; or events can't
+-- be followed. The gate of the workers is always open.
+abbrev pub IsRefusedFor : Work → List RoutineTree → RuleLists → NoReport → Type 0
+IsRefusedFor (work.Check given workers) trees rules r = RefusesByText refusal.Check (Unit {0}) workers given.items trees rules r
+IsRefusedFor (work.Verify workers) trees rules r = IsUnmade trees rules r ⊎ ((blocks : List EntryCert) × RefusesReport refusal.Check (Unit {0}) workers trees rules blocks r)
+IsRefusedFor (work.Make format) trees rules r = IsUnmade trees rules r
+IsRefusedFor (work.Replay events) trees rules r = IsUnreplayed trees rules events.items r
 
 -- the line of a refusal, and what is printed beside it, where memory doesn't run out
 abbrev pub TellsRefusal : Output → NoReport → Answer → Type 0
@@ -127,6 +127,22 @@ TellsFault fault (answer.Unread line help) = ⊥
 TellsFault fault (answer.Usage text) = ⊥
 TellsFault fault answer.OutOfMemory = Unit {0}
 
+-- the line of a rule file's fault, where memory doesn't run out
+abbrev pub TellsRules : RulesFault → Answer → Type 0
+TellsRules fault (answer.Report text status) = ⊥
+TellsRules fault (answer.Refused line notice help) = (line ≡ rules_line fault) × (notice ≡ None)
+TellsRules fault (answer.Unread line help) = ⊥
+TellsRules fault (answer.Usage text) = ⊥
+TellsRules fault answer.OutOfMemory = Unit {0}
+
+-- the text of a rule file, where memory doesn't run out
+abbrev pub PrintsRules : Answer → Type 0
+PrintsRules (answer.Report text status) = IsRuleText text × (status ≡ 0)
+PrintsRules (answer.Refused line notice help) = ⊥
+PrintsRules (answer.Unread line help) = ⊥
+PrintsRules (answer.Usage text) = ⊥
+PrintsRules answer.OutOfMemory = Unit {0}
+
 -- the line of a path that can't be read, where memory doesn't run out
 abbrev pub TellsUnread : List ℕ → Answer → Type 0
 TellsUnread path (answer.Report text status) = ⊥
@@ -143,22 +159,25 @@ TellsPage code (answer.Unread line help) = ⊥
 TellsPage code (answer.Usage text) = ⊥
 TellsPage code answer.OutOfMemory = Unit {0}
 
--- what the texts at the paths of a program come to
+-- What the texts at the paths of a program come to: its routines are read and make a program, the text of its rules says rules,
+-- and this is printed of both.
 pub record IsProgramReported (holds : Texts) (program : ProgramRequest) (text : List ℕ) (status : ℕ) : Type 0 where
   pub sources : Sources
   pub texts : AreTexts holds program sources
   pub trees : List RoutineTree
-  pub outcome : CheckedOutcome
-  pub answered : IsChecked sources trees outcome
-  pub printed : IsPrinted (style_in program.asked) trees outcome text status
+  pub read : AreRead sources.routines.items trees
+  pub linked : IsProgram trees
+  pub rules : RuleLists
+  pub said : SaysRules sources.rules.items rules
+  pub printed : IsPrinted (style_in program.asked) trees rules sources.work text status
 
--- the refusal of the texts at the paths of a program
+-- The refusal of the texts at the paths of a program: of its routines, of their linking, of its rules, or for what is asked.
 pub record IsProgramRefused (holds : Texts) (program : ProgramRequest) (line : List ℕ) : Type 0 where
   pub sources : Sources
   pub texts : AreTexts holds program sources
   pub refusal : NoReport
-  pub refused : IsRefusedBy sources refusal
-  pub told : IsRefusalLine refusal line
+  pub refused : RefusesTexts refusal.Check sources.routines.items sources.rules.items (IsRefusedFor sources.work) refusal
+  pub printed : IsRefusalLine refusal line
 
 -- the text in this format of the certificate whose text stands at the path
 pub record IsConvertedThere (holds : Texts) (path : List ℕ) (format : CertFormat) (text : List ℕ) : Type 0 where
@@ -179,28 +198,58 @@ pub record IsSurveyed (holds : Texts) (survey : SurveyRequest) : Type 0 where
   pub sources : List Source
   pub texts : AreSources holds survey.routines.items sources
 
+-- Rules are suggested for the texts at the paths, whatever they are. What is printed is a rule file; which one, nothing says.
+pub record IsSuggested (holds : Texts) (paths : List (Bor (List ℕ))) (text : List ℕ) : Type 0 where
+  pub sources : List Source
+  pub texts : AreSources holds paths sources
+  pub rules : IsRuleText text
+
+-- the refusal of the rules beside which others were to be suggested
+pub record IsUnsuggested (holds : Texts) (suggestion : SuggestRequest) (line : List ℕ) : Type 0 where
+  pub path : List ℕ
+  pub named : beside_path suggestion.beside ≡ path ∷ []
+  pub given : List ℕ
+  pub held : holds path given
+  pub fault : RulesFault
+  pub refused : RefusesRules given (failure.Refused fault)
+  pub told : line ≡ rules_line fault
+
+-- the first of these paths that can't be read
+pub record IsFirstUnread (holds : Texts) (lacks : List ℕ → Type 0) (paths : List (List ℕ)) (line : List ℕ) : Type 0 where
+  pub path : List ℕ
+  pub lost : IsFirstLost holds lacks paths path
+  pub told : line ≡ file_line path
+
+-- what is answered if rules are suggested for the routines at these paths
+abbrev pub SuggestsFor : Texts → (List ℕ → Type 0) → List (Bor (List ℕ)) → Answer → Type 0
+SuggestsFor holds lacks paths (answer.Report text status) = IsSuggested holds paths text × (status ≡ 0)
+SuggestsFor holds lacks paths (answer.Refused line notice help) = ⊥
+SuggestsFor holds lacks paths (answer.Unread line help) = IsFirstUnread holds lacks (bytes_of paths) line
+SuggestsFor holds lacks paths (answer.Usage text) = ⊥
+SuggestsFor holds lacks paths answer.OutOfMemory = Unit {0}
+
 -- what the texts at the paths of a request come to: a certificate is printed as it is; what a page says is not said
 abbrev pub IsReported : Texts → Request → List ℕ → ℕ → Type 0
 IsReported holds (request.Program program) text status = IsProgramReported holds program text status
 IsReported holds (request.Convert certificate format) text status = IsConvertedThere holds certificate.now (cert_format format) text × (status ≡ 0)
 IsReported holds (request.Survey survey) text status = IsSurveyed holds survey × (status ≡ 0)
+IsReported holds (request.Suggest suggestion) text status = IsSuggested holds suggestion.routines.items text × (status ≡ 0)
 IsReported holds (request.Explain code) text status = status ≡ 0
 
 abbrev pub IsRefusedThere : Texts → Request → List ℕ → Type 0
 IsRefusedThere holds (request.Program program) line = IsProgramRefused holds program line
 IsRefusedThere holds (request.Convert certificate format) line = IsUnconvertedThere holds certificate.now (cert_format format) line
 IsRefusedThere holds (request.Survey survey) line = ⊥
+IsRefusedThere holds (request.Suggest suggestion) line = IsUnsuggested holds suggestion line
 IsRefusedThere holds (request.Explain code) line = line ≡ no_page_line code.now
 
 -- The line on the error stream, and what is printed beside it. What explains the line, below it on the error stream, is not said.
 abbrev pub IsRefusedSo : Texts → Request → List ℕ → Option (List ℕ) → Type 0
 IsRefusedSo holds request line notice = IsRefusedThere holds request line × IsNoticed (output_in request) notice
 
--- the first path that can't be read
-pub record IsUnread (holds : Texts) (lacks : List ℕ → Type 0) (request : Request) (line : List ℕ) : Type 0 where
-  pub path : List ℕ
-  pub lost : IsFirstLost holds lacks (paths_of request) path
-  pub told : line ≡ file_line path
+-- the first path of a request that can't be read
+abbrev pub IsUnread : Texts → (List ℕ → Type 0) → Request → List ℕ → Type 0
+IsUnread holds lacks request line = IsFirstUnread holds lacks (paths_of request) line
 
 -- What the program answers to a request. Want of memory says nothing.
 abbrev pub Answers : Texts → (List ℕ → Type 0) → Request → Answer → Type 0

@@ -1,8 +1,9 @@
 // What explains a refusal to people.
 
-use crate::explained::{Explaining, KeptTexts};
 use crate::refused::{refusal_code, refused_file, refused_spot};
-use crate::source::Files;
+use crate::source::{Files, Sources};
+use crate::stuck::push_faults;
+use crate::work::style_in;
 use mlk_cert::CertFault;
 use mlk_cli::ProgramRequest;
 use mlk_outcome::NoReport;
@@ -10,8 +11,26 @@ use mlk_pool::CheckError;
 use mlk_refusal_text::{
     GivenFile, Spot, code_help, entry_help, line_help, routine_help, rules_help, unread_help,
 };
+use mlk_rules_file::RulesFault;
 use mlk_text::Code;
+use mlk_watch::Watch;
 use std::alloc::{AllocError, Global};
+use std::sync::Wait;
+use std::thread::Threads;
+
+/// How much is explained to whoever reads the error stream.
+#[derive(Clone, Copy, Debug, PartialEq, Eq)]
+pub enum Explaining {
+    /// what the words ask for
+    AsAsked,
+    /// refusals too, if the words don't ask for it: people read the stream on a terminal
+    Refusals,
+}
+
+/// Whether a refusal of `program` is to be explained.
+pub(crate) fn is_refusal_explained(program: &ProgramRequest<'_>, explaining: Explaining) -> bool {
+    style_in(&program.asked).is_explained || explaining == Explaining::Refusals
+}
 
 // What explains a refusal of this code in a file.
 fn explanation(
@@ -32,32 +51,30 @@ fn explanation(
     }
 }
 
-// Whether texts were kept to explain a refusal.
-fn explains_refusals(kept: Option<&KeptTexts>) -> bool {
-    match kept {
-        Some(texts) => texts.explains_refusals,
-        None => false,
-    }
-}
-
 /// Writes what explains a refusal below its line: the line of the file, what is wrong there and what helps. Nothing is written
-/// unless that is asked for.
-pub(crate) fn refusal_help(
+/// unless an explanation is asked for. If no certificate can be made, the faults of the other entries follow, if the words ask for
+/// explanations.
+pub(crate) fn refusal_help<R: Threads + Wait + Sync, W: Watch>(
+    rt: &R,
     alloc: Global,
     refusal: &NoReport,
     program: &ProgramRequest<'_>,
-    kept: Option<&KeptTexts>,
+    sources: &Sources<'_>,
+    explaining: Explaining,
+    watch: &W,
 ) -> Result<Vec<u8>, AllocError> {
-    let Some(code) = refusal_code(refusal) else {
-        return Ok(Vec::new(alloc));
+    let code = match refusal_code(refusal) {
+        Some(code) if is_refusal_explained(program, explaining) => code,
+        _ => return Ok(Vec::new(alloc)),
     };
-    if !explains_refusals(kept) {
-        return Ok(Vec::new(alloc));
+    let mut help = match refused_file(refusal, program, sources) {
+        Some(file) => explanation(alloc, code, refusal, &file)?,
+        None => code_help(alloc, code)?,
+    };
+    if code == Code::GaveUp && style_in(&program.asked).is_explained {
+        push_faults(rt, alloc, &mut help, sources, watch)?;
     }
-    match refused_file(refusal, program, kept) {
-        Some(file) => explanation(alloc, code, refusal, &file),
-        None => code_help(alloc, code),
-    }
+    Ok(help)
 }
 
 /// Writes what explains why the certificate at `path`, which has this text, is refused; nothing unless `explaining` asks for it.
@@ -77,6 +94,20 @@ pub(crate) fn certificate_help<'a>(
         column: None,
     };
     line_help(alloc, fault.code, &file, spot)
+}
+
+/// Writes what explains why the rule file at `path`, which has this text, is refused; nothing unless `explaining` asks for it.
+pub(crate) fn rule_file_help<'a>(
+    alloc: Global,
+    path: &'a str,
+    text: &'a [u8],
+    fault: &RulesFault,
+    explaining: Explaining,
+) -> Result<Vec<u8>, AllocError> {
+    if explaining == Explaining::AsAsked {
+        return Ok(Vec::new(alloc));
+    }
+    rules_help(alloc, &GivenFile { path, text }, fault)
 }
 
 /// Writes why the file at `path` can't be read, below the line that says so; for this it is read once more. Nothing is written

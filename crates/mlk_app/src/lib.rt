@@ -2,7 +2,7 @@
 //! certificate or makes a survey, and says what it found.
 #![tactic(auto)]
 
-mod explained;
+mod answer;
 mod file;
 mod help;
 mod notice;
@@ -10,10 +10,12 @@ mod printed;
 mod program;
 mod refused;
 mod source;
+mod stuck;
 mod suggestion;
+mod work;
 
-pub use explained::Explaining;
 pub use file::{LONGEST_FILE, read_whole};
+pub use help::Explaining;
 pub use mlk_watch::{Stage, Unwatched, Watch};
-pub use program::{run, run_watched, wrong_words};
+pub use program::{run, wrong_words};
 pub use source::Files;

@@ -1,8 +1,7 @@
 // What is refused, and where.
 
-use crate::explained::KeptTexts;
 use crate::printed::events_code;
-use crate::source::stem_of;
+use crate::source::{Sources, Work, stem_of};
 use mlk_cli::{Asked, ProgramRequest};
 use mlk_outcome::NoReport;
 use mlk_pool::CheckError;
@@ -57,68 +56,44 @@ fn last_file_of(paths: &[&str], name: &[u8]) -> Option<usize> {
     found
 }
 
-fn given_text(text: &Option<Vec<u8>>) -> &[u8] {
-    match text {
-        Some(text) => text.as_slice(),
-        None => &[],
-    }
-}
-
-// The text of the routine of this number, if texts were kept.
-fn routine_text(texts: Option<&KeptTexts>, number: usize) -> &[u8] {
-    let Some(texts) = texts else {
-        return &[];
-    };
-    match texts.routines.as_slice().get(number) {
-        Some(text) => text.as_slice(),
-        None => &[],
-    }
-}
-
-// The file of the routine of this name.
+// The file of the routine with this name.
 fn routine_file<'a>(
     program: &ProgramRequest<'a>,
-    texts: Option<&'a KeptTexts>,
+    sources: &'a Sources<'a>,
     name: &[u8],
 ) -> Option<GivenFile<'a>> {
-    let paths = program.routines.as_slice();
-    let number = last_file_of(paths, name)?;
-    let path = paths.get(number).copied()?;
+    let number = last_file_of(program.routines.as_slice(), name)?;
+    let path = program.routines.as_slice().get(number).copied()?;
+    let source = sources.routines.as_slice().get(number)?;
     Some(GivenFile {
         path,
-        text: routine_text(texts, number),
+        text: source.text.as_slice(),
     })
 }
 
-// The file of the certificate or of the events, if one was given.
-fn work_file<'a>(
-    program: &ProgramRequest<'a>,
-    texts: Option<&'a KeptTexts>,
-) -> Option<GivenFile<'a>> {
+// The file of the certificate, if one was given, or of the events.
+fn work_file<'a>(program: &ProgramRequest<'a>, sources: &'a Sources<'a>) -> Option<GivenFile<'a>> {
     let path = match &program.asked {
         Asked::Check { certificate, .. } => *certificate,
         Asked::Replay(path) => *path,
         Asked::Make { .. } | Asked::Verify { .. } => return None,
     };
-    let text = match texts {
-        Some(texts) => given_text(&texts.work),
-        None => &[],
+    let text = match &sources.work {
+        Work::Check { certificate, .. } => certificate.as_slice(),
+        Work::Replay(events) => events.as_slice(),
+        Work::Make { .. } | Work::Verify { .. } => return None,
     };
     Some(GivenFile { path, text })
 }
 
-/// The rule file, with its text if that was kept.
+/// The rule file.
 pub(crate) fn rule_file<'a>(
     program: &ProgramRequest<'a>,
-    texts: Option<&'a KeptTexts>,
+    sources: &'a Sources<'a>,
 ) -> GivenFile<'a> {
-    let text = match texts {
-        Some(texts) => texts.rules.as_slice(),
-        None => &[],
-    };
     GivenFile {
         path: program.rules,
-        text,
+        text: sources.rules.as_slice(),
     }
 }
 
@@ -130,30 +105,29 @@ fn routine_in(entry: &[u8]) -> &[u8] {
     }
 }
 
-/// Finds the file that is refused, with its text if that was kept; `None` if no file is, or it is not known which.
+/// Finds the file that is refused; `None` if no file is, or it is not known which.
 pub(crate) fn refused_file<'a>(
     refusal: &NoReport,
     program: &ProgramRequest<'a>,
-    texts: Option<&'a KeptTexts>,
+    sources: &'a Sources<'a>,
 ) -> Option<GivenFile<'a>> {
     match refusal {
         NoReport::Check(CheckError::Routine(fault)) => {
-            routine_file(program, texts, fault.place.routine.as_bytes())
+            routine_file(program, sources, fault.place.routine.as_bytes())
         }
-        NoReport::GaveUp(entry, _) => routine_file(program, texts, routine_in(entry.as_bytes())),
+        NoReport::GaveUp(entry, _) => routine_file(program, sources, routine_in(entry.as_bytes())),
         NoReport::Check(CheckError::Certificate(_)) | NoReport::Events(_) => {
-            work_file(program, texts)
+            work_file(program, sources)
         }
         NoReport::Check(CheckError::Rules(_) | CheckError::Entry(_)) => {
-            Some(rule_file(program, texts))
+            Some(rule_file(program, sources))
         }
         NoReport::Check(CheckError::OutOfMemory | CheckError::Workers | CheckError::GateShut(_)) =>
             None,
     }
 }
 
-/// Finds where a file with this text is refused; `None` if the refusal is at no line. A place in a rule file is found only in its
-/// text.
+/// Finds where a file with this text is refused; `None` if the refusal is at no line.
 pub(crate) fn refused_spot(
     alloc: Global,
     refusal: &NoReport,
@@ -176,9 +150,7 @@ pub(crate) fn refused_spot(
             line: fault.line,
             column: None,
         })),
-        NoReport::Check(CheckError::Rules(fault)) if !text.is_empty() => {
-            rules_place(alloc, text, fault)
-        }
+        NoReport::Check(CheckError::Rules(fault)) => rules_place(alloc, text, fault),
         NoReport::Check(CheckError::Entry(entry)) => entry_place(alloc, text, entry.as_bytes()),
         _ => Ok(None),
     }

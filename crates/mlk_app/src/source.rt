@@ -7,9 +7,8 @@ ghost use Rattle.mlk_cli.specs.CommandLine.{bytes_of};
 
 use mlk_cert::CertFormat;
 use mlk_cli::{Asked, Format, ProgramRequest};
-use mlk_outcome::{Sources, Work};
 use mlk_pool::Source;
-use std::alloc::Global;
+use std::alloc::{AllocError, Global};
 use std::io::{self, ErrorKind};
 
 /// Where the texts of files come from.
@@ -24,6 +23,27 @@ pub trait Files {
     fn read(&self, alloc: Global, path: &str) -> io::Result<Vec<u8>>
         ensures ok { IfOk result (λ text. holds self.now path.now text.items) }
         ensures err { IfErr result (λ e. error_kind e ≢ ErrorKind.OutOfMemory → lacks self.now path.now) };
+}
+
+/// What is to be done with a program, with the texts that it takes.
+#[derive(Drop)]
+pub(crate) enum Work {
+    /// the check by this text of a certificate, by this number of workers
+    Check { certificate: Vec<u8>, workers: u32 },
+    /// a certificate is made, and its text has this format
+    Make { format: CertFormat },
+    /// the check by the certificate that is made, by this number of workers
+    Verify { workers: u32 },
+    /// the events of this text are replayed
+    Replay(Vec<u8>),
+}
+
+/// The texts of the files that a command names.
+#[derive(Drop)]
+pub(crate) struct Sources<'a> {
+    pub(crate) work: Work,
+    pub(crate) rules: Vec<u8>,
+    pub(crate) routines: Vec<Source<'a>>,
 }
 
 /// Why a file was not read.
@@ -165,4 +185,17 @@ pub(crate) fn read_files<'a, F: Files>(
         rules,
         routines,
     })
+}
+
+/// Copies the texts of the routines, in their order, for what shows lines of them.
+pub(crate) fn copied_texts(
+    alloc: Global,
+    sources: &[Source<'_>],
+) -> Result<Vec<Vec<u8>>, AllocError> {
+    let mut texts = Vec::with_capacity(alloc, sources.len())?;
+    for source in sources {
+        let text = Vec::from_slice(alloc, source.text.as_slice())?;
+        texts.push(text)?;
+    }
+    Ok(texts)
 }

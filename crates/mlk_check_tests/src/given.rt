@@ -3,11 +3,12 @@
 use crate::faults::{self, Walk, is_walked};
 use crate::jobs::{self, Script, Wanted, is_replayed};
 use crate::news::{self, are_new};
-use mlk_make::make;
+use mlk_make::make_certificate;
 use mlk_program::{Program, link};
 use mlk_routine::read_routine;
 use mlk_rules_file::read_rules;
 use mlk_syntax::Routine;
+use mlk_watch::Unwatched;
 use std::alloc::Global;
 
 /// What is tried.
@@ -33,8 +34,8 @@ impl Trial {
 
 fn is_certified_so(alloc: Global, program: &Program<'_>, walk: Walk) -> Option<bool> {
     let rules = read_rules(alloc, walk.rules()).ok()?;
-    let made = make(alloc, program, &rules).ok()?;
-    is_walked(alloc, program, &rules, &made.certificate, walk)
+    let certificate = make_certificate(alloc, program, &rules, &Unwatched).ok()?;
+    is_walked(alloc, program, &rules, &certificate, walk)
 }
 
 fn is_linked_so(alloc: Global, routines: &[Routine], trial: Trial) -> Option<bool> {

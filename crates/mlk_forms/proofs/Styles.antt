@@ -9,7 +9,7 @@ use Rattle.mlk_hazards.specs.declared.hazard.HazardAt.{HazardAt}
 use Rattle.mlk_cli.specs.declared.words.Output.TheVariants.{Text}
 use Rattle.mlk_cli.specs.declared.words.ReportStyle.{ReportStyle}
 use Rattle.mlk_pool.specs.Texts.{report_text}
-use Rattle.mlk_forms.specs.Told.{IsReportTold, hazard_lines, passes}
+use Rattle.mlk_forms.specs.Rendering.{IsRendered, hazard_lines, passes}
 
 passes-no-row : (rows : List Row) (hazards : List HazardAt) → passes rows hazards ≡ true → rows ≡ []
 passes-no-row [] hazards is = refl
@@ -18,12 +18,12 @@ passes-no-row (r ∷ rows) hazards is =
     absurd (omega (arith, none))
 
 -- In whatever form a report is told, it has no fault where it passes.
-pub passed-no-row : (style : ReportStyle) (trees : List RoutineTree) (rows : List Row) (text : List ℕ) → IsReportTold style trees rows text true → rows ≡ []
+pub passed-no-row : (style : ReportStyle) (trees : List RoutineTree) (rows : List Row) (text : List ℕ) → IsRendered style trees rows text true → rows ≡ []
 passed-no-row style trees rows text told = passes-no-row rows told.hazards (sym told.ended)
 
 -- Where the words ask for nothing else, the text is that of the report and no byte more.
 pub plain-text : (style : ReportStyle) (trees : List RoutineTree) (rows : List Row) (text : List ℕ) (passed : Bool)
-    → style ≡ record { output = Text; is_strict = false; is_explained = false } → IsReportTold style trees rows text passed → text ≡ report_text trees rows
+    → style ≡ record { output = Text; is_strict = false; is_explained = false } → IsRendered style trees rows text passed → text ≡ report_text trees rows
 plain-text style trees rows text passed plain told =
-    let usual = subst (λ s. IsReportTold s trees rows text passed) plain told in
-    usual.printed ∙ ap (λ hazards. report_text trees rows ++ hazard_lines hazards) usual.told ∙ append-nil (report_text trees rows)
+    let usual = subst (λ s. IsRendered s trees rows text passed) plain told in
+    usual.printed ∙ ap (λ hazards. report_text trees rows ++ hazard_lines hazards) usual.reported ∙ append-nil (report_text trees rows)

@@ -1,7 +1,7 @@
 // Refusals in the form that is asked for.
 
 ghost use Rattle.std.specs.Prelude.{IfOk};
-ghost use Rattle.mlk_forms.specs.Told.{IsNoticed};
+ghost use Rattle.mlk_forms.specs.Rendering.{IsNoticed};
 
 use mlk_cli::Output;
 use mlk_output::{Notice, notice_json, notice_sarif};

@@ -3,13 +3,13 @@
 ghost use Rattle.std.specs.Prelude.{◌≡◌, ◌++◌, IfOk, OnOk, map};
 ghost use Rattle.mlk_syntax.specs.Views.{routine_of};
 ghost use Rattle.mlk_pool.specs.Texts.{report_text};
-ghost use Rattle.mlk_forms.specs.Told.{AreTold, IsReportIn, IsReportAs, IsReportTold, hazard_line, hazard_lines, passes};
+ghost use Rattle.mlk_forms.specs.Rendering.{AreReported, IsExplained, IsReportIn, IsReportAs, IsRendered, hazard_line, hazard_lines, passes};
 
 use crate::notice::with_end;
 use mlk_cli::{Output, ReportStyle};
-use mlk_explain::{Grounds, explained_rows, note_below};
+use mlk_explain::{Grounds, Story, explained_rows, note_below, stories_of};
 use mlk_hazards::{HazardAt, hazards_of};
-use mlk_output::{Inputs, report_json, report_sarif};
+use mlk_output::{Findings, Inputs, report_json, report_sarif};
 use mlk_pool::{ReportText, push_answer, report_text};
 use mlk_report_text::Piece::{At, Bytes, Words};
 use mlk_report_text::text_of;
@@ -31,7 +31,7 @@ fn reported_hazards<'a>(
     routines: &'a [Routine],
     is_strict: bool,
 ) -> Result<Vec<HazardAt<'a>>, AllocError>
-    ensures { IfOk result (λ hazards. AreTold is_strict hazards.items) }
+    ensures { IfOk result (λ hazards. AreReported is_strict hazards.items) }
 {
     if !is_strict {
         return Ok(Vec::new(alloc));
@@ -90,18 +90,66 @@ fn plain_text(
     Ok(text)
 }
 
+// The faults with what explains them; nothing is looked up if there is none.
+fn explained_faults(
+    alloc: Global,
+    grounds: &Grounds<'_>,
+    report: &Report,
+) -> Result<Vec<u8>, AllocError> {
+    if report.rows().is_empty() {
+        return Ok(Vec::new(alloc));
+    }
+    explained_rows(alloc, grounds, report)
+}
+
+// What is known of each fault.
+fn stories_in(
+    alloc: Global,
+    grounds: &Grounds<'_>,
+    report: &Report,
+) -> Result<Vec<Option<Story>>, AllocError> {
+    if report.rows().is_empty() {
+        return Ok(Vec::new(alloc));
+    }
+    stories_of(alloc, grounds, report)
+}
+
 // The text with explanations, by these grounds.
 fn explained_text(
     alloc: Global,
     grounds: &Grounds<'_>,
     report: &Report,
     hazards: &[HazardAt<'_>],
-) -> Result<ReportText, AllocError> {
-    let mut text = ReportText::of(explained_rows(alloc, grounds, report)?);
+) -> Result<ReportText, AllocError>
+    ensures { IfOk result (IsExplained report.now hazards.now) }
+{
+    let mut text = ReportText::of(explained_faults(alloc, grounds, report)?);
     push_answer(&mut text, report.rows())?;
     text.push(note_below(grounds, report).as_bytes())?;
     push_hazards(alloc, &mut text, hazards)?;
     Ok(text)
+}
+
+// The report as JSON, or as SARIF, each fault with what `grounds` know of it.
+fn machine_text(
+    alloc: Global,
+    inputs: &Inputs<'_>,
+    report: &Report,
+    style: ReportStyle,
+    hazards: &[HazardAt<'_>],
+    grounds: &Grounds<'_>,
+) -> Result<ReportText, AllocError> {
+    let stories = stories_in(alloc, grounds, report)?;
+    let findings = Findings {
+        report,
+        stories: stories.as_slice(),
+        hazards: if style.is_strict { Some(hazards) } else { None },
+    };
+    let text = match style.output {
+        Output::Sarif => report_sarif(alloc, inputs, &findings)?,
+        Output::Json | Output::Text => report_json(alloc, inputs, &findings)?,
+    };
+    with_end(text)
 }
 
 // The text in the form that is asked for, with these hazards.
@@ -111,33 +159,33 @@ fn text_in(
     report: &Report,
     style: ReportStyle,
     hazards: &[HazardAt<'_>],
+    grounds: &Grounds<'_>,
 ) -> Result<ReportText, AllocError>
     ensures { IfOk result (IsReportIn style.output (map routine_of inputs.now.routines.now) report.now hazards.now) }
 {
-    let reported = if style.is_strict { Some(hazards) } else { None };
-    let text = match style.output {
-        Output::Text => plain_text(alloc, inputs.routines, report, hazards)?,
-        Output::Json => with_end(report_json(alloc, inputs, report, reported)?)?,
-        Output::Sarif => with_end(report_sarif(alloc, inputs, report, reported)?)?,
-    };
-    Ok(text)
+    match style.output {
+        Output::Text => plain_text(alloc, inputs.routines, report, hazards),
+        Output::Json | Output::Sarif => machine_text(
+            alloc, inputs, report, style, hazards, grounds,
+        ),
+    }
 }
 
-// The text in the style that is asked for. Without grounds nothing is explained.
+// The text in the style that is asked for.
 fn styled_text(
     alloc: Global,
     inputs: &Inputs<'_>,
     report: &Report,
     style: ReportStyle,
     hazards: &[HazardAt<'_>],
-    grounds: Option<&Grounds<'_>>,
+    grounds: &Grounds<'_>,
 ) -> Result<ReportText, AllocError>
     ensures { IfOk result (IsReportAs style.is_explained style.output (map routine_of inputs.now.routines.now) report.now hazards.now) }
 {
-    match grounds {
-        Some(grounds) if style.is_explained => explained_text(alloc, grounds, report, hazards),
-        _ => text_in(alloc, inputs, report, style, hazards),
+    if style.is_explained {
+        return explained_text(alloc, grounds, report, hazards);
     }
+    text_in(alloc, inputs, report, style, hazards, grounds)
 }
 
 fn passes(report: &Report, hazards: &[HazardAt<'_>]) -> bool
@@ -146,16 +194,15 @@ fn passes(report: &Report, hazards: &[HazardAt<'_>]) -> bool
     report.rows().is_empty() && hazards.is_empty()
 }
 
-/// Writes a report in the style that is asked for, and says whether it passes. Explanations need grounds; without them the report
-/// is written as if none were asked for.
+/// Writes `report` in the `style` that is asked for, and says whether it passes. `grounds` explain it, if that is asked for.
 pub fn render_report(
     alloc: Global,
     inputs: &Inputs<'_>,
     report: &Report,
     style: ReportStyle,
-    grounds: Option<&Grounds<'_>>,
+    grounds: &Grounds<'_>,
 ) -> Result<PrintedReport, AllocError>
-    ensures { IfOk result (λ printed. IsReportTold style (map routine_of inputs.now.routines.now) report.now printed.text printed.passes) }
+    ensures { IfOk result (λ printed. IsRendered style (map routine_of inputs.now.routines.now) report.now printed.text printed.passes) }
 {
     let hazards = reported_hazards(alloc, inputs.routines, style.is_strict)?;
     let reported = hazards.as_slice();

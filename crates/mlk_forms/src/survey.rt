@@ -63,11 +63,11 @@ fn render_answers(
 pub fn render_survey<R: Threads + Sync, W: Watch>(
     rt: &R,
     alloc: Global,
-    sources: Vec<Source<'_>>,
+    sources: &[Source<'_>],
     output: SurveyOutput,
     watch: &W,
 ) -> Result<PrintedSurvey, AllocError>
-    ensures { IfOk result (λ printed. printed.read + printed.refused ≡ length sources.entry.items) }
+    ensures { IfOk result (λ printed. printed.read + printed.refused ≡ length sources.now) }
 {
     let readings = read_all_lines(rt, alloc, sources, watch)?;
     let answers = readings.answers.as_slice();

@@ -4,7 +4,7 @@ use crate::maker::{Ground, Maker, has_changed, number_of};
 use crate::mend::done;
 use crate::need::formals_of;
 use crate::settle::settle_lines;
-use crate::stop::{GaveUp, Stop, gave_up};
+use crate::stop::{GaveUp, Stop, WhenStuck, gave_up};
 use mlk_cert::{Case, NameSet, Own, Shared, Test};
 use mlk_make_drafts::{At, Draft};
 use mlk_program::{EntryId, Program};
@@ -45,12 +45,10 @@ fn begin_case(ground: &Ground<'_>, draft: &Draft) -> Result<Case, AllocError> {
 }
 
 // The line after an entry's lines.
-fn line_after<'a>(program: &Program<'a>, entry: EntryId) -> Result<Option<&'a Line>, AllocError> {
-    let lines = program.lines_of(entry);
-    let Some(place) = entry.line().checked_add(lines.len()) else {
-        return Err(AllocError);
-    };
-    Ok(program.line(EntryId::new(entry.routine(), place)))
+fn line_after<'a>(program: &Program<'a>, entry: EntryId) -> Option<&'a Line> {
+    let count = program.lines_of(entry).len();
+    let after = EntryId::new(entry.routine(), entry.line().saturating_add(count));
+    program.line(after)
 }
 
 // The case in which an entry begins is listed at its line.
@@ -71,7 +69,7 @@ fn begin(ground: &Ground<'_>, maker: &mut Maker, draft: &mut Draft) -> Result<()
 fn sweep(ground: &Ground<'_>, maker: &mut Maker, draft: &mut Draft) -> Result<bool, Failure<Stop>> {
     begin(ground, maker, draft)?;
     let before = draft.changed;
-    let around = Around::Frame(line_after(ground.program, draft.entry)?);
+    let around = Around::Frame(line_after(ground.program, draft.entry));
     settle_lines(
         ground.program.lines_of(draft.entry),
         around,
@@ -108,6 +106,30 @@ fn is_stale(maker: &Maker, draft: &Draft) -> bool {
         .any(|entry| has_changed(maker, *entry, walked))
 }
 
+// Notes that an entry is given up, if the maker continues then.
+fn give_up(maker: &mut Maker, place: GaveUp) -> Result<(), Failure<GaveUp>> {
+    if maker.when_stuck == WhenStuck::Stop {
+        return Err(Failure::Refused(place));
+    }
+    maker.given_up.push(place)?;
+    Ok(())
+}
+
+// The number of changes after which an entry was walked. One that is given up is not walked again.
+fn changes_after(
+    maker: &mut Maker,
+    walked: Result<(), Failure<GaveUp>>,
+) -> Result<usize, Failure<GaveUp>> {
+    match walked {
+        Ok(()) => Ok(maker.changes),
+        Err(Failure::OutOfMemory) => Err(Failure::OutOfMemory),
+        Err(Failure::Refused(place)) => {
+            give_up(maker, place)?;
+            Ok(usize::MAX)
+        }
+    }
+}
+
 /// Walks an entry of which something is known, unless nothing has changed that its walk asks.
 pub(crate) fn walk_entry(
     ground: &Ground<'_>,
@@ -118,8 +140,8 @@ pub(crate) fn walk_entry(
         return Ok(());
     };
     if is_stale(maker, &draft) {
-        walk(ground, maker, &mut draft)?;
-        draft.walked = Some(maker.changes);
+        let walked = walk(ground, maker, &mut draft);
+        draft.walked = Some(changes_after(maker, walked)?);
     }
     maker.drafts.insert(entry, draft)?;
     Ok(())

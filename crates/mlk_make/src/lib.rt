@@ -16,6 +16,6 @@ mod stop;
 mod text;
 mod walk;
 
-pub use rounds::{make, make_certificate, make_watched};
+pub use rounds::{MadeDespite, make, make_certificate, make_despite};
 pub use stop::{GaveUp, MakeError};
 pub use text::text_in;

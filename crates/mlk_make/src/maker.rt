@@ -1,6 +1,6 @@
 // All entries of which something is known.
 
-use crate::stop::Stop;
+use crate::stop::{GaveUp, Stop, WhenStuck};
 use mlk_calls::Entries;
 use mlk_make_drafts::Draft;
 use mlk_program::{EntryId, Program};
@@ -20,7 +20,7 @@ pub(crate) struct Ground<'a> {
     pub(crate) declared: &'a Entries<'a>,
 }
 
-/// What is known of all entries but the one that is walked, and the changes so far.
+/// What is known of all entries but the one that is walked, the changes so far, and the entries that were given up.
 #[derive(Drop)]
 pub(crate) struct Maker {
     pub(crate) drafts: BTreeMap<EntryId, Draft>,
@@ -28,15 +28,20 @@ pub(crate) struct Maker {
     pub(crate) changes: usize,
     /// whether this is the last round, in which nothing may change
     pub(crate) last: bool,
+    pub(crate) when_stuck: WhenStuck,
+    /// where entries were given up
+    pub(crate) given_up: Vec<GaveUp>,
 }
 
 impl Maker {
     /// Nothing is known.
-    pub(crate) fn new(alloc: Global) -> Maker {
+    pub(crate) fn new(alloc: Global, when_stuck: WhenStuck) -> Maker {
         Maker {
             drafts: BTreeMap::new(alloc),
             changes: 0,
             last: false,
+            when_stuck,
+            given_up: Vec::new(alloc),
         }
     }
 

@@ -1,28 +1,35 @@
 // The maker's rounds.
 
 ghost use Rattle.std.specs.Prelude.{◌≡◌, IfOk, IfErr, None, find, map};
-ghost use Rattle.mlk_text.specs.Failures.{IfRefused};
 ghost use Rattle.mlk_syntax.specs.Views.{routine_of};
-ghost use Rattle.mlk_cert.specs.declared.format.CertFormat.TheVariants.{First};
-ghost use Rattle.mlk_make.specs.Missing.{is_missing, IsUnmade, IsUnspelled};
+ghost use Rattle.mlk_make.specs.Missing.{is_missing, IsUnmade};
 ghost use Rattle.mlk_make.specs.Texts.{SpellsIn};
 
 use crate::entry::walk_entry;
 use crate::finish::{certificate_in, finish};
 use crate::maker::{Ground, Maker};
 use crate::missing::first_missing;
-use crate::stop::{GaveUp, MakeError};
+use crate::stop::{GaveUp, MakeError, WhenStuck};
 use mlk_calls::Entries;
 use mlk_cert::{CertFormat, Certificate, Spelled};
 use mlk_program::{EntryId, Program};
 use mlk_rules::{Rules, entries};
 use mlk_syntax::Line;
 use mlk_text::{Failure, Value};
-use mlk_watch::{Stage, Unwatched, Watch};
+use mlk_watch::{Stage, Watch};
 use std::alloc::{AllocError, Global};
+use std::mem;
 
 /// How many rounds are made.
 const MOST_ROUNDS: usize = 64;
+
+/// A certificate that is made though the maker gave up at some entries.
+#[derive(Drop)]
+pub struct MadeDespite {
+    pub certificate: Certificate,
+    /// where the maker gave up, in the order in which it did
+    pub given_up: Vec<GaveUp>,
+}
 
 // The declared entries are to be certified.
 fn declare(ground: &Ground<'_>, maker: &mut Maker) -> Result<(), AllocError> {
@@ -82,22 +89,33 @@ fn walk_rounds<W: Watch>(
 }
 
 // Walks the declared entries and all that they reach.
-fn walked<W: Watch>(ground: &Ground<'_>, watch: &W) -> Result<Maker, Failure<GaveUp>> {
-    let mut maker = Maker::new(ground.alloc);
+fn walked<W: Watch>(
+    ground: &Ground<'_>,
+    when_stuck: WhenStuck,
+    watch: &W,
+) -> Result<Maker, Failure<GaveUp>> {
+    let mut maker = Maker::new(ground.alloc, when_stuck);
     declare(ground, &mut maker)?;
     walk_rounds(ground, &mut maker, watch)?;
     Ok(maker)
 }
 
-// What is known of the declared entries and of all that they reach, once nothing changes any more.
+// What is known of the declared entries and of all that they reach, once nothing changes any more. Refuses the first declared entry
+// that is not in `program`.
 fn certify<W: Watch>(
     alloc: Global,
     program: &Program<'_>,
     rules: &Rules,
+    when_stuck: WhenStuck,
     watch: &W,
 ) -> Result<Maker, Failure<MakeError>>
-    ensures { IfErr result (λ e. IfRefused e IsUnspelled) }
+    ensures made { IfOk result (λ m. find (is_missing (map routine_of program.now)) rules.now.entries ≡ None) }
+    ensures refused { IfErr result (IsUnmade (map routine_of program.now) rules.now.entries) }
 {
+    if let Some(text) = first_missing(program, entries(rules)) {
+        let text = Value::of(alloc, text)?;
+        return Err(Failure::Refused(MakeError::EntryMissing(text)));
+    }
     let declared = Entries::of(alloc, program, rules, &[])?;
     let ground = Ground {
         alloc,
@@ -105,50 +123,33 @@ fn certify<W: Watch>(
         rules,
         declared: &declared,
     };
-    match walked(&ground, watch) {
+    match walked(&ground, when_stuck, watch) {
         Ok(maker) => Ok(maker),
         Err(Failure::OutOfMemory) => Err(Failure::OutOfMemory),
         Err(Failure::Refused(place)) => Err(Failure::Refused(MakeError::GaveUp(place))),
     }
 }
 
-/// Makes a certificate of the declared entries, and of all that they reach by calls, and its text in the first format. Its
-/// entries are in the program's order.
+/// Makes a certificate of the declared entries, and of all that they reach by calls, and its text in `format`. Its entries are in
+/// the program's order.
 ///
 /// Their summaries begin empty. In each round every entry is walked, in order, until its lists grow no more: what would
 /// mend a fault is put in, where it can be. A further round is made while one changes something; 64 are too many. What was
-/// found is written, and the certificate is read of the text.
-pub fn make(
-    alloc: Global,
-    program: &Program<'_>,
-    rules: &Rules,
-) -> Result<Spelled, Failure<MakeError>>
-    // It keeps to all limits, and the text is its own. None is made where the program lacks a declared entry:
-    ensures spells { IfOk result (λ s. SpellsIn First s.certificate s.text.items) }
-    ensures made { IfOk result (λ s. find (is_missing (map routine_of program.now)) rules.now.entries ≡ None) }
-    // then that is told, and nothing else is told so.
-    ensures refused { IfErr result (IsUnmade (map routine_of program.now) rules.now.entries) }
-{
-    make_watched(alloc, program, rules, CertFormat::First, &Unwatched)
-}
-
-/// What `make` makes, with its text in a format, and how far it has come is told as it goes.
-pub fn make_watched<W: Watch>(
+/// found is written, and of the first format the certificate is read of the text. `watch` sees how far the work has come.
+pub fn make<W: Watch>(
     alloc: Global,
     program: &Program<'_>,
     rules: &Rules,
     format: CertFormat,
     watch: &W,
 ) -> Result<Spelled, Failure<MakeError>>
+    // It keeps to all limits, and the text is its own. None is made if a declared entry is missing in the program:
     ensures spells { IfOk result (λ s. SpellsIn format s.certificate s.text.items) }
     ensures made { IfOk result (λ s. find (is_missing (map routine_of program.now)) rules.now.entries ≡ None) }
+    // then that is refused, and nothing else is refused so.
     ensures refused { IfErr result (IsUnmade (map routine_of program.now) rules.now.entries) }
 {
-    if let Some(text) = first_missing(program, entries(rules)) {
-        let text = Value::of(alloc, text)?;
-        return Err(Failure::Refused(MakeError::EntryMissing(text)));
-    }
-    let maker = certify(alloc, program, rules, watch)?;
+    let maker = certify(alloc, program, rules, WhenStuck::Stop, watch)?;
     finish(alloc, maker, format)
 }
 
@@ -163,10 +164,25 @@ pub fn make_certificate<W: Watch>(
     ensures made { IfOk result (λ c. find (is_missing (map routine_of program.now)) rules.now.entries ≡ None) }
     ensures refused { IfErr result (IsUnmade (map routine_of program.now) rules.now.entries) }
 {
-    if let Some(text) = first_missing(program, entries(rules)) {
-        let text = Value::of(alloc, text)?;
-        return Err(Failure::Refused(MakeError::EntryMissing(text)));
-    }
-    let maker = certify(alloc, program, rules, watch)?;
+    let maker = certify(alloc, program, rules, WhenStuck::Stop, watch)?;
     certificate_in(alloc, maker)
+}
+
+/// Makes the certificate that `make` makes, and where that gives up, one that has of the entries that were given up only what was
+/// found so far. So the check by it says what is wrong in the other entries, too.
+pub fn make_despite<W: Watch>(
+    alloc: Global,
+    program: &Program<'_>,
+    rules: &Rules,
+    watch: &W,
+) -> Result<MadeDespite, Failure<MakeError>>
+    ensures refused { IfErr result (IsUnmade (map routine_of program.now) rules.now.entries) }
+{
+    let mut maker = certify(alloc, program, rules, WhenStuck::Leave, watch)?;
+    let given_up = mem::replace(&mut maker.given_up, Vec::new(alloc));
+    let certificate = certificate_in(alloc, maker)?;
+    Ok(MadeDespite {
+        certificate,
+        given_up,
+    })
 }

@@ -24,6 +24,15 @@ pub struct GaveUp {
     pub fault: Fault,
 }
 
+/// What the maker does with an entry at which it gives up.
+#[derive(Clone, Copy, Drop, PartialEq, Eq)]
+pub(crate) enum WhenStuck {
+    /// it makes no certificate
+    Stop,
+    /// it leaves what is known of the entry as it is, and continues with the others
+    Leave,
+}
+
 /// Why the walk of an entry stops.
 #[derive(Clone, Copy, Debug, Drop)]
 pub(crate) enum Stop {

@@ -1,2 +1,2 @@
 pub mod Checks
-pub mod OpenGate
+pub mod NeverShut

@@ -1,3 +1,4 @@
-pub mod Checked
-pub mod Converted
-pub mod Replayed
+pub mod Refusals
+pub mod Making
+pub mod Replaying
+pub mod Conversion

@@ -1,7 +1,7 @@
 // A certificate in another format.
 
 ghost use Rattle.std.specs.Prelude.{IfOk, IfErr};
-ghost use Rattle.mlk_outcome.specs.Converted.{IsConverted, IsUnconverted};
+ghost use Rattle.mlk_outcome.specs.Conversion.{IsConverted, IsUnconverted};
 
 use mlk_cert::{CertFault, CertFormat, read_cert};
 use mlk_make::text_in;
@@ -9,9 +9,11 @@ use mlk_text::Failure;
 use mlk_watch::Watch;
 use std::alloc::Global;
 
-/// The text in a format of the certificate that a text spells, in either format. Refuses a text that spells none, with the
-/// code and the place of its first fault (601 to 607), and one whose certificate is too long in that format (605).
-pub fn converted<W: Watch>(
+/// Converts the text `given` of a certificate, in either format, to the text of that certificate in `format`.
+///
+/// Refuses a text that spells none, with the code and the place of its first fault (601 to 607), and one whose certificate is too
+/// long in `format` (605).
+pub fn convert<W: Watch>(
     alloc: Global,
     given: &[u8],
     format: CertFormat,

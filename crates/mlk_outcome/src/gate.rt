@@ -4,7 +4,7 @@ use mlk_pool::Gate;
 
 /// A gate that is always open.
 #[derive(Drop)]
-pub(crate) struct OpenGate;
+pub struct OpenGate;
 
 impl Gate for OpenGate {
     ghost is_open = { λ _. Unit {0} };

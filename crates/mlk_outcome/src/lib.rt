@@ -1,13 +1,17 @@
-//! What the texts of files come to: the report on a program, by its certificate or by one that is made; a certificate that is
-//! made or written in another format; what is shown of jobs after events; or why there is none.
+//! What the commands make of a program and its rules: a certificate, the report by one, what is shown of jobs after events; and a
+//! certificate in another format. Or why there is none.
 #![tactic(auto)]
 
-mod checked;
+mod checking;
 mod conversion;
 mod gate;
-mod replayed;
-mod texts;
+mod making;
+mod refusal;
+mod replaying;
 
-pub use checked::{Checked, CheckedOutcome, NoReport, check_texts};
-pub use conversion::converted;
-pub use texts::{Sources, Work};
+pub use checking::report_by_certificate;
+pub use conversion::convert;
+pub use gate::OpenGate;
+pub use making::{certificate_for, certificate_text};
+pub use refusal::NoReport;
+pub use replaying::jobs_text;

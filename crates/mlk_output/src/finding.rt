@@ -4,7 +4,7 @@ use crate::hash::{HashedLine, LineHash};
 use crate::notice::Place;
 use crate::region::physical_value;
 use mlk_report_text::Piece::{Bytes, Number, Words};
-use mlk_report_text::{Field, escape_bytes, object, text_of};
+use mlk_report_text::{Field, escape_bytes, member, object, text_of};
 use serde_json::{Value, json};
 use std::alloc::{AllocError, Global};
 use std::collections::BTreeMap;
@@ -15,8 +15,8 @@ pub(crate) struct Finding<'a> {
     /// the id of its rule
     pub(crate) rule: Vec<u8>,
     pub(crate) level: &'static str,
-    pub(crate) name: &'static [u8],
-    pub(crate) meaning: &'static str,
+    /// what is said of it
+    pub(crate) message: Vec<u8>,
     pub(crate) place: Place<'a>,
     /// the line at that place, if the file has it
     pub(crate) line: Option<HashedLine<'a>>,
@@ -24,6 +24,45 @@ pub(crate) struct Finding<'a> {
     pub(crate) within: Vec<u8>,
     pub(crate) kind: &'static str,
     pub(crate) fingerprint: &'static str,
+    /// from the finding to what is behind it
+    pub(crate) way: Vec<WayStep<'a>>,
+}
+
+/// A place on the way from a finding to what is behind it.
+#[derive(Drop)]
+pub(crate) struct WayStep<'a> {
+    pub(crate) place: Place<'a>,
+    pub(crate) message: Vec<u8>,
+}
+
+// A place on the way, with what happens there.
+fn step_value(alloc: Global, step: &WayStep<'_>) -> Result<Value, AllocError> {
+    let physical = physical_value(alloc, &step.place, None)?;
+    let message = member(alloc, "text", Field::Bytes(step.message.as_slice()))?;
+    let members = vec![in alloc;
+        ("physicalLocation", Field::Value(physical)),
+        ("message", Field::Value(message)),
+    ]?;
+    object(alloc, members)
+}
+
+fn way_values(alloc: Global, way: &[WayStep<'_>]) -> Result<Value, AllocError> {
+    let mut values = Vec::with_capacity(alloc, way.len())?;
+    for step in way {
+        values.push(step_value(alloc, step)?)?;
+    }
+    Ok(Value::Array(values))
+}
+
+// The way from a finding to what is behind it, as one flow.
+fn flow_value(alloc: Global, finding: &Finding<'_>) -> Result<Value, AllocError> {
+    let mut values = Vec::with_capacity(alloc, finding.way.len())?;
+    for step in &finding.way {
+        let step = step_value(alloc, step)?;
+        values.push(member(alloc, "location", Field::Value(step))?)?;
+    }
+    let locations = Value::Array(values);
+    json!(in alloc; [{"threadFlows": [{"locations": locations}]}])
 }
 
 // The places of a finding.
@@ -85,18 +124,23 @@ pub(crate) fn result_value(
     counts: &mut BTreeMap<Vec<u8>, usize>,
     finding: &Finding<'_>,
 ) -> Result<Value, AllocError> {
-    let name = escape_bytes(alloc, finding.name)?;
-    let meaning = finding.meaning;
-    let message = format!(in alloc; "{name}: {meaning}")?;
+    let message = escape_bytes(alloc, finding.message.as_slice())?;
     let own = fingerprint(alloc, counts, finding)?;
     let fingerprints = fingerprints_value(alloc, finding.fingerprint, own, finding.line)?;
     let locations = locations_value(alloc, finding)?;
-    let rule = escape_bytes(alloc, finding.rule.as_slice())?;
-    json!(in alloc; {
-        "ruleId": &rule,
-        "level": finding.level,
-        "message": {"text": &message},
-        "locations": locations,
-        "partialFingerprints": fingerprints,
-    })
+    let message = member(alloc, "text", Field::Text(message.as_str()))?;
+    let mut members = vec![in alloc;
+        ("ruleId", Field::Bytes(finding.rule.as_slice())),
+        ("level", Field::Text(finding.level)),
+        ("message", Field::Value(message)),
+        ("locations", Field::Value(locations)),
+        ("partialFingerprints", Field::Value(fingerprints)),
+    ]?;
+    if !finding.way.is_empty() {
+        let related = way_values(alloc, finding.way.as_slice())?;
+        let flow = flow_value(alloc, finding)?;
+        members.push(("relatedLocations", Field::Value(related)))?;
+        members.push(("codeFlows", Field::Value(flow)))?;
+    }
+    object(alloc, members)
 }

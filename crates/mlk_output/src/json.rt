@@ -2,17 +2,24 @@
 
 use crate::notice::{Notice, Place};
 use crate::row::{Inputs, RoutineNumbers};
+use crate::story::{Findings, add_story, texts_value};
 use mlk_code_pages::page_of;
+use mlk_explain::Story;
 use mlk_hazards::HazardAt;
-use mlk_report_text::{Field, escape_bytes, object};
-use mlk_walk::{Report, Row};
+use mlk_report_text::{Field, object};
+use mlk_walk::Row;
 use serde_json::Value;
 use std::alloc::{AllocError, Global};
 
-fn row_value(alloc: Global, inputs: &Inputs<'_>, row: &Row) -> Result<Value, AllocError> {
+fn row_value(
+    alloc: Global,
+    inputs: &Inputs<'_>,
+    row: &Row,
+    story: Option<&Story>,
+) -> Result<Value, AllocError> {
     let entry = inputs.entry(alloc, row.entry)?;
     let code = row.fault.code;
-    let members = vec![in alloc;
+    let mut members = vec![in alloc;
         ("entry", Field::Made(entry)),
         ("routine", Field::Bytes(inputs.routine(row.entry))),
         ("path", Field::Text(inputs.path(row.entry))),
@@ -22,13 +29,21 @@ fn row_value(alloc: Global, inputs: &Inputs<'_>, row: &Row) -> Result<Value, All
         ("name", Field::Bytes(code.word())),
         ("meaning", Field::Text(page_of(code).meaning)),
     ]?;
+    if let Some(story) = story {
+        add_story(alloc, inputs, story, &mut members)?;
+    }
     object(alloc, members)
 }
 
-fn rows_value(alloc: Global, inputs: &Inputs<'_>, rows: &[Row]) -> Result<Value, AllocError> {
+fn rows_value(
+    alloc: Global,
+    inputs: &Inputs<'_>,
+    findings: &Findings<'_>,
+) -> Result<Value, AllocError> {
+    let rows = findings.report.rows();
     let mut values = Vec::with_capacity(alloc, rows.len())?;
-    for row in rows {
-        values.push(row_value(alloc, inputs, row)?)?;
+    for (row, story) in rows.iter().zip(findings.stories) {
+        values.push(row_value(alloc, inputs, row, story.as_ref())?)?;
     }
     Ok(Value::Array(values))
 }
@@ -66,33 +81,27 @@ fn hazards_value(
     Ok(Value::Array(values))
 }
 
-fn patterns_value(alloc: Global, patterns: &[Vec<u8>]) -> Result<Value, AllocError> {
-    let mut values = Vec::with_capacity(alloc, patterns.len())?;
-    for pattern in patterns {
-        let text = escape_bytes(alloc, pattern.as_slice())?;
-        values.push(Value::String(text))?;
-    }
-    Ok(Value::Array(values))
-}
-
-/// A report as one JSON object, on lines with indents: `answer`, which is `yes` or `no`, `faults`, in their order, `hazards`,
-/// if these are reported, and `free_reads`, if rules free reads.
+/// Writes `findings` as one JSON object, on lines with indents: `answer`, which is `yes` or `no`, `faults`, in their order, each
+/// with what is known of it, `hazards`, if these are reported, and `free_reads`, if rules free reads.
 pub fn report_json(
     alloc: Global,
     inputs: &Inputs<'_>,
-    report: &Report,
-    hazards: Option<&[HazardAt<'_>]>,
+    findings: &Findings<'_>,
 ) -> Result<String, AllocError> {
-    let answer = if report.is_yes() { "yes" } else { "no" };
-    let faults = rows_value(alloc, inputs, report.rows())?;
-    let hazards = match hazards {
+    let answer = if findings.report.is_yes() {
+        "yes"
+    } else {
+        "no"
+    };
+    let faults = rows_value(alloc, inputs, findings)?;
+    let hazards = match findings.hazards {
         Some(hazards) => Field::Value(hazards_value(alloc, inputs, hazards)?),
         None => Field::Absent,
     };
     let free_reads = if inputs.free_reads.is_empty() {
         Field::Absent
     } else {
-        Field::Value(patterns_value(alloc, inputs.free_reads)?)
+        Field::Value(texts_value(alloc, inputs.free_reads)?)
     };
     let members = vec![in alloc;
         ("answer", Field::Text(answer)),

@@ -11,8 +11,10 @@ mod region;
 mod row;
 mod rule;
 mod sarif;
+mod story;
 
 pub use json::{notice_json, report_json};
 pub use notice::{Notice, Place};
 pub use row::Inputs;
 pub use sarif::{notice_sarif, report_sarif};
+pub use story::Findings;

@@ -12,7 +12,7 @@ use std::collections::BTreeMap;
 pub struct Inputs<'a> {
     pub routines: &'a [Routine],
     pub paths: &'a [&'a str],
-    /// only SARIF needs them, to count columns in characters; otherwise there may be none
+    /// SARIF counts columns in characters of them; other forms need none
     pub texts: &'a [Vec<u8>],
     /// the patterns of the covers that free reads, as the rule file has them
     pub free_reads: &'a [Vec<u8>],

@@ -1,17 +1,19 @@
 // Reports and refusals as SARIF 2.1.0, the Static Analysis Results Interchange Format of OASIS.
 
-use crate::finding::{Finding, fingerprints_value, result_value};
+use crate::finding::{Finding, WayStep, fingerprints_value, result_value};
 use crate::hash::{HashedLine, HashedLines, ProgramLines};
 use crate::hazard::hazard_is_what;
 use crate::notice::{Notice, Place};
 use crate::region::{ROOT, file_value, physical_value};
 use crate::row::{Inputs, RoutineNumbers};
 use crate::rule::{all_rules_values, rule_id, rules_values};
+use crate::story::{Findings, story_line};
 use mlk_code_pages::page_of;
+use mlk_explain::{Story, WayPoint};
 use mlk_hazards::HazardAt;
 use mlk_report_text::Piece::{Bytes, Number, Words};
 use mlk_report_text::{Field, escape_bytes, member, object, text_of};
-use mlk_walk::{Report, Row};
+use mlk_text::Code;
 use serde_json::{Value, json};
 use std::alloc::{AllocError, Global};
 use std::collections::BTreeMap;
@@ -23,25 +25,70 @@ const VERSION: &str = "0.1.0";
 
 const REFUSED: usize = 2;
 
+// What is said of a fault: what its code means, and of which lock or global, if that is known.
+fn fault_message(alloc: Global, code: Code, story: Option<&Story>) -> Result<Vec<u8>, AllocError> {
+    match story {
+        Some(story) => story_line(alloc, code.word(), story),
+        None => {
+            let meaning = Words(page_of(code).meaning);
+            text_of(alloc, &[Bytes(code.word()), Words(": "), meaning])
+        }
+    }
+}
+
+fn step_of<'a>(
+    alloc: Global,
+    inputs: &Inputs<'a>,
+    point: &WayPoint,
+) -> Result<WayStep<'a>, AllocError> {
+    let message = Vec::from_slice(alloc, point.act.as_slice())?;
+    Ok(WayStep {
+        place: Place {
+            path: inputs.path(point.entry),
+            line: point.fault.line,
+            column: Some(point.fault.column),
+        },
+        message,
+    })
+}
+
+// The way from a fault to the place behind it: the calls, and that place.
+fn way_of<'a>(
+    alloc: Global,
+    inputs: &Inputs<'a>,
+    story: Option<&Story>,
+) -> Result<Vec<WayStep<'a>>, AllocError> {
+    let mut way = Vec::new(alloc);
+    let Some(origin) = story.and_then(|story| story.origin.as_ref()) else {
+        return Ok(way);
+    };
+    for call in &origin.calls {
+        way.push(step_of(alloc, inputs, call)?)?;
+    }
+    way.push(step_of(alloc, inputs, &origin.point)?)?;
+    Ok(way)
+}
+
 // Adds a result for each fault.
 fn add_faults<'a>(
     alloc: Global,
     inputs: &Inputs<'a>,
-    rows: &[Row],
+    findings: &Findings<'_>,
     lines: &mut ProgramLines<'a>,
     values: &mut Vec<Value>,
 ) -> Result<(), AllocError> {
     let mut counts = BTreeMap::new(alloc);
-    for row in rows {
+    for (row, story) in findings.report.rows().iter().zip(findings.stories) {
         let code = row.fault.code;
         lines.look_up(row.entry.routine())?;
         let rule = rule_id(alloc, code)?;
         let within = inputs.entry(alloc, row.entry)?;
+        let message = fault_message(alloc, code, story.as_ref())?;
+        let way = way_of(alloc, inputs, story.as_ref())?;
         let finding = Finding {
             rule,
             level: "error",
-            name: code.word(),
-            meaning: page_of(code).meaning,
+            message,
             place: Place {
                 path: inputs.path(row.entry),
                 line: row.fault.line,
@@ -51,6 +98,7 @@ fn add_faults<'a>(
             within,
             kind: "function",
             fingerprint: "codeInEntry/v1",
+            way,
         };
         values.push(result_value(alloc, &mut counts, &finding)?)?;
     }
@@ -73,11 +121,12 @@ fn add_hazards<'a>(
         let within = Vec::from_slice(alloc, at.position.routine)?;
         let number = numbers.number(&within);
         lines.look_up(number)?;
+        let meaning = hazard_is_what(at.hazard);
+        let message = text_of(alloc, &[Bytes(word), Words(": "), Words(meaning)])?;
         let finding = Finding {
             rule,
             level: "warning",
-            name: word,
-            meaning: hazard_is_what(at.hazard),
+            message,
             place: Place {
                 path: inputs.path_at(number),
                 line: at.position.line,
@@ -87,6 +136,7 @@ fn add_hazards<'a>(
             within,
             kind: "module",
             fingerprint: "hazardInRoutine/v1",
+            way: Vec::new(alloc),
         };
         values.push(result_value(alloc, &mut counts, &finding)?)?;
     }
@@ -134,17 +184,16 @@ fn invocation_value(alloc: Global, results: usize) -> Result<Value, AllocError> 
     object(alloc, members)
 }
 
-/// Writes a report as SARIF: a result for each fault, in their order, and one for each hazard, if these are reported.
+/// Writes `findings` as SARIF: a result for each fault, in their order, and one for each hazard, if these are reported.
 pub fn report_sarif(
     alloc: Global,
     inputs: &Inputs<'_>,
-    report: &Report,
-    hazards: Option<&[HazardAt<'_>]>,
+    findings: &Findings<'_>,
 ) -> Result<String, AllocError> {
-    let mut results = Vec::with_capacity(alloc, report.rows().len())?;
+    let mut results = Vec::with_capacity(alloc, findings.report.rows().len())?;
     let mut lines = ProgramLines::new(alloc, inputs.texts);
-    add_faults(alloc, inputs, report.rows(), &mut lines, &mut results)?;
-    let rules = match hazards {
+    add_faults(alloc, inputs, findings, &mut lines, &mut results)?;
+    let rules = match findings.hazards {
         None => rules_values(alloc)?,
         Some(hazards) => {
             add_hazards(alloc, inputs, hazards, &mut lines, &mut results)?;

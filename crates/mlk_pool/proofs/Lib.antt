@@ -1,10 +1,11 @@
 mod Chunks
 mod Firsts
-mod Formed
+pub mod Formed
 mod Histories
 mod NextSlots
+pub mod PassedOn
 mod Printing
 mod Runs
 mod Sends
 mod Slots
-mod Unread
+pub mod Unread

@@ -27,12 +27,12 @@ error_of_workers failure.OutOfMemory = error.OutOfMemory
 error_of_workers (failure.Refused fault.Workers) = error.Workers
 error_of_workers (failure.Refused (fault.GateShut task)) = error.GateShut task
 
--- what is told of an entry that is lacking
-abbrev pub TellsEntry : List ℕ → CheckError → Type 0
-TellsEntry text error.OutOfMemory = Unit {0}
-TellsEntry text (error.Routine f) = ⊥
-TellsEntry text (error.Rules f) = ⊥
-TellsEntry text (error.Certificate f) = ⊥
-TellsEntry text (error.Entry entry) = entry ≡ text
-TellsEntry text error.Workers = ⊥
-TellsEntry text (error.GateShut task) = ⊥
+-- What is reported of an entry that is missing. If memory runs out, nothing is said.
+abbrev pub ReportsEntry : List ℕ → CheckError → Type 0
+ReportsEntry text error.OutOfMemory = Unit {0}
+ReportsEntry text (error.Routine f) = ⊥
+ReportsEntry text (error.Rules f) = ⊥
+ReportsEntry text (error.Certificate f) = ⊥
+ReportsEntry text (error.Entry entry) = entry ≡ text
+ReportsEntry text error.Workers = ⊥
+ReportsEntry text (error.GateShut task) = ⊥

@@ -1,15 +1,18 @@
 -- What a report on the texts of a program says, and why there is none. This project's own choice. What the text of a routine
--- spells stands in `RoutineGrammar` of mlk_routine, what the text of rules says in `RuleSections` of mlk_rules_file, what the
+-- spells is in `RoutineGrammar` of mlk_routine, what the text of rules says in `RuleSections` of mlk_rules_file, what the
 -- text of a certificate spells in `Theorem` of mlk_cert, which rows are reported in `Reports` of mlk_walk, and what it is to
 -- keep rules in `Theorem` of mlk_check.
 use Rattle.std.specs.Prelude.{ℕ, ◌≡◌, ◌<◌, ◌⊎◌, List, [], Some, None}
-use Rattle.mlk_text.specs.declared.failure.Failure.TheVariants as failure
+use Rattle.mlk_text.specs.declared.fault.Fault.{Fault}
+use Rattle.mlk_text.specs.declared.failure.Failure.{Failure}
+use Rattle.mlk_text.specs.Failures.{IfRefused}
 use Rattle.mlk_syntax.specs.Trees.{RoutineTree}
 use Rattle.mlk_pool.specs.declared.source.Source.{Source}
-use Rattle.mlk_pool.specs.Reading.{AreRead, IsFirstRefused}
+use Rattle.mlk_pool.specs.Reading.{AreRead, RefusesFirst}
 use Rattle.mlk_program.specs.Program.{IsProgram, IsLinkFault}
 use Rattle.mlk_rules.specs.declared.rules.RuleLists.{RuleLists}
 use Rattle.mlk_rules_file.specs.RuleSections.{SaysRules, RefusesRules}
+use Rattle.mlk_rules_file.specs.declared.read.fault.RulesFault.{RulesFault}
 use Rattle.mlk_cert_parts.specs.declared.block.EntryCert.{EntryCert}
 use Rattle.mlk_cert.specs.declared.read.fault.CertFault.{CertFault}
 use Rattle.mlk_cert.specs.Theorem.{Spells}
@@ -19,6 +22,7 @@ use Rattle.mlk_walk.specs.Reports.{report, missing}
 use Rattle.mlk_check.specs.Theorem.{KeepsRules}
 use Rattle.mlk_pool.specs.declared.error.CheckError.{CheckError}
 use Rattle.mlk_pool.specs.declared.error.CheckError.TheVariants as error
+use Rattle.mlk_pool.specs.Errors.{error_of_routine, error_of_rules, error_of_certificate}
 
 -- The report of a program by rules and a certificate's blocks. The program has each entry that these name; the rows are the
 -- report of the definitions, which knows no worker; and where there is no row, every run of the program keeps the rules.
@@ -39,16 +43,6 @@ pub record Verified (sources : List Source) (rules_text cert_text : List ℕ) (t
   pub spelled : Spells blocks cert_text
   pub reported : IsReportBy trees rules blocks rows
 
--- Texts come to this where the routines spell trees that make a program, and all that is asked before it is found.
-abbrev pub OfProgram : List Source → (List RoutineTree → Type 0) → Type 0
-OfProgram sources Is = (trees : List RoutineTree) × AreRead sources trees × IsProgram trees × Is trees
-
-abbrev pub OfRules : List ℕ → (RuleLists → Type 0) → Type 0
-OfRules rules_text Is = (rules : RuleLists) × SaysRules rules_text rules × Is rules
-
-abbrev pub OfBlocks : List ℕ → (List EntryCert → Type 0) → Type 0
-OfBlocks cert_text Is = (blocks : List EntryCert) × Spells blocks cert_text × Is blocks
-
 -- No certificate has the text.
 abbrev pub NoCertificate : List ℕ → CertFault → Type 0
 NoCertificate cert_text fault = ((blocks : List EntryCert) → Spells blocks cert_text → ⊥) × IsRefusal cert_text fault
@@ -57,8 +51,8 @@ NoCertificate cert_text fault = ((blocks : List EntryCert) → Spells blocks cer
 abbrev pub AreTooFewOrMany : ℕ → Type 0
 AreTooFewOrMany workers = (workers ≡ 0) ⊎ (64 < workers)
 
--- Why a program has no report by rules and a certificate: it lacks an entry that these name; else there are no workers or too
--- many; else the gate was shut before a task, where it is not open. Want of memory says nothing.
+-- Why a program has no report by rules and a certificate: an entry that these name is missing in it; else there are no workers
+-- or too many; else the gate was shut before a task, where it is not open. If memory runs out, nothing is said.
 abbrev pub IsUnreportedBy : Type 0 → ℕ → List RoutineTree → RuleLists → List EntryCert → CheckError → Type 0
 IsUnreportedBy is_open workers trees rules blocks error.OutOfMemory = Unit {0}
 IsUnreportedBy is_open workers trees rules blocks (error.Routine fault) = ⊥
@@ -68,20 +62,40 @@ IsUnreportedBy is_open workers trees rules blocks (error.Entry entry) = missing 
 IsUnreportedBy is_open workers trees rules blocks error.Workers = (missing trees rules blocks ≡ None) × AreTooFewOrMany workers
 IsUnreportedBy is_open workers trees rules blocks (error.GateShut task) = (missing trees rules blocks ≡ None) × (is_open → ⊥)
 
--- Why texts have no report, in the order in which it is asked: the first routine that is refused, or the linking of all; the
--- text of the rules; the text of the certificate; and why the program has no report by both. Each is told only where all
--- before it is as it should be. Want of memory says nothing.
+-- The stages from texts to a report, each with what it refuses: the reading of routines, of which the first that is refused is
+-- reported; their linking; the text of the rules; the text of the certificate; and the report by it. `from` is how the answer has
+-- the check's own error: as it is for `verify`. If memory runs out, nothing is said.
+abbrev pub RefusesRoutines : {R : Type 0} → (CheckError → R) → List Source → R → Type 0
+RefusesRoutines from sources r = (f : Failure Fault) × RefusesFirst sources f × (r ≡ from (error_of_routine f))
+
+abbrev pub RefusesLink : {R : Type 0} → (CheckError → R) → List RoutineTree → R → Type 0
+RefusesLink from trees r = (f : Failure Fault) × IfRefused f (IsLinkFault trees) × (r ≡ from (error_of_routine f))
+
+abbrev pub RefusesRuleText : {R : Type 0} → (CheckError → R) → List ℕ → R → Type 0
+RefusesRuleText from rules_text r = (f : Failure RulesFault) × RefusesRules rules_text f × (r ≡ from (error_of_rules f))
+
+abbrev pub RefusesCertText : {R : Type 0} → (CheckError → R) → List ℕ → R → Type 0
+RefusesCertText from cert_text r = (f : Failure CertFault) × IfRefused f (NoCertificate cert_text) × (r ≡ from (error_of_certificate f))
+
+abbrev pub RefusesReport : {R : Type 0} → (CheckError → R) → Type 0 → ℕ → List RoutineTree → RuleLists → List EntryCert → R → Type 0
+RefusesReport from is_open workers trees rules blocks r = (e : CheckError) × IsUnreportedBy is_open workers trees rules blocks e × (r ≡ from e)
+
+-- What is refused of trees and of the text of rules, and after both by `Why`, of the program and its rules. Each stage is reached
+-- only if the ones before it refuse nothing.
+abbrev pub RefusesTrees : {R : Type 0} → (CheckError → R) → List RoutineTree → List ℕ → (List RoutineTree → RuleLists → R → Type 0) → R → Type 0
+RefusesTrees from trees rules_text Why r =
+    RefusesLink from trees r ⊎ (IsProgram trees × (RefusesRuleText from rules_text r ⊎ ((rules : RuleLists) × SaysRules rules_text rules × Why trees rules r)))
+
+-- the same from the reading of routines on
+abbrev pub RefusesTexts : {R : Type 0} → (CheckError → R) → List Source → List ℕ → (List RoutineTree → RuleLists → R → Type 0) → R → Type 0
+RefusesTexts from sources rules_text Why r =
+    RefusesRoutines from sources r ⊎ ((trees : List RoutineTree) × AreRead sources trees × RefusesTrees from trees rules_text Why r)
+
+-- why a program with rules has no report by the text of a certificate
+abbrev pub RefusesByText : {R : Type 0} → (CheckError → R) → Type 0 → ℕ → List ℕ → List RoutineTree → RuleLists → R → Type 0
+RefusesByText from is_open workers cert_text trees rules r =
+    RefusesCertText from cert_text r ⊎ ((blocks : List EntryCert) × Spells blocks cert_text × RefusesReport from is_open workers trees rules blocks r)
+
+-- Why texts have no report.
 abbrev pub IsUnverified : Type 0 → ℕ → List Source → List ℕ → List ℕ → CheckError → Type 0
-IsUnverified is_open workers sources rules_text cert_text error.OutOfMemory = Unit {0}
-IsUnverified is_open workers sources rules_text cert_text (error.Routine fault) =
-    IsFirstRefused sources fault ⊎ ((trees : List RoutineTree) × AreRead sources trees × IsLinkFault trees fault)
-IsUnverified is_open workers sources rules_text cert_text (error.Rules fault) =
-    OfProgram sources (λ trees. RefusesRules rules_text (failure.Refused fault))
-IsUnverified is_open workers sources rules_text cert_text (error.Certificate fault) =
-    OfProgram sources (λ trees. OfRules rules_text (λ rules. NoCertificate cert_text fault))
-IsUnverified is_open workers sources rules_text cert_text (error.Entry entry) =
-    OfProgram sources (λ trees. OfRules rules_text (λ rules. OfBlocks cert_text (λ blocks. IsUnreportedBy is_open workers trees rules blocks (error.Entry entry))))
-IsUnverified is_open workers sources rules_text cert_text error.Workers =
-    OfProgram sources (λ trees. OfRules rules_text (λ rules. OfBlocks cert_text (λ blocks. IsUnreportedBy is_open workers trees rules blocks error.Workers)))
-IsUnverified is_open workers sources rules_text cert_text (error.GateShut task) =
-    OfProgram sources (λ trees. OfRules rules_text (λ rules. OfBlocks cert_text (λ blocks. IsUnreportedBy is_open workers trees rules blocks (error.GateShut task))))
+IsUnverified is_open workers sources rules_text cert_text e = RefusesTexts (λ e. e) sources rules_text (RefusesByText (λ e. e) is_open workers cert_text) e

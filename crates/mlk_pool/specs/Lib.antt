@@ -7,5 +7,5 @@ pub mod Boards
 pub mod Refusals
 pub mod Errors
 pub mod Headline
-pub mod Steps
+pub mod Stages
 pub mod Texts

@@ -1,7 +1,7 @@
 // Why there is no report.
 
 ghost use Rattle.std.specs.Prelude.{◌≡◌};
-ghost use Rattle.mlk_pool.specs.Errors.{error_of_routine, error_of_rules, error_of_certificate, error_of_workers, TellsEntry};
+ghost use Rattle.mlk_pool.specs.Errors.{error_of_routine, error_of_rules, error_of_certificate, error_of_workers, ReportsEntry};
 ghost use Rattle.mlk_pool.specs.declared.error.CheckError.TheVariants as error;
 
 use crate::report::PoolFault;
@@ -79,9 +79,9 @@ impl From<Failure<PoolFault>> for CheckError {
     }
 }
 
-/// What is reported of an entry that is not in the program.
-pub(crate) fn lacks(alloc: Global, entry: &[u8]) -> CheckError
-    ensures { TellsEntry entry.now result }
+/// Reports `entry`, which is not in the program (901).
+pub(crate) fn missing(alloc: Global, entry: &[u8]) -> CheckError
+    ensures { ReportsEntry entry.now result }
 {
     match Vec::from_slice(alloc, entry) {
         Ok(text) => CheckError::Entry(Value::new(text)),

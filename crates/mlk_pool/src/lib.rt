@@ -26,5 +26,5 @@ pub use report::{MOST_WORKERS, PoolFault, report_by};
 pub use shared::SharedBoard;
 pub use source::Source;
 pub use text::ReportText;
-pub use verification::{Report, verify, verify_program, verify_watched};
+pub use verification::{Report, verify, verify_program};
 pub use worker::work;

@@ -29,22 +29,22 @@ fn next_texts<'s, 'a>(sources: &'s [Source<'a>], done: usize) -> &'s [Source<'a>
     next
 }
 
-/// The routines of these texts, in their order, or the first refusal. The texts are given back once all are read.
+/// The routines of the texts `sources`, in their order, or the first refusal.
 pub fn read_routines<R: Threads + Sync, W: Watch>(
     rt: &R,
     alloc: Global,
-    sources: Vec<Source<'_>>,
+    sources: &[Source<'_>],
     watch: &W,
 ) -> Result<Vec<Routine>, Failure<Fault>>
-    ensures ok { IfOk result (λ r. AreRead sources.entry.items (map routine_of r.items)) }
-    ensures refused { IfErr result (RefusesFirst sources.entry.items) }
+    ensures ok { IfOk result (λ r. AreRead sources.now (map routine_of r.items)) }
+    ensures refused { IfErr result (RefusesFirst sources.now) }
 {
     let count = sources.len();
     let mut routines = Vec::new(alloc);
     let mut done = 0;
     while done < count {
         watch.see(Stage::Reading, done, count);
-        let next = next_texts(sources.as_slice(), done);
+        let next = next_texts(sources, done);
         match read_all(rt, alloc, next) {
             Ok(mut read) => routines.append(&mut read)?,
             Err(failure) => {
@@ -57,22 +57,22 @@ pub fn read_routines<R: Threads + Sync, W: Watch>(
     Ok(routines)
 }
 
-/// For each of these texts its routine, or why it is none, in their order: each is read by itself, and one that is refused
-/// stops nothing. The texts are given back once all are read.
+/// For each of the texts `sources` its routine, or why it is none, in their order: each is read by itself, and one that is
+/// refused stops nothing.
 pub fn read_each<R: Threads + Sync, W: Watch>(
     rt: &R,
     alloc: Global,
-    sources: Vec<Source<'_>>,
+    sources: &[Source<'_>],
     watch: &W,
 ) -> Result<Vec<Result<Routine, Failure<Fault>>>, AllocError>
-    ensures { IfOk result (λ found. AllZip IsAnswer sources.entry.items found.items) }
+    ensures { IfOk result (λ found. AllZip IsAnswer sources.now found.items) }
 {
     let count = sources.len();
     let mut found = Vec::new(alloc);
     let mut done = 0;
     while done < count {
         watch.see(Stage::Reading, done, count);
-        let next = next_texts(sources.as_slice(), done);
+        let next = next_texts(sources, done);
         let mut read = answers(rt, alloc, next)?;
         found.append(&mut read)?;
         done += next.len();

@@ -24,7 +24,7 @@ use mlk_program::{EntryId, Program};
 use mlk_rules::Rules;
 use mlk_text::Failure;
 use mlk_walk::{Checks, DEEPEST_CUT, Report, verdict_of};
-use mlk_watch::{Unwatched, Watch};
+use mlk_watch::Watch;
 use std::alloc::{AllocError, Global};
 use std::collections::VecDeque;
 use std::marker::Brand;
@@ -183,8 +183,16 @@ fn report_on<N: Inputs + Send + Sync, G: Gate + Sync, W: Watch, R: Threads + Wai
     report_with::<N, G, W, R>(rt, alloc, &checks, workers, gate, watch)
 }
 
-/// What `report_by` reports; `watch` is shown how far the work has come.
-pub(crate) fn report_watched<G: Gate + Sync, W: Watch, R: Threads + Wait + Sync>(
+/// The faults of a program by its rules and a certificate, found by 1 to 64 workers side by side: for each entry that is
+/// declared or certified, in the program's order, those of its verdict. It is `yes` where there are none. It is the same for
+/// every number of workers.
+///
+/// After a `yes`, every run of any number of jobs begun at the declared entries keeps the rules, whoever made the
+/// certificate. Routines that were read are well formed.
+///
+/// The caller's thread is one of the workers. What no worker has done in the end it does, and where the gate was shut it asks
+/// once more: so the refusal is that of the first task that is still not done. `watch` sees how far the work has come.
+pub fn report_by<G: Gate + Sync, W: Watch, R: Threads + Wait + Sync>(
     rt: &R,
     alloc: Global,
     program: &Program<'_>,
@@ -207,40 +215,4 @@ pub(crate) fn report_watched<G: Gate + Sync, W: Watch, R: Threads + Wait + Sync>
         return Err(Failure::Refused(PoolFault::Workers));
     }
     report_on::<Brand, G, W, R>(rt, alloc, program, rules, certificate, workers, gate, watch)
-}
-
-/// The faults of a program by its rules and a certificate, found by 1 to 64 workers side by side: for each entry that is
-/// declared or certified, in the program's order, those of its verdict. It is `yes` where there are none. It is the same for
-/// every number of workers.
-///
-/// After a `yes`, every run of any number of jobs begun at the declared entries keeps the rules, whoever made the
-/// certificate. Routines that were read are well formed.
-///
-/// The caller's thread is one of the workers. What no worker has done in the end it does, and where the gate was shut it asks
-/// once more: so the refusal is that of the first task that is still not done.
-pub fn report_by<G: Gate + Sync, R: Threads + Wait + Sync>(
-    rt: &R,
-    alloc: Global,
-    program: &Program<'_>,
-    rules: &Rules,
-    certificate: &Certificate,
-    workers: usize,
-    gate: &G,
-) -> Result<Report, Failure<PoolFault>>
-    ensures exact { IfOk result (λ r. r ≡ report (map routine_of program.now) rules.now certificate.now) }
-    ensures safe { IfOk result (λ r. r ≡ [] → AreFormed (map routine_of program.now)
-        → KeepsRules (map routine_of program.now) rules.now certificate.now) }
-    ensures allowed { IfOk result (λ _. AreAllowed workers) }
-    ensures refused { IfErr result (IsUnreported (G.is_open gate.now) workers) }
-{
-    report_watched(
-        rt,
-        alloc,
-        program,
-        rules,
-        certificate,
-        workers,
-        gate,
-        &Unwatched,
-    )
 }

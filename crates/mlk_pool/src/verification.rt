@@ -5,12 +5,12 @@ ghost use Rattle.mlk_syntax.specs.Views.{routine_of};
 ghost use Rattle.mlk_soundness_walk.specs.Forms.{AreFormed};
 ghost use Rattle.mlk_pool.specs.Headline.{IsReportBy, Verified, IsUnreportedBy, IsUnverified};
 ghost use Rattle.mlk_pool.specs.Refusals.{AreAllowed};
-ghost use Rattle.mlk_pool.specs.Steps.{IsReportByTexts, IsReportOfTrees, IsUnreportedByTexts, IsUnreportedOfTrees};
+ghost use Rattle.mlk_pool.specs.Stages.{IsReportOfTrees, IsUnreportedOfTrees};
 
-use crate::error::{CheckError, lacks};
+use crate::error::{CheckError, missing};
 use crate::gate::Gate;
 use crate::reading::read_routines;
-use crate::report::report_watched;
+use crate::report::report_by;
 use crate::source::Source;
 use mlk_cert::{Certificate, read_cert};
 use mlk_program::{Program, link};
@@ -18,7 +18,7 @@ use mlk_rules::Rules;
 use mlk_rules_file::read_rules;
 use mlk_syntax::Routine;
 use mlk_walk::missing_entry;
-use mlk_watch::{Unwatched, Watch};
+use mlk_watch::Watch;
 use std::alloc::Global;
 use std::sync::Wait;
 use std::thread::Threads;
@@ -30,7 +30,10 @@ pub struct Report {
     pub rows: mlk_walk::Report,
 }
 
-/// The report of a program by its rules and a certificate, made by 1 to 64 workers side by side.
+/// Reports on `program` by its rules and `certificate`; 1 to 64 workers check the entries side by side.
+///
+/// Refuses, in this order: the first entry of the rules, then of the certificate, that is not in the program (901); a number of
+/// workers that is not 1 to 64 (902); and the first task to which `gate` lets nobody pass (903).
 pub fn verify_program<G: Gate + Sync, W: Watch, R: Threads + Wait + Sync>(
     rt: &R,
     alloc: Global,
@@ -47,45 +50,13 @@ pub fn verify_program<G: Gate + Sync, W: Watch, R: Threads + Wait + Sync>(
     ensures refused { IfErr result (IsUnreportedBy (G.is_open gate.now) workers (map routine_of program.now) rules.now certificate.now) }
 {
     if let Some(entry) = missing_entry(program, rules, certificate) {
-        return Err(lacks(alloc, entry));
+        return Err(missing(alloc, entry));
     }
-    let rows = report_watched(rt, alloc, program, rules, certificate, workers, gate, watch)?;
+    let rows = report_by(rt, alloc, program, rules, certificate, workers, gate, watch)?;
     Ok(rows)
 }
 
-// The report of a program by the texts of rules and of a certificate.
-fn rows_by_texts<G: Gate + Sync, W: Watch, R: Threads + Wait + Sync>(
-    rt: &R,
-    alloc: Global,
-    program: &Program<'_>,
-    rules_text: &[u8],
-    cert_text: &[u8],
-    workers: usize,
-    gate: &G,
-    watch: &W,
-) -> Result<mlk_walk::Report, CheckError>
-    requires { AreFormed (map routine_of program.now) }
-    ensures ok { IfOk result (IsReportByTexts (map routine_of program.now) rules_text.now cert_text.now) }
-    ensures allowed { IfOk result (λ _. AreAllowed workers) }
-    ensures refused { IfErr result (IsUnreportedByTexts (G.is_open gate.now) workers (map routine_of program.now) rules_text.now cert_text.now) }
-{
-    let rules = read_rules(alloc, rules_text)?;
-    let certificate = read_cert(alloc, cert_text)?;
-    let rows = verify_program(
-        rt,
-        alloc,
-        program,
-        &rules,
-        &certificate,
-        workers,
-        gate,
-        watch,
-    );
-    watch.discard(certificate);
-    rows
-}
-
-// The report of the program that these routines make.
+// The report of the program that these routines make, by the texts of rules and of a certificate.
 fn rows_of_routines<G: Gate + Sync, W: Watch, R: Threads + Wait + Sync>(
     rt: &R,
     alloc: Global,
@@ -102,30 +73,47 @@ fn rows_of_routines<G: Gate + Sync, W: Watch, R: Threads + Wait + Sync>(
     ensures refused { IfErr result (IsUnreportedOfTrees (G.is_open gate.now) workers (map routine_of routines.now) rules_text.now cert_text.now) }
 {
     let program = link(alloc, routines)?;
-    let rows = rows_by_texts(
-        rt, alloc, &program, rules_text, cert_text, workers, gate, watch,
-    );
-    watch.discard(program);
-    rows
+    let rules = read_rules(alloc, rules_text)?;
+    let certificate = read_cert(alloc, cert_text)?;
+    verify_program(
+        rt,
+        alloc,
+        &program,
+        &rules,
+        &certificate,
+        workers,
+        gate,
+        watch,
+    )
 }
 
-/// Does what `verify` does, and shows `watch` how far it has come.
-pub fn verify_watched<G: Gate + Sync, W: Watch, R: Threads + Wait + Sync>(
+/// Reports on the texts of a program: of its routines, each with the stem of its file's name, of its `rules` and of a
+/// `certificate`. The texts of routines are read side by side, and 1 to 64 workers check the entries side by side; the report
+/// is the same for every number of them.
+///
+/// Where it has no row, in every run of any number of jobs begun at the declared entries no two jobs are ready to
+/// touch references that overlap, one of which writes, no job that ended by itself holds a lock, and no jobs wait for each
+/// other's locks in a ring.
+///
+/// The first refusal is reported: of the routines in order, of their linking, of the rules, of the certificate, of an entry
+/// that is not in the program, of the number of workers, or of the first task that `gate` lets nobody walk. `watch` sees how far
+/// the work has come.
+pub fn verify<G: Gate + Sync, W: Watch, R: Threads + Wait + Sync>(
     rt: &R,
     alloc: Global,
-    sources: Vec<Source<'_>>,
+    sources: &[Source<'_>],
     rules: &[u8],
     certificate: &[u8],
     workers: usize,
     gate: &G,
     watch: &W,
 ) -> Result<Report, CheckError>
-    ensures ok { IfOk result (λ r. Verified sources.entry.items rules.now certificate.now (map routine_of r.routines.items) r.rows) }
+    ensures ok { IfOk result (λ r. Verified sources.now rules.now certificate.now (map routine_of r.routines.items) r.rows) }
     ensures allowed { IfOk result (λ _. AreAllowed workers) }
-    ensures refused { IfErr result (IsUnverified (G.is_open gate.now) workers sources.entry.items rules.now certificate.now) }
+    ensures refused { IfErr result (IsUnverified (G.is_open gate.now) workers sources.now rules.now certificate.now) }
 {
     let routines = read_routines(rt, alloc, sources, watch)?;
-    match rows_of_routines(
+    let rows = rows_of_routines(
         rt,
         alloc,
         routines.as_slice(),
@@ -134,46 +122,6 @@ pub fn verify_watched<G: Gate + Sync, W: Watch, R: Threads + Wait + Sync>(
         workers,
         gate,
         watch,
-    ) {
-        Ok(rows) => Ok(Report { routines, rows }),
-        Err(error) => {
-            watch.discard(routines);
-            Err(error)
-        }
-    }
-}
-
-/// The report on the texts of a program: of its routines, each with the stem of its file's name, of its rules and of a
-/// certificate. The texts of routines are read side by side, and 1 to 64 workers check the entries side by side; the report
-/// is the same for every number of them.
-///
-/// Where it has no row, in every run of any number of jobs begun at the declared entries no two jobs are ready to
-/// touch references that overlap, one of which writes, no job that ended by itself holds a lock, and no jobs wait for each
-/// other's locks in a ring.
-///
-/// The first refusal is reported: of the routines in order, of their linking, of the rules, of the certificate, of an entry
-/// that is not in the program, of the number of workers, or of the first task that the gate lets nobody walk.
-pub fn verify<G: Gate + Sync, R: Threads + Wait + Sync>(
-    rt: &R,
-    alloc: Global,
-    sources: Vec<Source<'_>>,
-    rules: &[u8],
-    certificate: &[u8],
-    workers: usize,
-    gate: &G,
-) -> Result<Report, CheckError>
-    ensures ok { IfOk result (λ r. Verified sources.entry.items rules.now certificate.now (map routine_of r.routines.items) r.rows) }
-    ensures allowed { IfOk result (λ _. AreAllowed workers) }
-    ensures refused { IfErr result (IsUnverified (G.is_open gate.now) workers sources.entry.items rules.now certificate.now) }
-{
-    verify_watched(
-        rt,
-        alloc,
-        sources,
-        rules,
-        certificate,
-        workers,
-        gate,
-        &Unwatched,
-    )
+    )?;
+    Ok(Report { routines, rows })
 }

@@ -3,13 +3,14 @@
 use crate::halves::{FOUR_LINES, are_same_at_each_depth, long_routine, meet_in_halves};
 use crate::reports::{Run, is_reported, is_verified};
 use crate::working::meet_at_work;
-use mlk_cert::Spelled;
+use mlk_cert::{CertFormat, Spelled};
 use mlk_make::make;
 use mlk_program::{Program, link};
 use mlk_routine::read_routine;
 use mlk_rules::Rules;
 use mlk_rules_file::read_rules;
 use mlk_syntax::Routine;
+use mlk_watch::Unwatched;
 use std::alloc::{AllocError, Global};
 use std::sync::Wait;
 use std::thread::Threads;
@@ -93,7 +94,7 @@ fn is_linked_so<R: Threads + Wait + Sync>(
 ) -> Option<bool> {
     let program = link(alloc, routines).ok()?;
     let rules = read_rules(alloc, trial.rules()).ok()?;
-    let made = make(alloc, &program, &rules).ok()?;
+    let made = make(alloc, &program, &rules, CertFormat::First, &Unwatched).ok()?;
     is_certified_so(rt, alloc, &program, &rules, &made, trial)
 }
 

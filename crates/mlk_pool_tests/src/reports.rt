@@ -87,11 +87,12 @@ pub(crate) fn is_verified<R: Threads + Wait + Sync>(
     let answer = verify(
         rt,
         alloc,
-        sources,
+        sources.as_slice(),
         TWELVE_RULES,
         certificate,
         run.workers,
         &gate,
+        &Unwatched,
     );
     let is_so = match &answer {
         Ok(report) => matches!(run.end, End::Report) && is_the_report(alloc, report),
@@ -158,7 +159,7 @@ pub(crate) fn is_reported<R: Threads + Wait + Sync>(
     certificate: &Certificate,
 ) -> Option<bool> {
     let gate = Turnstile::new(Holds::FirstTwo);
-    let report = report_by(rt, alloc, program, rules, certificate, 2, &gate).ok()?;
+    let report = report_by(rt, alloc, program, rules, certificate, 2, &gate, &Unwatched).ok()?;
     Some(report.rows().len() == 5 && gate.passed() == EACH_ONCE && gate.posted() == EACH_ONCE)
 }
 
@@ -172,6 +173,6 @@ fn two_workers_are_at_work_at_once(rt: HostRuntime) {
 #[test]
 fn no_texts_are_no_routines(rt: HostRuntime) {
     let alloc = rt.alloc();
-    let read = read_routines(&rt, alloc, Vec::new(alloc), &Unwatched);
+    let read = read_routines(&rt, alloc, &[], &Unwatched);
     assert!(&rt; matches!(&read, Ok(routines) if routines.is_empty()));
 }

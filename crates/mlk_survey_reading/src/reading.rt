@@ -24,15 +24,6 @@ pub struct Readings {
     pub further: Vec<Fault>,
 }
 
-// Copies the texts, since reading takes them.
-fn copies(alloc: Global, sources: &[Source<'_>]) -> Result<Vec<Rest>, AllocError> {
-    let mut rests = Vec::new(alloc);
-    for source in sources {
-        rests.push(Rest::of(alloc, source)?)?;
-    }
-    Ok(rests)
-}
-
 fn sources_of<'a>(alloc: Global, rests: &'a [Rest]) -> Result<Vec<Source<'a>>, AllocError> {
     let mut sources = Vec::new(alloc);
     for rest in rests {
@@ -89,7 +80,7 @@ fn read_on<R: Threads + Sync, W: Watch>(
     watch: &W,
 ) -> Result<Vec<Rest>, AllocError> {
     let sources = sources_of(alloc, rests)?;
-    let answers = read_each(rt, alloc, sources, watch)?;
+    let answers = read_each(rt, alloc, sources.as_slice(), watch)?;
     let behind = rests_behind(alloc, rests, answers.as_slice())?;
     add_faults(further, rests, answers)?;
     Ok(behind)
@@ -114,19 +105,37 @@ fn further_faults<R: Threads + Sync, W: Watch>(
     Ok(further)
 }
 
-/// Reads each of these texts by itself. One that is refused is then read behind the line of its fault, as if a routine began there,
-/// in a block if the next line is in one.
+// What is left of those of `sources` that were refused, behind the lines of their faults.
+fn first_rests(
+    alloc: Global,
+    sources: &[Source<'_>],
+    answers: &[Result<Routine, Failure<Fault>>],
+) -> Result<Vec<Rest>, AllocError> {
+    let mut left = Vec::new(alloc);
+    for (source, answer) in sources.iter().zip(answers) {
+        let Err(Failure::Refused(fault)) = answer else {
+            continue;
+        };
+        let rest = Rest::of(alloc, source)?;
+        if let Some(behind) = rest.behind(alloc, fault)? {
+            left.push(behind)?;
+        }
+    }
+    Ok(left)
+}
+
+/// Reads each of the texts `sources` by itself. One that is refused is then read behind the line of its fault, as if a routine began
+/// there, in a block if the next line is in one.
 pub fn read_all_lines<R: Threads + Sync, W: Watch>(
     rt: &R,
     alloc: Global,
-    sources: Vec<Source<'_>>,
+    sources: &[Source<'_>],
     watch: &W,
 ) -> Result<Readings, AllocError>
-    ensures { IfOk result (λ r. AllZip IsAnswer sources.entry.items r.answers.items) }
+    ensures { IfOk result (λ r. AllZip IsAnswer sources.now r.answers.items) }
 {
-    let rests = copies(alloc, sources.as_slice())?;
     let answers = read_each(rt, alloc, sources, watch)?;
-    let left = rests_behind(alloc, rests.as_slice(), answers.as_slice())?;
+    let left = first_rests(alloc, sources, answers.as_slice())?;
     let further = further_faults(rt, alloc, left, watch)?;
     Ok(Readings { answers, further })
 }

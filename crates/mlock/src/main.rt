@@ -4,7 +4,7 @@
 mod progress;
 
 use crate::progress::Progress;
-use mlk_app::{Explaining, Files, read_whole, run_watched, wrong_words};
+use mlk_app::{Explaining, Files, read_whole, run, wrong_words};
 use std::alloc::Global;
 use std::fs::File;
 use std::io::{self, IsTerminal};
@@ -44,7 +44,7 @@ fn main(rt: HostRuntime) -> ExitCode {
         Ok(words) => {
             let disk = Disk { rt: &rt };
             let progress = Progress::new(&rt);
-            run_watched(
+            run(
                 &rt,
                 rt.alloc(),
                 words.as_slice(),

@@ -8,7 +8,7 @@
 #![tactic(auto)]
 
 use bstr::ByteSlice;
-use mlk_app::{Files, run};
+use mlk_app::{Explaining, Files, Unwatched, run};
 use std::alloc::Global;
 use std::io::{self, ErrorKind, Read, Write};
 use std::sync::Wait;
@@ -87,7 +87,16 @@ impl Case<'_> {
         out.extend_from_slice(b"== ")?;
         out.extend_from_slice(self.heading())?;
         out.push(b'\n')?;
-        let status = run(rt, alloc, words.as_slice(), self, out, &mut told);
+        let status = run(
+            rt,
+            alloc,
+            words.as_slice(),
+            self,
+            Explaining::AsAsked,
+            &Unwatched,
+            out,
+            &mut told,
+        );
         out.extend_from_slice(told.as_slice())?;
         writeln!(out, "= {status}")
     }

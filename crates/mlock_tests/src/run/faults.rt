@@ -1,7 +1,7 @@
 // Faults of the command line, of files, of streams and of memory.
 
 use super::{CERT, CHECK, Memory, RULES, TAKE, texts};
-use mlk_app::{Files, run};
+use mlk_app::{Explaining, Files, Unwatched, run};
 use std::alloc::{AllocError, Global};
 use std::io::{self, ErrorKind, Write};
 use std::sync::Wait;
@@ -57,7 +57,16 @@ fn is_usage<R: Threads + Wait + Sync>(
     let files = Memory {
         files: &[("rules.toml", RULES), ("cert", CERT), ("ONE.m", TAKE)],
     };
-    let status = run(rt, alloc, words.as_slice(), &files, &mut out, &mut err);
+    let status = run(
+        rt,
+        alloc,
+        words.as_slice(),
+        &files,
+        Explaining::AsAsked,
+        &Unwatched,
+        &mut out,
+        &mut err,
+    );
     Ok(status == 2 && out.is_empty() && !err.is_empty())
 }
 
@@ -92,7 +101,16 @@ fn files_that_are_too_large(rt: HostRuntime) -> Result<(), Fail> {
         let kind = ErrorKind::FileTooLarge;
         let files = Broken { path, kind };
         assert_eq!(&rt;
-            run(&rt, alloc, words.as_slice(), &files, &mut out, &mut err),
+            run(
+                &rt,
+                alloc,
+                words.as_slice(),
+                &files,
+                Explaining::AsAsked,
+                &Unwatched,
+                &mut out,
+                &mut err
+            ),
             3
         );
         assert!(&rt; out.is_empty());
@@ -112,7 +130,16 @@ fn want_of_memory(rt: HostRuntime) -> Result<(), Fail> {
         kind: ErrorKind::OutOfMemory,
     };
     assert_eq!(&rt;
-        run(&rt, alloc, words.as_slice(), &files, &mut out, &mut err),
+        run(
+            &rt,
+            alloc,
+            words.as_slice(),
+            &files,
+            Explaining::AsAsked,
+            &Unwatched,
+            &mut out,
+            &mut err
+        ),
         3
     );
     assert!(&rt; out.is_empty());
@@ -132,7 +159,16 @@ fn output_that_fails(rt: HostRuntime) -> Result<(), Fail> {
         for room in 0..length {
             let mut out = Short { room };
             let mut err: Vec<u8> = Vec::new(alloc);
-            let status = run(&rt, alloc, words.as_slice(), &files, &mut out, &mut err);
+            let status = run(
+                &rt,
+                alloc,
+                words.as_slice(),
+                &files,
+                Explaining::AsAsked,
+                &Unwatched,
+                &mut out,
+                &mut err,
+            );
             assert_eq!(&rt; status, 3);
             assert!(&rt; err.as_slice() == b"error file -\n".as_slice());
         }
@@ -151,7 +187,16 @@ fn errors_that_fail(rt: HostRuntime) -> Result<(), Fail> {
         let words = texts(alloc, &["mlock", "check", "rules.toml", "cert", path])?;
         let mut out: Vec<u8> = Vec::new(alloc);
         let mut err = Short { room: 3 };
-        let status = run(&rt, alloc, words.as_slice(), &files, &mut out, &mut err);
+        let status = run(
+            &rt,
+            alloc,
+            words.as_slice(),
+            &files,
+            Explaining::AsAsked,
+            &Unwatched,
+            &mut out,
+            &mut err,
+        );
         assert_eq!(&rt; status, wanted);
         assert!(&rt; out.is_empty());
     }

@@ -1,13 +1,14 @@
-use Rattle.mlk_outcome.proofs.OpenGate.{not-shut}
-use Rattle.mlk_app.proofs.Saying.{outcome-answers, refusal-answers}
+use Rattle.mlk_app.proofs.NeverShut.{not-shut}
+use Rattle.mlk_app.proofs.Saying.{program-reported, refusal-answers}
 use Rattle.mlk_app.proofs.program.answer_program.Goals as goal
 
 pub refusal_answer-requires : goal.refusal_answer-requires
 refusal_answer-requires g c = not-shut c.in-Ok.sources c.in-Err.refusal c.in-Err.ensures.refused
 
-pub returns-in-Ok-check_texts : goal.returns-in-Ok-check_texts
-returns-in-Ok-check_texts g c =
-    outcome-answers (g.F.Files.holds c.args.files.now) (g.F.Files.lacks c.args.files.now) c.args.program.now c.in-Ok.sources c.in-Ok-check_texts.checked c.answer_of.result c.in-Ok.ensures.ok c.in-Ok-check_texts.ensures.ok c.answer_of.ensures
+pub returns-in-Ok-print_sources : goal.returns-in-Ok-print_sources
+returns-in-Ok-print_sources g c =
+    let printed = c.in-Ok-print_sources.printed in
+    program-reported (g.F.Files.holds c.args.files.now) c.args.program.now c.in-Ok.sources printed.text printed.status c.in-Ok.ensures.ok c.in-Ok-print_sources.ensures.ok
 
 pub returns-in-Err : goal.returns-in-Err
 returns-in-Err g c =

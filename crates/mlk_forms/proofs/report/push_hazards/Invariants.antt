@@ -1,5 +1,5 @@
 use Rattle.std.proofs.Common.{◌≡◌, ◌++◌, drop}
-use Rattle.mlk_forms.specs.Told.{hazard_lines}
+use Rattle.mlk_forms.specs.Rendering.{hazard_lines}
 use Rattle.mlk_forms.proofs.report.push_hazards.Given as goal
 
 abbrev pub invariant-loop-hazard : goal.invariant-loop-hazard

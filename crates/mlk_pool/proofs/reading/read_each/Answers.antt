@@ -6,11 +6,11 @@ use Rattle.mlk_pool.proofs.reading.read_each.Goals as goal
 
 pub loop-done-preserved : goal.loop-done-preserved
 loop-done-preserved g c =
-    let sources = c.args.sources.items in
+    let sources = c.args.sources.now in
     let done = c.loop-done.done in
     let next = c.next_texts-next.result.now in
     let after = c.next_texts-next.ensures.cut.0 in
-    let left : next ++ after ≡ drop done sources = c.next_texts-next.ensures.cut.1 ∙ ap (drop done) c.as_slice.ensures.value in
+    let left : next ++ after ≡ drop done sources = c.next_texts-next.ensures.cut.1 in
     let found = c.loop-done.found.items in
     let read = c.in_ok-read.read.items in
     let more : c.append.new.self.items ≡ found ++ read = grind rules in (

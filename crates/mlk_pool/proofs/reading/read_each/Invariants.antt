@@ -4,7 +4,7 @@ use Rattle.mlk_pool.specs.Answers.{IsAnswer}
 use Rattle.mlk_pool.proofs.reading.read_each.Given as goal
 
 abbrev pub invariant-loop-done : goal.invariant-loop-done
-invariant-loop-done g l = (l.done ≤ length l.sources.items) × AllZip IsAnswer (take l.done l.sources.items) l.found.items
+invariant-loop-done g l = (l.done ≤ length l.sources) × AllZip IsAnswer (take l.done l.sources) l.found.items
 
 abbrev pub decreases-loop-done : goal.decreases-loop-done
-decreases-loop-done g l = length l.sources.items - l.done
+decreases-loop-done g l = length l.sources - l.done

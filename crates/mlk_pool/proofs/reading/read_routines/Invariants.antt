@@ -5,7 +5,7 @@ use Rattle.mlk_pool.specs.Reading.{AreRead}
 use Rattle.mlk_pool.proofs.reading.read_routines.Given as goal
 
 abbrev pub invariant-loop-done : goal.invariant-loop-done
-invariant-loop-done g l = (l.done ≤ length l.sources.items) × AreRead (take l.done l.sources.items) (map routine_of l.routines.items)
+invariant-loop-done g l = (l.done ≤ length l.sources) × AreRead (take l.done l.sources) (map routine_of l.routines.items)
 
 abbrev pub decreases-loop-done : goal.decreases-loop-done
-decreases-loop-done g l = length l.sources.items - l.done
+decreases-loop-done g l = length l.sources - l.done

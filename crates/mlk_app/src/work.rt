@@ -1,0 +1,235 @@
+// What a program and its rules come to: a report, a certificate, or what is shown of jobs.
+
+ghost use Rattle.std.specs.Prelude.{◌≡◌, IfOk, IfErr, map};
+ghost use Rattle.mlk_syntax.specs.Views.{routine_of};
+ghost use Rattle.mlk_soundness_walk.specs.Forms.{AreFormed};
+ghost use Rattle.mlk_pool.specs.Headline.{RefusesReport, RefusesTrees};
+ghost use Rattle.mlk_outcome.specs.declared.refusal.NoReport.TheVariants as refusal;
+ghost use Rattle.mlk_app.specs.Ran.{style_in, status_of, IsReportPrinted, IsReportOfBlocks, IsPrinted, IsRefusedFor};
+ghost use Rattle.mlk_app.specs.Printing.{IsPrintedOfTrees, IsPrintedOfTexts, IsRefusedSources};
+
+use crate::answer::{NO, YES};
+use crate::source::{Sources, Work, copied_texts};
+use mlk_cert::{Certificate, read_cert};
+use mlk_cli::{Asked, Output, ProgramRequest, ReportStyle};
+use mlk_explain::{Grounds, free_reads};
+use mlk_forms::render_report;
+use mlk_outcome::{NoReport, certificate_for, certificate_text, jobs_text, report_by_certificate};
+use mlk_output::Inputs;
+use mlk_pool::{ReportText, read_routines};
+use mlk_program::{Program, link};
+use mlk_rules::Rules;
+use mlk_rules_file::read_rules;
+use mlk_syntax::Routine;
+use mlk_walk::Report;
+use mlk_watch::Watch;
+use std::alloc::{AllocError, Global};
+use std::sync::Wait;
+use std::thread::Threads;
+
+/// A text to be printed, and the status that the program ends with.
+#[derive(Drop)]
+pub(crate) struct Printed {
+    pub(crate) text: ReportText,
+    pub(crate) status: u8,
+}
+
+/// The style of the report that is asked for.
+pub(crate) fn style_in(asked: &Asked<'_>) -> ReportStyle
+    ensures { result ≡ style_in asked.now }
+{
+    match asked {
+        Asked::Check { style, .. } | Asked::Verify { style, .. } => *style,
+        Asked::Make { .. } | Asked::Replay(_) => ReportStyle {
+            output: Output::Text,
+            is_strict: false,
+            is_explained: false,
+        },
+    }
+}
+
+fn status_of(passes: bool) -> u8
+    ensures { result ≡ status_of passes }
+{
+    if passes { YES } else { NO }
+}
+
+// What a command is about: a program, its rules, the texts of both, and the request.
+#[derive(Drop)]
+struct Subject<'a> {
+    program: &'a Program<'a>,
+    rules: &'a Rules,
+    sources: &'a Sources<'a>,
+    request: &'a ProgramRequest<'a>,
+}
+
+// The texts of the routines, if the report shows lines of them.
+fn shown_texts(
+    alloc: Global,
+    sources: &Sources<'_>,
+    request: &ProgramRequest<'_>,
+) -> Result<Vec<Vec<u8>>, AllocError> {
+    let style = style_in(&request.asked);
+    if style.is_explained || style.output != Output::Text {
+        return copied_texts(alloc, sources.routines.as_slice());
+    }
+    Ok(Vec::new(alloc))
+}
+
+// The patterns of the covers that free reads, for the one form that lists them.
+fn listed_reads(
+    alloc: Global,
+    rule_text: &[u8],
+    output: Output,
+) -> Result<Vec<Vec<u8>>, AllocError> {
+    match output {
+        Output::Json => free_reads(alloc, rule_text),
+        Output::Text | Output::Sarif => Ok(Vec::new(alloc)),
+    }
+}
+
+// Prints `report`, which `grounds` explain.
+fn printed_report(
+    alloc: Global,
+    grounds: &Grounds<'_>,
+    request: &ProgramRequest<'_>,
+    report: &Report,
+) -> Result<Printed, AllocError>
+    ensures { IfOk result (λ p. IsReportPrinted (style_in request.now.asked) (map routine_of grounds.now.program.now) report.now p.text p.status) }
+{
+    let style = style_in(&request.asked);
+    let free_reads = listed_reads(alloc, grounds.rule_text, style.output)?;
+    let inputs = Inputs {
+        routines: grounds.program.routines(),
+        paths: request.routines.as_slice(),
+        texts: grounds.texts,
+        free_reads: free_reads.as_slice(),
+    };
+    let printed = render_report(alloc, &inputs, report, style, grounds)?;
+    let status = status_of(printed.passes);
+    Ok(Printed {
+        text: printed.text,
+        status,
+    })
+}
+
+// Prints the report of a program by `certificate`, which was made of it or given.
+fn print_report<R: Threads + Wait + Sync, W: Watch>(
+    rt: &R,
+    alloc: Global,
+    subject: &Subject<'_>,
+    certificate: &Certificate,
+    is_made: bool,
+    workers: u32,
+    watch: &W,
+) -> Result<Printed, NoReport>
+    requires { AreFormed (map routine_of subject.now.program.now) }
+    ensures ok { IfOk result (λ p. IsReportOfBlocks (style_in subject.now.request.now.asked) (map routine_of subject.now.program.now) subject.now.rules.now certificate.now p.text p.status) }
+    ensures refused { IfErr result (RefusesReport refusal.Check (Unit {0}) workers (map routine_of subject.now.program.now) subject.now.rules.now certificate.now) }
+{
+    let Subject {
+        program,
+        rules,
+        sources,
+        request,
+    } = subject;
+    let report = report_by_certificate(rt, alloc, *program, *rules, certificate, workers, watch)?;
+    let texts = shown_texts(alloc, sources, *request)?;
+    let grounds = Grounds {
+        program: *program,
+        texts: texts.as_slice(),
+        rules: *rules,
+        rule_text: sources.rules.as_slice(),
+        certificate,
+        is_made,
+    };
+    let printed = printed_report(alloc, &grounds, *request, &report)?;
+    Ok(printed)
+}
+
+// Prints what is asked of a program and its rules.
+fn print_work<R: Threads + Wait + Sync, W: Watch>(
+    rt: &R,
+    alloc: Global,
+    subject: &Subject<'_>,
+    watch: &W,
+) -> Result<Printed, NoReport>
+    requires { AreFormed (map routine_of subject.now.program.now) }
+    ensures ok { IfOk result (λ p. IsPrinted (style_in subject.now.request.now.asked) (map routine_of subject.now.program.now) subject.now.rules.now subject.now.sources.now.work p.text p.status) }
+    ensures refused { IfErr result (IsRefusedFor subject.now.sources.now.work (map routine_of subject.now.program.now) subject.now.rules.now) }
+{
+    let program = subject.program;
+    let rules = subject.rules;
+    match &subject.sources.work {
+        Work::Check {
+            certificate,
+            workers,
+        } => {
+            let certificate = read_cert(alloc, certificate.as_slice())?;
+            print_report(rt, alloc, subject, &certificate, false, *workers, watch)
+        }
+        Work::Verify { workers } => {
+            let certificate = certificate_for(alloc, program, rules, watch)?;
+            print_report(rt, alloc, subject, &certificate, true, *workers, watch)
+        }
+        Work::Make { format } => {
+            let text = certificate_text(alloc, program, rules, *format, watch)?;
+            Ok(Printed {
+                text: ReportText::of(text),
+                status: YES,
+            })
+        }
+        Work::Replay(events) => {
+            let text = jobs_text(alloc, program, rules, events.as_slice())?;
+            Ok(Printed {
+                text: ReportText::of(text.into_bytes()),
+                status: YES,
+            })
+        }
+    }
+}
+
+// Links `routines`, reads their rules, and prints what is asked of both.
+fn print_routines<R: Threads + Wait + Sync, W: Watch>(
+    rt: &R,
+    alloc: Global,
+    routines: &[Routine],
+    sources: &Sources<'_>,
+    request: &ProgramRequest<'_>,
+    watch: &W,
+) -> Result<Printed, NoReport>
+    requires { AreFormed (map routine_of routines.now) }
+    ensures ok { IfOk result (λ p. IsPrintedOfTrees (style_in request.now.asked) (map routine_of routines.now) sources.now p.text p.status) }
+    ensures refused { IfErr result (RefusesTrees refusal.Check (map routine_of routines.now) sources.now.rules.items (IsRefusedFor sources.now.work)) }
+{
+    let program = link(alloc, routines)?;
+    let rules = read_rules(alloc, sources.rules.as_slice())?;
+    let subject = Subject {
+        program: &program,
+        rules: &rules,
+        sources,
+        request,
+    };
+    let printed = print_work(rt, alloc, &subject, watch);
+    watch.discard(program);
+    printed
+}
+
+/// Reads the routines of `sources`, and prints what is asked of them.
+///
+/// Refuses, in this order: the first routine that can't be read, their linking, the rules, and what `print_work` refuses.
+pub(crate) fn print_sources<R: Threads + Wait + Sync, W: Watch>(
+    rt: &R,
+    alloc: Global,
+    sources: &Sources<'_>,
+    request: &ProgramRequest<'_>,
+    watch: &W,
+) -> Result<Printed, NoReport>
+    ensures ok { IfOk result (λ p. IsPrintedOfTexts (style_in request.now.asked) sources.now p.text p.status) }
+    ensures refused { IfErr result (IsRefusedSources sources.now) }
+{
+    let routines = read_routines(rt, alloc, sources.routines.as_slice(), watch)?;
+    let printed = print_routines(rt, alloc, routines.as_slice(), sources, request, watch);
+    watch.discard(routines);
+    printed
+}

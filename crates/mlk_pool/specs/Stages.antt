@@ -1,0 +1,20 @@
+-- What is found and what is refused of the trees of routines that were read. It only serves private clauses.
+use Rattle.std.specs.Prelude.{ℕ, List}
+use Rattle.mlk_syntax.specs.Trees.{RoutineTree}
+use Rattle.mlk_program.specs.Program.{IsProgram}
+use Rattle.mlk_rules.specs.declared.rules.RuleLists.{RuleLists}
+use Rattle.mlk_rules_file.specs.RuleSections.{SaysRules}
+use Rattle.mlk_cert_parts.specs.declared.block.EntryCert.{EntryCert}
+use Rattle.mlk_cert.specs.Theorem.{Spells}
+use Rattle.mlk_walk.specs.declared.report.Row.{Row}
+use Rattle.mlk_pool.specs.declared.error.CheckError.{CheckError}
+use Rattle.mlk_pool.specs.Headline.{IsReportBy, RefusesTrees, RefusesByText}
+
+-- the report of trees that make a program, by the texts of rules and of a certificate
+abbrev pub IsReportOfTrees : List RoutineTree → List ℕ → List ℕ → List Row → Type 0
+IsReportOfTrees trees rules_text cert_text rows =
+    IsProgram trees × (rules : RuleLists) × SaysRules rules_text rules × (blocks : List EntryCert) × Spells blocks cert_text × IsReportBy trees rules blocks rows
+
+-- why trees have none
+abbrev pub IsUnreportedOfTrees : Type 0 → ℕ → List RoutineTree → List ℕ → List ℕ → CheckError → Type 0
+IsUnreportedOfTrees is_open workers trees rules_text cert_text e = RefusesTrees (λ e. e) trees rules_text (RefusesByText (λ e. e) is_open workers cert_text) e
