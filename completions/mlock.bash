@@ -7,11 +7,11 @@ _mlock() {
     if [ "$before" = "=" ]; then before=${COMP_WORDS[COMP_CWORD - 2]}; fi
     COMPREPLY=()
     if [ "$COMP_CWORD" -eq 1 ]; then
-        mapfile -t COMPREPLY < <(compgen -W "check make verify replay convert survey explain help --help --version" -- "$word")
+        mapfile -t COMPREPLY < <(compgen -W "check make verify replay convert survey suggest help --help --version" -- "$word")
         return
     fi
     case ${COMP_WORDS[1]}:$before in
-        help:*) words="check make verify replay convert survey explain" ;;
+        help:*) words="check make verify replay convert survey suggest" ;;
         check:--workers) words="" ;;
         check:--output) words="text json sarif" ;;
         make:--format) words="1 2" ;;
@@ -34,7 +34,7 @@ _mlock() {
             replay) words="--help" ;;
             convert) words="--format --help" ;;
             survey) words="--output --help" ;;
-            explain) words="--help" ;;
+            suggest) words="--beside --help" ;;
         esac
     fi
     mapfile -t COMPREPLY < <(compgen -W "$words" -- "$word")

@@ -163,8 +163,17 @@ def try_twin(room, example):
     ask(given.status == 1 and not second_looks.form(given), f'the twin is refused otherwise: {tuple(given)}')
 
 
+def ask_suggested(room, name):
+    """Rules are suggested for any routine, whatever can't be read, and what is printed is read as rules."""
+    suggested = room.run('suggest', name)
+    ask(suggested.status == 0 and not suggested.error, f'no rules are suggested: {tuple(suggested)}')
+    again = room.run('suggest', '--beside', room.write('suggested', suggested.out.encode()), name)
+    ask(again.status == 0 and not again.error, f'what is suggested is no rule file: {tuple(again)}')
+
+
 def try_changed_routine(room, example, text):
     name = room.write(f'{example.routines[0]}.m', text)
+    ask_suggested(room, name)
     given = room.check(example.rules, example.certificate, [name])
     ask_form(given)
     fault = second_routine_reader.routine(example.routines[0], text.decode('latin-1'))

@@ -21,6 +21,15 @@ def takes_value(words):
     return '<' in words
 
 
+def value_name(words):
+    """The name of an option's value, or of an argument."""
+    return re.search(r'<(.*)>', words)[1]
+
+
+def takes_file(words):
+    return takes_value(words) and value_name(words) in ENDINGS
+
+
 def name_of(words):
     """An option as it is given, without the name of its value."""
     return words.split()[0]
@@ -39,7 +48,8 @@ def command_options(it, whole):
 def bash(whole):
     """For bash."""
     values = [f'        {command}:{name_of(words)}) words="{" ".join(choices(words, said))}" ;;\n'
-              for command, it in whole.commands.items() for words, said in it.options if takes_value(words)]
+              for command, it in whole.commands.items() for words, said in it.options
+              if takes_value(words) and not takes_file(words)]
     options = [f'            {command}) words="{" ".join(command_options(it, whole))}" ;;\n' for command, it in whole.commands.items()]
     names = ' '.join([*whole.commands, ALWAYS[0]])
     return f'''{MADE}
@@ -77,24 +87,24 @@ def zsh_text(text):
     return re.sub(r'([\[\]:\\])', r'\\\1', text).replace("'", "'\\''")
 
 
+def zsh_files(name):
+    """The files that a value with this name may have."""
+    return f'_files -g "*.{ENDINGS[name]}(-.)"'
+
+
 def zsh_option(words, said):
     values = choices(words, said)
-    value = f':{re.search(r"<(.*)>", words)[1]}:{"(" + " ".join(values) + ")" if values else ""}' if takes_value(words) else ''
+    value = ''
+    if takes_file(words):
+        value = f':{value_name(words)}:{zsh_files(value_name(words))}'
+    elif takes_value(words):
+        value = f':{value_name(words)}:{"(" + " ".join(values) + ")" if values else ""}'
     return f"'{name_of(words)}[{zsh_text(said)}]{value}'"
-
-
-def argument_name(words):
-    return re.search(r'<(.*)>', words)[1]
-
-
-def is_file(words):
-    """Whether an argument is a file's path."""
-    return argument_name(words) in ENDINGS
 
 
 def zsh_argument(number, words, said):
     place = '*' if words.endswith('...') else number
-    files = f'_files -g "*.{ENDINGS[argument_name(words)]}(-.)"' if is_file(words) else ''
+    files = zsh_files(value_name(words)) if takes_file(words) else ''
     return f"'{place}:{zsh_text(said)}:{files}'"
 
 
@@ -149,6 +159,7 @@ def fish(whole):
         for words, said in it.options:
             values = choices(words, said)
             value = f" -x{' -a ' + fish_text(' '.join(values)) if values else ''}" if takes_value(words) else ''
+            value = ' -r' if takes_file(words) else value
             lines.append(f'{seen} -l {name_of(words)[2:]}{value} -d {fish_text(said)}\n')
         lines.append(f'{seen} -s h -l help -d {fish_text("Print help")}\n')
     return MADE + '\n' + ''.join(lines)

@@ -1,4 +1,5 @@
 pub mod Paths
 pub mod Sources
 pub mod Saying
+pub mod Suggesting
 mod NeverShut

@@ -1,6 +1,6 @@
 -- The texts that a command reads: those of the files that it names, and a routine's name from its file's. This
 -- project's own choice.
-use Rattle.std.specs.Prelude.{ℕ, ◌≡◌, ◌<◌, ◌⊎◌, List, [], ◌∷◌, ◌++◌, length, slice_index}
+use Rattle.std.specs.Prelude.{Option, None, Some, ℕ, ◌≡◌, ◌<◌, ◌⊎◌, List, [], ◌∷◌, ◌++◌, length, slice_index}
 use Rattle.std.specs.Borrow.{Bor}
 use Rattle.mlk_app.specs.declared.source.FileError.{FileError}
 use Rattle.mlk_app.specs.declared.source.FileError.TheVariants as error
@@ -83,10 +83,16 @@ work_path (asked.Replay path) = path.now ∷ []
 abbrev pub program_paths : ProgramRequest → List (List ℕ)
 program_paths program = program.rules.now ∷ (work_path program.asked ++ bytes_of program.routines.items)
 
+-- the path of the rules beside which others are suggested, if there is one
+abbrev pub beside_path : Option (Bor (List ℕ)) → List (List ℕ)
+beside_path None = []
+beside_path (Some path) = path.now ∷ []
+
 abbrev pub paths_of : Request → List (List ℕ)
 paths_of (request.Program program) = program_paths program
 paths_of (request.Convert certificate format) = certificate.now ∷ []
 paths_of (request.Survey survey) = bytes_of survey.routines.items
+paths_of (request.Suggest suggestion) = beside_path suggestion.beside ++ bytes_of suggestion.routines.items
 paths_of (request.Explain code) = []
 
 -- each of these paths has a text

@@ -1,6 +1,6 @@
 -- What the program says: what it prints on standard output, what it tells on the error stream, and the status that
 -- it ends with. This project's own choice.
-use Rattle.std.specs.Prelude.{◌≡◌, ◌⊎◌, ℕ, List, [], Bool, true, false, Option, None, Some, String}
+use Rattle.std.specs.Prelude.{◌≡◌, ◌⊎◌, ℕ, List, [], ◌∷◌, Bool, true, false, Option, None, Some, String}
 use Rattle.std.specs.Io.KnownBytes.{Keeps, Appends}
 use Rattle.mlk_syntax.specs.Trees.{RoutineTree}
 use Rattle.mlk_walk.specs.declared.report.Row.{Row}
@@ -11,6 +11,7 @@ use Rattle.mlk_cli.specs.declared.words.Asked.{Asked}
 use Rattle.mlk_cli.specs.declared.words.Asked.TheVariants as asked
 use Rattle.mlk_cli.specs.declared.words.ProgramRequest.{ProgramRequest}
 use Rattle.mlk_cli.specs.declared.words.SurveyRequest.{SurveyRequest}
+use Rattle.mlk_cli.specs.declared.words.SuggestRequest.{SuggestRequest}
 use Rattle.mlk_cli.specs.declared.words.Request.{Request}
 use Rattle.mlk_cli.specs.declared.words.Request.TheVariants as request
 use Rattle.mlk_text.specs.declared.failure.Failure.TheVariants as failure
@@ -26,13 +27,16 @@ use Rattle.mlk_app.specs.declared.source.Sources.{Sources}
 use Rattle.mlk_app.specs.declared.source.Work.{Work}
 use Rattle.mlk_app.specs.declared.source.Work.TheVariants as work
 use Rattle.mlk_pool.specs.declared.source.Source.{Source}
+use Rattle.std.specs.Borrow.{Bor}
+use Rattle.mlk_rules_file.specs.declared.read.fault.RulesFault.{RulesFault}
+use Rattle.mlk_suggest_text.specs.RuleTexts.{IsRuleText}
 use Rattle.mlk_forms.specs.Rendering.{IsRendered, IsNoticed}
 use Rattle.mlk_app.specs.Printed.{fault_line, rules_line, certificate_line, missing_line, workers_line, stuck_line, events_line, file_line, no_page_line}
-use Rattle.mlk_app.specs.Files.{Texts, AreTexts, AreSources, IsFirstLost, cert_format, paths_of}
-use Rattle.mlk_cli.specs.CommandLine.{IsRequest, AsksNothing}
+use Rattle.mlk_app.specs.Files.{Texts, AreTexts, AreSources, IsFirstLost, beside_path, cert_format, paths_of}
+use Rattle.mlk_cli.specs.CommandLine.{IsRequest, AsksNothing, bytes_of}
 use Rattle.mlk_program.specs.Program.{IsProgram}
 use Rattle.mlk_rules.specs.declared.rules.RuleLists.{RuleLists}
-use Rattle.mlk_rules_file.specs.RuleSections.{SaysRules}
+use Rattle.mlk_rules_file.specs.RuleSections.{SaysRules, RefusesRules}
 use Rattle.mlk_cert_parts.specs.declared.block.EntryCert.{EntryCert}
 use Rattle.mlk_cert.specs.Theorem.{Spells}
 use Rattle.mlk_pool.specs.Reading.{AreRead}
@@ -55,6 +59,7 @@ abbrev pub output_in : Request → Output
 output_in (request.Program program) = (style_in program.asked).output
 output_in (request.Convert certificate format) = Plain
 output_in (request.Survey survey) = Plain
+output_in (request.Suggest suggestion) = Plain
 output_in (request.Explain code) = Plain
 
 -- 0 for a report that passes, 1 for another
@@ -134,6 +139,22 @@ TellsFault fault (answer.Unread line help) = ⊥
 TellsFault fault (answer.Usage text) = ⊥
 TellsFault fault answer.OutOfMemory = Unit {0}
 
+-- the line of a rule file's fault, where memory doesn't run out
+abbrev pub TellsRules : RulesFault → Answer → Type 0
+TellsRules fault (answer.Report text status) = ⊥
+TellsRules fault (answer.Refused line notice help) = (line ≡ rules_line fault) × (notice ≡ None)
+TellsRules fault (answer.Unread line help) = ⊥
+TellsRules fault (answer.Usage text) = ⊥
+TellsRules fault answer.OutOfMemory = Unit {0}
+
+-- the text of a rule file, where memory doesn't run out
+abbrev pub PrintsRules : Answer → Type 0
+PrintsRules (answer.Report text status) = IsRuleText text × (status ≡ 0)
+PrintsRules (answer.Refused line notice help) = ⊥
+PrintsRules (answer.Unread line help) = ⊥
+PrintsRules (answer.Usage text) = ⊥
+PrintsRules answer.OutOfMemory = Unit {0}
+
 -- the line of a path that can't be read, where memory doesn't run out
 abbrev pub TellsUnread : List ℕ → Answer → Type 0
 TellsUnread path (answer.Report text status) = ⊥
@@ -189,28 +210,58 @@ pub record IsSurveyed (holds : Texts) (survey : SurveyRequest) : Type 0 where
   pub sources : List Source
   pub texts : AreSources holds survey.routines.items sources
 
+-- Rules are suggested for the texts at the paths, whatever they are. What is printed is a rule file; which one, nothing says.
+pub record IsSuggested (holds : Texts) (paths : List (Bor (List ℕ))) (text : List ℕ) : Type 0 where
+  pub sources : List Source
+  pub texts : AreSources holds paths sources
+  pub rules : IsRuleText text
+
+-- the refusal of the rules beside which others were to be suggested
+pub record IsUnsuggested (holds : Texts) (suggestion : SuggestRequest) (line : List ℕ) : Type 0 where
+  pub path : List ℕ
+  pub named : beside_path suggestion.beside ≡ path ∷ []
+  pub given : List ℕ
+  pub held : holds path given
+  pub fault : RulesFault
+  pub refused : RefusesRules given (failure.Refused fault)
+  pub told : line ≡ rules_line fault
+
+-- the first of these paths that can't be read
+pub record IsFirstUnread (holds : Texts) (lacks : List ℕ → Type 0) (paths : List (List ℕ)) (line : List ℕ) : Type 0 where
+  pub path : List ℕ
+  pub lost : IsFirstLost holds lacks paths path
+  pub told : line ≡ file_line path
+
+-- what is answered if rules are suggested for the routines at these paths
+abbrev pub SuggestsFor : Texts → (List ℕ → Type 0) → List (Bor (List ℕ)) → Answer → Type 0
+SuggestsFor holds lacks paths (answer.Report text status) = IsSuggested holds paths text × (status ≡ 0)
+SuggestsFor holds lacks paths (answer.Refused line notice help) = ⊥
+SuggestsFor holds lacks paths (answer.Unread line help) = IsFirstUnread holds lacks (bytes_of paths) line
+SuggestsFor holds lacks paths (answer.Usage text) = ⊥
+SuggestsFor holds lacks paths answer.OutOfMemory = Unit {0}
+
 -- what the texts at the paths of a request come to: a certificate is printed as it is; what a page says is not said
 abbrev pub IsReported : Texts → Request → List ℕ → ℕ → Type 0
 IsReported holds (request.Program program) text status = IsProgramReported holds program text status
 IsReported holds (request.Convert certificate format) text status = IsConvertedThere holds certificate.now (cert_format format) text × (status ≡ 0)
 IsReported holds (request.Survey survey) text status = IsSurveyed holds survey × (status ≡ 0)
+IsReported holds (request.Suggest suggestion) text status = IsSuggested holds suggestion.routines.items text × (status ≡ 0)
 IsReported holds (request.Explain code) text status = status ≡ 0
 
 abbrev pub IsRefusedThere : Texts → Request → List ℕ → Type 0
 IsRefusedThere holds (request.Program program) line = IsProgramRefused holds program line
 IsRefusedThere holds (request.Convert certificate format) line = IsUnconvertedThere holds certificate.now (cert_format format) line
 IsRefusedThere holds (request.Survey survey) line = ⊥
+IsRefusedThere holds (request.Suggest suggestion) line = IsUnsuggested holds suggestion line
 IsRefusedThere holds (request.Explain code) line = line ≡ no_page_line code.now
 
 -- The line on the error stream, and what is printed beside it. What explains the line, below it on the error stream, is not said.
 abbrev pub IsRefusedSo : Texts → Request → List ℕ → Option (List ℕ) → Type 0
 IsRefusedSo holds request line notice = IsRefusedThere holds request line × IsNoticed (output_in request) notice
 
--- the first path that can't be read
-pub record IsUnread (holds : Texts) (lacks : List ℕ → Type 0) (request : Request) (line : List ℕ) : Type 0 where
-  pub path : List ℕ
-  pub lost : IsFirstLost holds lacks (paths_of request) path
-  pub told : line ≡ file_line path
+-- the first path of a request that can't be read
+abbrev pub IsUnread : Texts → (List ℕ → Type 0) → Request → List ℕ → Type 0
+IsUnread holds lacks request line = IsFirstUnread holds lacks (paths_of request) line
 
 -- What the program answers to a request. Want of memory says nothing.
 abbrev pub Answers : Texts → (List ℕ → Type 0) → Request → Answer → Type 0

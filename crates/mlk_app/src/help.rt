@@ -11,6 +11,7 @@ use mlk_pool::CheckError;
 use mlk_refusal_text::{
     GivenFile, Spot, code_help, entry_help, line_help, routine_help, rules_help, unread_help,
 };
+use mlk_rules_file::RulesFault;
 use mlk_text::Code;
 use mlk_watch::Watch;
 use std::alloc::{AllocError, Global};
@@ -93,6 +94,20 @@ pub(crate) fn certificate_help<'a>(
         column: None,
     };
     line_help(alloc, fault.code, &file, spot)
+}
+
+/// Writes what explains why the rule file at `path`, which has this text, is refused; nothing unless `explaining` asks for it.
+pub(crate) fn rule_file_help<'a>(
+    alloc: Global,
+    path: &'a str,
+    text: &'a [u8],
+    fault: &RulesFault,
+    explaining: Explaining,
+) -> Result<Vec<u8>, AllocError> {
+    if explaining == Explaining::AsAsked {
+        return Ok(Vec::new(alloc));
+    }
+    rules_help(alloc, &GivenFile { path, text }, fault)
 }
 
 /// Writes why the file at `path` can't be read, below the line that says so; for this it is read once more. Nothing is written

@@ -11,6 +11,7 @@ mod program;
 mod refused;
 mod source;
 mod stuck;
+mod suggestion;
 mod work;
 
 pub use file::{LONGEST_FILE, read_whole};

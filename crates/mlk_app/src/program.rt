@@ -16,6 +16,7 @@ use crate::printed::{
 };
 use crate::refused::{refused_file, rule_file, spot_in};
 use crate::source::{FileError, Files, Sources, cert_format, read_file, read_files, read_sources};
+use crate::suggestion::answer_suggestion;
 use crate::work::{print_sources, style_in};
 use mlk_cert::CertFault;
 use mlk_cli::{Format, ProgramRequest, Request, SurveyRequest, UsageError, read_request};
@@ -137,8 +138,13 @@ fn fault_answer<'a>(
     }
 }
 
-// What is answered if the file at a path can't be read.
-fn unread_answer<F: Files>(alloc: Global, files: &F, path: &str, is_explained: bool) -> Answer
+/// What is answered if the file at `path` can't be read.
+pub(crate) fn unread_answer<F: Files>(
+    alloc: Global,
+    files: &F,
+    path: &str,
+    is_explained: bool,
+) -> Answer
     ensures { TellsUnread path.now result }
 {
     let Ok(help) = why_unread(alloc, files, path, is_explained) else {
@@ -262,6 +268,7 @@ fn answer_request<R: Threads + Wait + Sync, F: Files, W: Watch>(
             format,
         } => answer_conversion(alloc, *certificate, *format, files, explaining, watch),
         Request::Survey(survey) => answer_survey(rt, alloc, survey, files, explaining, watch),
+        Request::Suggest(suggestion) => answer_suggestion(alloc, suggestion, files, explaining),
         Request::Explain(code) => answer_page(alloc, *code),
     }
 }
@@ -296,8 +303,8 @@ pub fn wrong_words<E: Write>(error: &io::Error, err: &mut E) -> u8
 }
 
 /// Does what the words ask for, after the first, which is the program's name, and answers the status: 0 for `yes`,
-/// a certificate, jobs or a survey, 1 for `no` and, with `--strict`, for a hazard, 2 for refused input, 3 if memory runs
-/// out or for a file that can't be read or written.
+/// a certificate, jobs, a survey or suggested rules, 1 for `no` and, with `--strict`, for a hazard, 2 for refused input,
+/// 3 if memory runs out or for a file that can't be read or written.
 ///
 /// The texts of routines are read side by side, by these threads, and the lines of entries are walked so by the workers that
 /// the words ask for. Reports go to `out`, and so does the JSON or SARIF of a refusal; all else goes to `err`. A fault of

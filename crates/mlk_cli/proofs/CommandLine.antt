@@ -16,10 +16,11 @@ use Rattle.mlk_cli.specs.declared.words.SurveyOutput.{SurveyOutput}
 use Rattle.mlk_cli.specs.declared.words.SurveyOutput.TheVariants as surveyed
 use Rattle.mlk_cli.specs.declared.words.ReportStyle.{ReportStyle}
 use Rattle.mlk_cli.specs.declared.words.SurveyRequest.{SurveyRequest}
+use Rattle.mlk_cli.specs.declared.words.SuggestRequest.{SuggestRequest}
 use Rattle.mlk_cli.specs.declared.words.Request.{Request}
 use Rattle.mlk_cli.specs.declared.words.Request.TheVariants as request
 use Rattle.mlk_cli.specs.declared.words.ProgramRequest.{ProgramRequest}
-use Rattle.mlk_cli.specs.CommandLine.{mlock_app, IsAsked, IsNumber, IsNumberOf, IsFormat, IsWalk, IsOutput, NamesOutput, GivesOutput, IsFlag, IsSurveyOutput, IsSurvey, IsConversion, IsProgramGiven, IsGiven, GivesNumber}
+use Rattle.mlk_cli.specs.CommandLine.{mlock_app, IsAsked, IsNumber, IsNumberOf, IsFormat, IsWalk, IsOutput, NamesOutput, GivesOutput, IsFlag, IsSurveyOutput, IsSurvey, IsSuggestion, IsConversion, IsProgramGiven, IsGiven, GivesNumber}
 
 pub not-true : (b : Bool) → not b ≡ true → b ≡ false
 not-true true h = cc h
@@ -64,6 +65,9 @@ page_words = codes "mlock" ∷ codes "explain" ∷ codes "702" ∷ []
 reads_code : option_map (λ p. first_of (codes "CODE") p.1) (subcommand_of mlock_app page_words) ≡ Some (Some (codes "702"))
 unfolding clap_on_literals
 reads_code = refl
+
+abbrev suggest_words : List Text
+suggest_words = codes "mlock" ∷ codes "suggest" ∷ codes "--beside" ∷ codes "r" ∷ codes "A.m" ∷ codes "B.m" ∷ []
 
 reads_rules : option_map (λ p. first_of (codes "RULES") p.1) (subcommand_of mlock_app words) ≡ Some (Some (codes "r"))
 unfolding clap_on_literals
@@ -136,6 +140,18 @@ tells_as_text = refl
 surveys_as_text : option_map (λ p. first_of (codes "output") p.1) (subcommand_of mlock_app survey_words) ≡ Some (Some (codes "text"))
 unfolding clap_on_literals
 surveys_as_text = refl
+
+suggests_beside : option_map (λ p. first_of (codes "beside") p.1) (subcommand_of mlock_app suggest_words) ≡ Some (Some (codes "r"))
+unfolding clap_on_literals
+suggests_beside = refl
+
+suggests_for_routines : option_map (λ p. all_of (codes "ROUTINE") p.1) (subcommand_of mlock_app suggest_words) ≡ Some (Some (codes "A.m" ∷ codes "B.m" ∷ []))
+unfolding clap_on_literals
+suggests_for_routines = refl
+
+suggests_beside_nothing : option_map (λ p. first_of (codes "beside") p.1) (subcommand_of mlock_app (codes "mlock" ∷ codes "suggest" ∷ codes "A.m" ∷ [])) ≡ Some None
+unfolding clap_on_literals
+suggests_beside_nothing = refl
 
 -- words that are taken, and words that are not
 takes_words : takes mlock_app words ≡ true
@@ -275,6 +291,15 @@ survey-not-replay e = let bad : ◌≡◌ {A = ℕ} 114 115 = starts_survey (cod
 survey-not-verify : codes "survey" ≡ codes "verify" → ⊥
 survey-not-verify e = let bad : ◌≡◌ {A = ℕ} 118 115 = starts_survey (codes "verify") (sym e) in omega arith
 
+starts_suggest : (text : Text) → text ≡ codes "suggest" → slice_index text 0 ≡ 115
+starts_suggest text is = rw is refl
+
+suggest-not-convert : codes "suggest" ≡ codes "convert" → ⊥
+suggest-not-convert e = let bad : ◌≡◌ {A = ℕ} 99 115 = starts_suggest (codes "convert") (sym e) in omega arith
+
+suggest-not-explain : codes "suggest" ≡ codes "explain" → ⊥
+suggest-not-explain e = let bad : ◌≡◌ {A = ℕ} 101 115 = starts_suggest (codes "explain") (sym e) in omega arith
+
 -- what a word of a command line names
 pub named-output : (rows : List Row) (text : Text) (r : Option Output) → first_of (codes "output") rows ≡ Some text → NamesOutput text r → GivesOutput rows r
 named-output rows text None is none = λ output h. none output (some_same (sym is ∙ h))
@@ -334,6 +359,7 @@ pub converts-nothing : (name : Text) (rows : List Row) → name ≡ codes "conve
 converts-nothing name rows is none (request.Program program) h = no-program name rows is program.asked h.asked
 converts-nothing name rows is none (request.Convert certificate format) h = none certificate format h.1
 converts-nothing name rows is none (request.Survey survey) h = let bad = sym is ∙ h.0 in cc bad
+converts-nothing name rows is none (request.Suggest suggestion) h = suggest-not-convert (sym h.0 ∙ is)
 converts-nothing name rows is none (request.Explain code) h = explain-not-convert (sym h.0 ∙ is)
 
 no-survey-of-program : (name : Text) (rows : List Row) → name ≡ codes "survey" → (a : Asked) → IsAsked name rows a → ⊥
@@ -347,7 +373,22 @@ pub surveys-nothing : (name : Text) (rows : List Row) → name ≡ codes "survey
 surveys-nothing name rows is none (request.Program program) h = no-survey-of-program name rows is program.asked h.asked
 surveys-nothing name rows is none (request.Convert certificate format) h = let bad = sym is ∙ h.0 in cc bad
 surveys-nothing name rows is none (request.Survey survey) h = none survey h.1
+surveys-nothing name rows is none (request.Suggest suggestion) h = let bad = sym is ∙ h.0 in cc bad
 surveys-nothing name rows is none (request.Explain code) h = let bad = sym is ∙ h.0 in cc bad
+
+no-suggestion-of-program : (name : Text) (rows : List Row) → name ≡ codes "suggest" → (a : Asked) → IsAsked name rows a → ⊥
+no-suggestion-of-program name rows is (asked.Check path workers style) h = let bad = sym is ∙ h.0 in cc bad
+no-suggestion-of-program name rows is (asked.Make format) h = let bad = sym is ∙ h.0 in cc bad
+no-suggestion-of-program name rows is (asked.Verify workers style) h = let bad = sym is ∙ h.0 in cc bad
+no-suggestion-of-program name rows is (asked.Replay path) h = let bad = sym is ∙ h.0 in cc bad
+
+pub suggests-nothing : (name : Text) (rows : List Row) → name ≡ codes "suggest" → ((suggestion : SuggestRequest) → IsSuggestion rows suggestion → ⊥)
+    → (r : Request) → IsGiven name rows r → ⊥
+suggests-nothing name rows is none (request.Program program) h = no-suggestion-of-program name rows is program.asked h.asked
+suggests-nothing name rows is none (request.Convert certificate format) h = suggest-not-convert (sym is ∙ h.0)
+suggests-nothing name rows is none (request.Survey survey) h = let bad = sym is ∙ h.0 in cc bad
+suggests-nothing name rows is none (request.Suggest suggestion) h = none suggestion h.1
+suggests-nothing name rows is none (request.Explain code) h = suggest-not-explain (sym is ∙ h.0)
 
 -- `explain` asks for nothing but a page, and without a code for nothing.
 no-explained-program : (name : Text) (rows : List Row) → name ≡ codes "explain" → (a : Asked) → IsAsked name rows a → ⊥
@@ -360,11 +401,13 @@ pub explains-nothing : (name : Text) (rows : List Row) → name ≡ codes "expla
 explains-nothing name rows is none (request.Program program) h = no-explained-program name rows is program.asked h.asked
 explains-nothing name rows is none (request.Convert certificate format) h = explain-not-convert (sym is ∙ h.0)
 explains-nothing name rows is none (request.Survey survey) h = let bad = sym is ∙ h.0 in cc bad
+explains-nothing name rows is none (request.Suggest suggestion) h = suggest-not-explain (sym h.0 ∙ is)
 explains-nothing name rows is none (request.Explain code) h = let bad = none ∙ h.1 in cc bad
 
-pub no-request : (name : Text) (rows : List Row) → (name ≡ codes "convert" → ⊥) → (name ≡ codes "survey" → ⊥) → (name ≡ codes "explain" → ⊥) → ((program : ProgramRequest) → IsProgramGiven name rows program → ⊥)
-    → (r : Request) → IsGiven name rows r → ⊥
-no-request name rows no-convert no-survey no-explain none (request.Program program) h = none program h
-no-request name rows no-convert no-survey no-explain none (request.Convert certificate format) h = no-convert h.0
-no-request name rows no-convert no-survey no-explain none (request.Survey survey) h = no-survey h.0
-no-request name rows no-convert no-survey no-explain none (request.Explain code) h = no-explain h.0
+pub no-request : (name : Text) (rows : List Row) → (name ≡ codes "convert" → ⊥) → (name ≡ codes "survey" → ⊥) → (name ≡ codes "explain" → ⊥) → (name ≡ codes "suggest" → ⊥)
+    → ((program : ProgramRequest) → IsProgramGiven name rows program → ⊥) → (r : Request) → IsGiven name rows r → ⊥
+no-request name rows no-convert no-survey no-explain no-suggest none (request.Program program) h = none program h
+no-request name rows no-convert no-survey no-explain no-suggest none (request.Convert certificate format) h = no-convert h.0
+no-request name rows no-convert no-survey no-explain no-suggest none (request.Survey survey) h = no-survey h.0
+no-request name rows no-convert no-survey no-explain no-suggest none (request.Suggest suggestion) h = no-suggest h.0
+no-request name rows no-convert no-survey no-explain no-suggest none (request.Explain code) h = no-explain h.0

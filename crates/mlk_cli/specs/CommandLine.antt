@@ -1,6 +1,6 @@
 -- The command line, by what `clap` makes of its words. This project's own choice.
 use Rattle.std.specs.Borrow.{Bor}
-use Rattle.std.specs.Prelude.{ℕ, ◌≡◌, ◌<◌, ◌^◌, List, [], ◌∷◌, Option, Some, None, Bool, if◌then◌else◌, codes, pos, true, map, string_bytes, String}
+use Rattle.std.specs.Prelude.{option_map, ℕ, ◌≡◌, ◌<◌, ◌^◌, List, [], ◌∷◌, Option, Some, None, Bool, if◌then◌else◌, codes, pos, true, map, string_bytes, String}
 use Rattle.std.specs.Str.Parse.{IsNumeral, digits_value, without_leading_plus}
 use Rattle.clap.specs.Lexer.{usize_max}
 use Rattle.clap.specs.Words.{App, Row, Rule, Text, all_of, first_of, new_app, new_rule, one_of, subcommand_of, with_rule, with_subcommand}
@@ -19,6 +19,7 @@ use Rattle.mlk_cli.specs.declared.words.SurveyOutput.TheVariants as surveyed
 use Rattle.mlk_cli.specs.declared.words.ReportStyle.{ReportStyle}
 use Rattle.mlk_cli.specs.declared.words.ProgramRequest.{ProgramRequest}
 use Rattle.mlk_cli.specs.declared.words.SurveyRequest.{SurveyRequest}
+use Rattle.mlk_cli.specs.declared.words.SuggestRequest.{SuggestRequest}
 use Rattle.mlk_cli.specs.declared.words.Request.{Request}
 use Rattle.mlk_cli.specs.declared.words.Request.TheVariants as request
 use Rattle.mlk_cli.specs.declared.words.UsageError.{UsageError}
@@ -80,6 +81,14 @@ convert_app = with_rule (with_rule (new_app (codes "convert")) (path_rule (codes
 abbrev pub survey_app : App
 survey_app = with_rule (with_rule (new_app (codes "survey")) routines_rule) output_rule
 
+-- `--beside RULES`, which may be left out
+abbrev pub beside_rule : Rule
+beside_rule = record (new_rule (codes "beside")) { long = Some (codes "beside"); value_names = 1; action = Some Set }
+
+-- `suggest ROUTINE..`, and the rules that are there already
+abbrev pub suggest_app : App
+suggest_app = with_rule (with_rule (new_app (codes "suggest")) routines_rule) beside_rule
+
 -- `explain CODE`
 abbrev pub explain_app : App
 explain_app = with_rule (new_app (codes "explain")) (path_rule (codes "CODE"))
@@ -91,8 +100,8 @@ no_command_app = on_top (λ s. record s { subcommand_required = true; has_versio
 -- `mlock` and one of its commands
 abbrev pub mlock_app : App
 mlock_app =
-    with_subcommand (with_subcommand (with_subcommand (with_subcommand (with_subcommand (with_subcommand (with_subcommand no_command_app check_app.top) make_app.top) verify_app.top) replay_app.top) convert_app.top) survey_app.top)
-    explain_app.top
+    with_subcommand (with_subcommand (with_subcommand (with_subcommand (with_subcommand (with_subcommand (with_subcommand (with_subcommand no_command_app check_app.top) make_app.top) verify_app.top) replay_app.top) convert_app.top) survey_app.top)
+    suggest_app.top) explain_app.top
 
 -- the text is a number of 32 bits in decimal digits, before which a plus may stand
 abbrev pub IsNumber : Text → ℕ → Type 0
@@ -223,11 +232,21 @@ abbrev pub GivesSurvey : List Row → Option SurveyRequest → Type 0
 GivesSurvey rows None = (survey : SurveyRequest) → IsSurvey rows survey → ⊥
 GivesSurvey rows (Some survey) = IsSurvey rows survey
 
+-- the routines for which rules are suggested, and the path of the rules that are there already, if it is given
+pub record IsSuggestion (rows : List Row) (suggestion : SuggestRequest) : Type 0 where
+  pub routines : all_of (codes "ROUTINE") rows ≡ Some (bytes_of suggestion.routines.items)
+  pub beside : first_of (codes "beside") rows ≡ option_map (λ path. path.now) suggestion.beside
+
+abbrev pub GivesSuggestion : List Row → Option SuggestRequest → Type 0
+GivesSuggestion rows None = (suggestion : SuggestRequest) → IsSuggestion rows suggestion → ⊥
+GivesSuggestion rows (Some suggestion) = IsSuggestion rows suggestion
+
 -- the request is what the command of a name was given
 abbrev pub IsGiven : Text → List Row → Request → Type 0
 IsGiven name rows (request.Program program) = IsProgramGiven name rows program
 IsGiven name rows (request.Convert certificate format) = (name ≡ codes "convert") × IsConversion rows certificate format
 IsGiven name rows (request.Survey survey) = (name ≡ codes "survey") × IsSurvey rows survey
+IsGiven name rows (request.Suggest suggestion) = (name ≡ codes "suggest") × IsSuggestion rows suggestion
 IsGiven name rows (request.Explain code) = (name ≡ codes "explain") × (first_of (codes "CODE") rows ≡ Some code.now)
 
 -- what a command's own matches give: nothing where they are those of no request

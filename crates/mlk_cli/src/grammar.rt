@@ -2,13 +2,14 @@
 
 ghost use Rattle.std.specs.Prelude.{◌≡◌, IfOk, true, false};
 ghost use Rattle.clap.specs.Words.{app_of, rule_of, with_rule, with_subcommand};
-ghost use Rattle.mlk_cli.specs.CommandLine.{path_rule, routines_rule, workers_rule, format_rule, output_rule, strict_rule, explain_rule, with_style, check_app, make_app, verify_app, replay_app, convert_app, survey_app, explain_app, no_command_app, mlock_app};
+ghost use Rattle.mlk_cli.specs.CommandLine.{path_rule, routines_rule, workers_rule, format_rule, output_rule, strict_rule, explain_rule, with_style, check_app, make_app, verify_app, replay_app, convert_app, survey_app, beside_rule, suggest_app, explain_app, no_command_app, mlock_app};
 
 use crate::help::{
-    ABOUT, CERT_HELP, CHECK_HELP, CHECK_MORE, CODE_HELP, CONVERT_HELP, CONVERT_MORE, EVENTS_HELP,
-    EXPLAIN_HELP, FORMAT_HELP, MAKE_HELP, MAKE_MORE, OUTPUT_HELP, PAGE_HELP, PAGE_MORE,
-    REPLAY_HELP, REPLAY_MORE, ROUTINE_HELP, RULES_HELP, STRICT_HELP, SURVEY_HELP, SURVEY_MORE,
-    SURVEY_OUTPUT_HELP, VERIFY_HELP, VERIFY_MORE, VERSION, WORKERS_HELP,
+    ABOUT, BESIDE_HELP, CERT_HELP, CHECK_HELP, CHECK_MORE, CODE_HELP, CONVERT_HELP, CONVERT_MORE,
+    EVENTS_HELP, EXPLAIN_HELP, FORMAT_HELP, MAKE_HELP, MAKE_MORE, OUTPUT_HELP, PAGE_HELP,
+    PAGE_MORE, REPLAY_HELP, REPLAY_MORE, ROUTINE_HELP, RULES_HELP, STRICT_HELP, SUGGEST_HELP,
+    SUGGEST_MORE, SURVEY_HELP, SURVEY_MORE, SURVEY_OUTPUT_HELP, VERIFY_HELP, VERIFY_MORE, VERSION,
+    WORKERS_HELP,
 };
 use clap::builder::ValueParser;
 use clap::{Arg, ArgAction, Command, value_parser};
@@ -172,6 +173,28 @@ fn survey_command<'a>(alloc: Global) -> Result<Command<'a>, AllocError>
         .arg(output_option(alloc, SURVEY_OUTPUT_HELP))
 }
 
+// The rule file beside which rules are suggested.
+fn beside_option<'a>(alloc: Global) -> Arg<'a>
+    ensures rule { rule_of result ≡ beside_rule }
+    ensures local { result.global ≡ false }
+{
+    Arg::new(alloc, "beside")
+        .long("beside")
+        .value_name("RULES")
+        .action(ArgAction::Set)
+        .help(BESIDE_HELP)
+}
+
+fn suggest_command<'a>(alloc: Global) -> Result<Command<'a>, AllocError>
+    ensures { IfOk result (λ c. app_of c ≡ suggest_app) }
+{
+    Command::new(alloc, "suggest")
+        .about(SUGGEST_HELP)
+        .long_about(SUGGEST_MORE)
+        .arg(routines(alloc))?
+        .arg(beside_option(alloc))
+}
+
 fn explain_command<'a>(alloc: Global) -> Result<Command<'a>, AllocError>
     ensures { IfOk result (λ c. app_of c ≡ explain_app) }
 {
@@ -209,5 +232,6 @@ pub(crate) fn grammar<'a>(alloc: Global) -> Result<Command<'a>, AllocError>
     let app = with_command(app, replay_command(alloc)?)?;
     let app = with_command(app, convert_command(alloc)?)?;
     let app = with_command(app, survey_command(alloc)?)?;
+    let app = with_command(app, suggest_command(alloc)?)?;
     with_command(app, explain_command(alloc)?)
 }

@@ -118,6 +118,22 @@ Example: mlock explain 702
 
 Status: 0 printed, 2 no such code, 3 out of memory or standard output that can't be written.";
 
+pub(crate) const BESIDE_HELP: &str =
+    "A rule file (TOML): suggests only what it has no rule for, with ranks that fit between its own";
+
+pub(crate) const SUGGEST_HELP: &str = "Suggests a rule file from what the routines do";
+
+pub(crate) const SUGGEST_MORE: &str = "Suggests a rule file from what the routines do
+
+Finds the lock that is held at most writes of each global, the order in which locks are claimed, and where jobs begin.
+Prints a rule file with the evidence for each rule as a comment, and below the rules what is not decided and which places
+don't keep to them: these are the first suspects. Lines are cut before what can't be read, and listed. Nothing proves that
+the rules are what your team agreed on: read each line.
+
+Example: mlock suggest routines/*.m > rules.toml
+
+Status: 0 printed, 2 refused rules after --beside, 3 out of memory or a file that can't be read or written.";
+
 // The program's version, and the logic that it is proved in. Whether a build was proved is not for the program to say: the
 // script that starts it knows.
 pub(crate) const VERSION: &str = "0.1.0, for Rattle logic dac8208d650f15bf";

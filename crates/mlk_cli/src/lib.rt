@@ -6,6 +6,6 @@ mod help;
 mod words;
 
 pub use words::{
-    Asked, Format, Output, ProgramRequest, ReportStyle, Request, SurveyOutput, SurveyRequest,
-    UsageError, read_request,
+    Asked, Format, Output, ProgramRequest, ReportStyle, Request, SuggestRequest, SurveyOutput,
+    SurveyRequest, UsageError, read_request,
 };

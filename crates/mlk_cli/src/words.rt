@@ -5,7 +5,7 @@ ghost use Rattle.clap.specs.Words.{found_of, rows_of, kind_of};
 ghost use Rattle.clap.specs.Takes.{takes};
 ghost use Rattle.clap.specs.declared.error.kind.ErrorKind.TheVariants.{OutOfMemory};
 ghost use Rattle.clap.specs.Simple.{subcommand_rows_of};
-ghost use Rattle.mlk_cli.specs.CommandLine.{mlock_app, GivesNumber, GivesFormat, NamesOutput, GivesOutput, GivesFlag, GivesStyle, GivesWalk, GivesSurveyOutput, GivesAsked, GivesProgram, GivesSurvey, GivesConversion, GivesPaths, GivesRequest, texts_of, Asks, IsRequest, LacksRequest};
+ghost use Rattle.mlk_cli.specs.CommandLine.{mlock_app, GivesNumber, GivesFormat, NamesOutput, GivesOutput, GivesFlag, GivesStyle, GivesWalk, GivesSurveyOutput, GivesAsked, GivesProgram, GivesSurvey, GivesSuggestion, GivesConversion, GivesPaths, GivesRequest, texts_of, Asks, IsRequest, LacksRequest};
 
 use crate::grammar::grammar;
 use crate::help::NO_REQUEST;
@@ -80,6 +80,13 @@ pub struct SurveyRequest<'a> {
     pub output: SurveyOutput,
 }
 
+/// The paths of the routines for which rules are suggested, and of the rules that are there already.
+#[derive(Drop, Debug)]
+pub struct SuggestRequest<'a> {
+    pub beside: Option<&'a str>,
+    pub routines: Vec<&'a str>,
+}
+
 /// What `mlock` is asked for.
 #[derive(Drop, Debug)]
 pub enum Request<'a> {
@@ -90,6 +97,7 @@ pub enum Request<'a> {
         format: Format,
     },
     Survey(SurveyRequest<'a>),
+    Suggest(SuggestRequest<'a>),
     /// the page of the code that this word names
     Explain(&'a str),
 }
@@ -302,6 +310,21 @@ fn survey_of<'a>(
     Ok(Some(SurveyRequest { routines, output }))
 }
 
+// The suggestion that is asked for.
+fn suggestion_of<'a>(
+    alloc: Global,
+    matches: &ArgMatches<'a>,
+) -> Result<Option<SuggestRequest<'a>>, AllocError>
+    ensures { IfOk result (GivesSuggestion (rows_of (found_of matches.now))) }
+{
+    let Some(paths) = matches.get_strs("ROUTINE") else {
+        return Ok(None);
+    };
+    let beside = matches.get_str("beside");
+    let routines = Vec::from_slice(alloc, paths)?;
+    Ok(Some(SuggestRequest { beside, routines }))
+}
+
 // What the command of this name asks for, by what it was given.
 fn given<'a>(
     alloc: Global,
@@ -330,6 +353,12 @@ fn given<'a>(
             return Ok(None);
         };
         return Ok(Some(Request::Explain(code)));
+    }
+    if name == "suggest" {
+        let Some(suggestion) = suggestion_of(alloc, matches)? else {
+            return Ok(None);
+        };
+        return Ok(Some(Request::Suggest(suggestion)));
     }
     let Some(program) = program_of(alloc, name, matches)? else {
         return Ok(None);

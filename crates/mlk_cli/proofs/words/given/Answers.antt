@@ -2,8 +2,8 @@ use Rattle.std.proofs.Common.{◌∙◌, sym, ap, codes, rules, subst}
 use Rattle.std.specs.Prelude.{option_map}
 use Rattle.clap.specs.Words.{found_of, rows_of}
 use Rattle.clap.proofs.WalkLemmas.{first_value-rows}
-use Rattle.mlk_cli.specs.CommandLine.{GivesProgram, GivesSurvey}
-use Rattle.mlk_cli.proofs.CommandLine.{converts-nothing, explains-nothing, no-request, surveys-nothing}
+use Rattle.mlk_cli.specs.CommandLine.{GivesProgram, GivesSuggestion, GivesSurvey}
+use Rattle.mlk_cli.proofs.CommandLine.{converts-nothing, explains-nothing, no-request, suggests-nothing, surveys-nothing}
 use Rattle.mlk_cli.proofs.words.given.Goals as goal
 
 pub returns-in_default : goal.returns-in_default
@@ -27,4 +27,9 @@ returns-then-eq-3 c =
 pub returns-in_default-3 : goal.returns-in_default-3
 returns-in_default-3 c =
     let rows = rows_of (found_of c.args.matches.now) in
-    no-request c.args.name.now rows (grind rules) (grind rules) (grind rules) (subst (GivesProgram c.args.name.now rows) c.in_default-3.is c.in_ok-program.ensures)
+    suggests-nothing c.args.name.now rows (grind rules) (subst (GivesSuggestion rows) c.in_default-3.is c.in_ok-suggestion.ensures)
+
+pub returns-in_default-4 : goal.returns-in_default-4
+returns-in_default-4 c =
+    let rows = rows_of (found_of c.args.matches.now) in
+    no-request c.args.name.now rows (grind rules) (grind rules) (grind rules) (grind rules) (subst (GivesProgram c.args.name.now rows) c.in_default-4.is c.in_ok-program.ensures)
