@@ -7,11 +7,11 @@ _mlock() {
     if [ "$before" = "=" ]; then before=${COMP_WORDS[COMP_CWORD - 2]}; fi
     COMPREPLY=()
     if [ "$COMP_CWORD" -eq 1 ]; then
-        mapfile -t COMPREPLY < <(compgen -W "check make verify replay convert survey suggest help --help --version" -- "$word")
+        mapfile -t COMPREPLY < <(compgen -W "check make verify replay convert survey suggest explain help --help --version" -- "$word")
         return
     fi
     case ${COMP_WORDS[1]}:$before in
-        help:*) words="check make verify replay convert survey suggest" ;;
+        help:*) words="check make verify replay convert survey suggest explain" ;;
         check:--workers) words="" ;;
         check:--output) words="text json sarif" ;;
         make:--format) words="1 2" ;;
@@ -35,6 +35,7 @@ _mlock() {
             convert) words="--format --help" ;;
             survey) words="--output --help" ;;
             suggest) words="--beside --help" ;;
+            explain) words="--help" ;;
         esac
     fi
     mapfile -t COMPREPLY < <(compgen -W "$words" -- "$word")

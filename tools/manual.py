@@ -87,7 +87,7 @@ def page(whole):
     lines += ['.SH EXIT STATUS']
     for name, it in helps.items():
         lines += ['.TP', fr'\fB{name}\fR', *prose(it.status)]
-    lines += ['.PP', *prose(REFUSED), '.SH FILES', *listed(dict.fromkeys(it for it in sum((it.arguments for it in helps.values()), []) if completions.is_file(it[0]))),
+    lines += ['.PP', *prose(REFUSED), '.SH FILES', *listed(dict.fromkeys(it for it in sum((it.arguments for it in helps.values()), []) if completions.takes_file(it[0]))),
               '.SH SEE ALSO', *prose('In the repository: `README.md`, and')]
     for file, title in guide:
         lines += ['.TP', fr'\fB{literal(str(file.relative_to(TOP)))}\fR', *prose(title)]
