@@ -1,0 +1,5 @@
+pub mod Placing
+pub mod OneOrder
+pub mod TermTexts
+pub mod Tables
+pub mod Laws

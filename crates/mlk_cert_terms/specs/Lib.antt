@@ -1,0 +1,4 @@
+pub mod Numbered
+pub mod Laws
+pub mod Keys
+pub mod Examples
