@@ -7,8 +7,7 @@ use crate::settle::settle_lines;
 use crate::stop::{GaveUp, Stop, WhenStuck, gave_up};
 use mlk_cert::{Case, NameSet, Own, Shared, Test};
 use mlk_make_drafts::{At, Draft};
-use mlk_program::{EntryId, Program};
-use mlk_syntax::Line;
+use mlk_program::EntryId;
 use mlk_text::{Code, Column, Failure, Name};
 use mlk_walk_commands::in_order;
 use mlk_walk_exprs::Fault;
@@ -44,13 +43,6 @@ fn begin_case(ground: &Ground<'_>, draft: &Draft) -> Result<Case, AllocError> {
     })
 }
 
-// The line after an entry's lines.
-fn line_after<'a>(program: &Program<'a>, entry: EntryId) -> Option<&'a Line> {
-    let count = program.lines_of(entry).len();
-    let after = EntryId::new(entry.routine(), entry.line().saturating_add(count));
-    program.line(after)
-}
-
 // The case in which an entry begins is listed at its line.
 fn begin(ground: &Ground<'_>, maker: &mut Maker, draft: &mut Draft) -> Result<(), Failure<Stop>> {
     let line = number_of(ground.program, draft.entry);
@@ -69,7 +61,7 @@ fn begin(ground: &Ground<'_>, maker: &mut Maker, draft: &mut Draft) -> Result<()
 fn sweep(ground: &Ground<'_>, maker: &mut Maker, draft: &mut Draft) -> Result<bool, Failure<Stop>> {
     begin(ground, maker, draft)?;
     let before = draft.changed;
-    let around = Around::Frame(line_after(ground.program, draft.entry));
+    let around = Around::Frame(ground.program.line_after(draft.entry));
     settle_lines(
         ground.program.lines_of(draft.entry),
         around,

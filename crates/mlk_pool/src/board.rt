@@ -123,10 +123,7 @@ impl<N: Inputs> Board<N> {
     {
         let count = tasks.len();
         let slots = open_slots(alloc, count)?;
-        let Some(events) = count.checked_mul(2) else {
-            return Err(AllocError);
-        };
-        let log = Vec::with_capacity(alloc, events)?;
+        let log = Vec::with_capacity(alloc, 2 * count)?;
         Ok(Board {
             tasks,
             next: 0,

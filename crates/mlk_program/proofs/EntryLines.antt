@@ -1,15 +1,15 @@
 -- The lines of an entry.
-use Rattle.std.proofs.Common.{min, Vec, Global, ◌≡◌, ◌+◌, length, refl, sym, ap, ◌∙◌, arith, ℕ, zero, suc, List, [], ◌∷◌, map, take, drop, Some, None}
-use Rattle.std.specs.Prelude.{slice_get, cond, option_and_then}
+use Rattle.std.proofs.Common.{min, Vec, Global, ◌≡◌, ◌+◌, length, refl, sym, ap, ◌∙◌, arith, ℕ, zero, suc, List, [], ◌∷◌, map, take, drop, Some, None, Option, Bor}
+use Rattle.std.specs.Prelude.{slice_get, cond, option_and_then, option_map, option_copied}
 use Rattle.std.specs.List.{prefix_len}
-use Rattle.std.proofs.lemmas.List.{take-map}
+use Rattle.std.proofs.lemmas.List.{length-map, take-map}
 use Rattle.mlk_syntax.specs.declared.routine.Line.{Line}
 use Rattle.mlk_syntax.specs.declared.routine.Routine.{Routine}
 use Rattle.mlk_syntax.specs.Views.{line_of, routine_of}
-use Rattle.mlk_program.specs.Entries.{lines_from, lines_of, up_to_formals, lacks_formals}
+use Rattle.mlk_program.specs.Entries.{lines_from, lines_of, line_of_entry, line_after, up_to_formals, lacks_formals}
 use Rattle.mlk_program.specs.Tables.{trees, line_lacks, later_lines, later_of, AreLater}
 use Rattle.mlk_program.specs.declared.entry.EntryId.{EntryId}
-use Rattle.mlk_program.proofs.Directories.{lines_same}
+use Rattle.mlk_program.proofs.Directories.{lines_same, line_some, line_none}
 
 prefix-map : (lines : List Line) → prefix_len line_lacks lines ≡ prefix_len lacks_formals (map line_of lines)
 prefix-map [] = refl
@@ -137,3 +137,29 @@ lines_none routines e is = go routines e.routine is
     go [] i h = refl
     go (q ∷ rs) zero h = cc h
     go (q ∷ rs) (suc i) h = go rs i h
+
+-- the item at a place after the first so many
+get_drop : {A : Type 0} (n k : ℕ) (xs : List A) → slice_get (drop n xs) k ≡ slice_get xs (n + k)
+get_drop zero k xs = ap (slice_get xs) (sum k)
+  where
+    sum : (m : ℕ) → m ≡ 0 + m
+    sum m = omega (arith)
+get_drop (suc n) k [] = refl
+get_drop (suc n) k (x ∷ xs) = get_drop n k xs ∙ ap (slice_get (x ∷ xs)) (sum n k)
+  where
+    sum : (a b : ℕ) → suc (a + b) ≡ suc a + b
+    sum a b = omega (arith)
+
+-- the line after an entry's lines
+pub after_some : (routines : List Routine) (e : EntryId) (r : Routine) (lines : List Line) (o : Option (Bor Line))
+    → slice_get routines e.routine ≡ Some r → map line_of lines ≡ lines_of (trees routines) e
+    → option_copied o ≡ slice_get (drop e.line r.lines.items) (length lines)
+    → option_map (λ l. line_of l.now) o ≡ line_after (trees routines) e
+after_some routines e r lines o is own here =
+    line_some routines (record e { line = e.line + length lines }) r o is (here ∙ get_drop e.line (length lines) r.lines.items)
+    ∙ ap (λ n. line_of_entry (trees routines) (record e { line = e.line + n })) (sym (length-map lines line_of) ∙ ap length own)
+
+pub after_none : (routines : List Routine) (e : EntryId) → slice_get routines e.routine ≡ None
+    → None ≡ line_after (trees routines) e
+after_none routines e is =
+    line_none routines (record e { line = e.line + length (lines_of (trees routines) e) }) is

@@ -1,6 +1,6 @@
 -- The entries of routines, and the entry that a call names. Standard: routine, label, entryref, labelref.
 use Rattle.std.specs.Prelude.{ℕ, suc, List, [], ◌∷◌, ◌++◌, Bool, true, false, Option, Some, None, option_map}
-use Rattle.std.specs.Prelude.{option_and_then, position, slice_get, bytes_eq, is_some, is_none, take_while, count_by, ◌+◌, drop}
+use Rattle.std.specs.Prelude.{option_and_then, position, slice_get, bytes_eq, is_some, is_none, take_while, count_by, ◌+◌, drop, length}
 use Rattle.std.specs.Prelude.{◌&&◌, ◌==◌}
 use Rattle.mlk_text.specs.Lexemes.{entry_of}
 use Rattle.mlk_syntax.specs.declared.expr.Callee.{Callee}
@@ -95,6 +95,10 @@ lines_from n (Some tree) = up_to_formals (drop n (lines_in tree))
 
 abbrev pub lines_of : List RoutineTree → EntryId → List (HeadTree × LineTrees)
 lines_of routines e = lines_from e.line (slice_get routines e.routine)
+
+-- The line after an entry's lines, which has a formal list; there is none if they extend to the routine's end.
+abbrev pub line_after : List RoutineTree → EntryId → Option (HeadTree × LineTrees)
+line_after routines e = line_of_entry routines (record e { line = e.line + length (lines_of routines e) })
 
 -- The number of entries of a routine: its first line, and each further line with a label.
 abbrev pub has_label : HeadTree × LineTrees → Bool

@@ -2,7 +2,7 @@
 
 ghost use Rattle.std.specs.Prelude.{◌≡◌, IfOk, Some, None, option_map, option_and_then, option_copied, slice_get, map, take, drop, suc};
 ghost use Rattle.mlk_syntax.specs.Views.{line_of};
-ghost use Rattle.mlk_program.specs.Entries.{entry_in, routine_named, target_of, entry_by, line_of_entry, lines_of, line_named, lines_in, lacks_formals, label_of, text_with, text_of_entry};
+ghost use Rattle.mlk_program.specs.Entries.{entry_in, routine_named, target_of, entry_by, line_of_entry, lines_of, line_after, line_named, lines_in, lacks_formals, label_of, text_with, text_of_entry};
 ghost use Rattle.mlk_program.specs.Frames.{part_of};
 ghost use Rattle.mlk_program.specs.Tables.{trees, AreTables, AreLater, first_of, later_lines, later_of};
 
@@ -275,6 +275,18 @@ impl<'a> Directory<'a> {
             Some(later) => first_lines(lines_after(routine.lines.as_slice(), entry.line), later),
             None => &[],
         }
+    }
+
+    /// The line after the lines of `entry`, or `None` if they extend to the routine's end.
+    #[tactic(auto, using(crate::proofs::EntryLines::after_some, crate::proofs::EntryLines::after_none))]
+    pub(crate) fn line_after(&self, entry: EntryId) -> Option<&'a Line>
+        ensures { option_map (λ l. line_of l.now) result ≡ line_after (trees self.now) entry }
+    {
+        let Some(routine) = item(self.routines, entry.routine) else {
+            return None;
+        };
+        let left = lines_after(routine.lines.as_slice(), entry.line);
+        item(left, self.lines_of(entry).len())
     }
 
     /// The part of a routine that begins at the line of `entry`.

@@ -2,7 +2,7 @@
 
 ghost use Rattle.std.specs.Prelude.{◌≡◌, IfOk, map, option_map, option_copied, slice_get};
 ghost use Rattle.mlk_syntax.specs.Views.{line_of, routine_of};
-ghost use Rattle.mlk_program.specs.Entries.{target_of, entry_by, line_of_entry, lines_of, text_of_entry};
+ghost use Rattle.mlk_program.specs.Entries.{target_of, entry_by, line_of_entry, lines_of, line_after, text_of_entry};
 ghost use Rattle.mlk_program.specs.Program.{is_shared, is_shared_in};
 
 use crate::directory::Directory;
@@ -99,6 +99,14 @@ impl<'a> Program<'a> {
         ensures { map line_of result.now ≡ lines_of (map routine_of self.now) entry }
     {
         self.directory.lines_of(entry)
+    }
+
+    /// The line after the lines of `entry`, which has a formal list, or `None` if they extend to the routine's end. Allocates
+    /// nothing.
+    pub fn line_after(&self, entry: EntryId) -> Option<&'a Line>
+        ensures { option_map (λ l. line_of l.now) result ≡ line_after (map routine_of self.now) entry }
+    {
+        self.directory.line_after(entry)
     }
 
     /// Whether `name` is shared: some call of the program passes it by reference (`.X`), or a formal of this name receives a name

@@ -1,5 +1,5 @@
 -- The verdict of an entry: the faults of its begin, of its exits and of its lines. This project's own choice.
-use Rattle.std.specs.Prelude.{ℕ, ◌+◌, ◌==◌, Bool, ◌&&◌, if◌then◌else◌, List, [], ◌∷◌, ◌++◌, length, map, filter, Option, Some, None}
+use Rattle.std.specs.Prelude.{ℕ, ◌==◌, Bool, ◌&&◌, if◌then◌else◌, List, [], ◌∷◌, ◌++◌, map, filter, Option, Some, None}
 use Rattle.std.specs.Prelude.{option_map}
 use Rattle.std.specs.List.{list_any}
 use Rattle.mlk_text.specs.declared.code.Code.{Code}
@@ -7,7 +7,7 @@ use Rattle.mlk_text.specs.declared.code.Code.TheVariants.{HeldAtEnd, CaseNotList
 use Rattle.mlk_syntax.specs.Trees.{RoutineTree, HeadTree, LineTrees}
 use Rattle.mlk_syntax.specs.Views.{lines_from}
 use Rattle.mlk_program.specs.declared.entry.EntryId.{EntryId}
-use Rattle.mlk_program.specs.Entries.{line_of_entry, lines_of}
+use Rattle.mlk_program.specs.Entries.{line_of_entry, line_after, lines_of}
 use Rattle.mlk_cert_parts.specs.declared.case.Test.TheVariants.{Any}
 use Rattle.mlk_cert_parts.specs.declared.case.Case.{Case}
 use Rattle.mlk_cert_parts.specs.declared.case.ExitCase.{ExitCase}
@@ -62,10 +62,9 @@ abbrev pub own_faults : Scope → ℕ → List (List ℕ) → List Fault
 own_faults sc number formals =
     begin_faults sc number formals ++ (need_faults sc number ++ exit_faults sc number)
 
--- The line after an entry's lines, which has a formal list; there is none if they extend to the routine's end.
+-- the head of the line after an entry's lines
 abbrev pub head_after : List RoutineTree → EntryId → Option HeadTree
-head_after routines e = option_map (λ l. l.0)
-    (line_of_entry routines (record e { line = e.line + length (lines_of routines e) }))
+head_after routines e = option_map (λ l. l.0) (line_after routines e)
 
 -- the result of the walk of an entry's lines
 abbrev pub entry_walk : List RoutineTree → EntryId → Scope → Walked

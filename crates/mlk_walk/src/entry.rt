@@ -25,17 +25,10 @@ pub(crate) struct EntryWalk {
 }
 
 /// The line after the lines of `entry`, or `None`.
-pub(crate) fn line_after<'a>(
-    program: &Program<'a>,
-    entry: EntryId,
-) -> Result<Option<&'a Line>, AllocError>
-    ensures { IfOk result (λ o. option_map head_of (option_copied o) ≡ head_after (map routine_of program.now) entry) }
+pub(crate) fn line_after<'a>(program: &Program<'a>, entry: EntryId) -> Option<&'a Line>
+    ensures { option_map head_of (option_copied result) ≡ head_after (map routine_of program.now) entry }
 {
-    let lines = program.lines_of(entry);
-    let Some(place) = entry.line().checked_add(lines.len()) else {
-        return Err(AllocError);
-    };
-    Ok(program.line(EntryId::new(entry.routine(), place)))
+    program.line_after(entry)
 }
 
 pub(crate) fn formals_of<'a>(line: Option<&'a Line>) -> &'a [Name]
@@ -71,7 +64,7 @@ pub(crate) fn walk_all<'a>(
     ensures { IfOk result (λ f. f ≡ (entry_walk (map routine_of program.now) entry (scope_of scope.now)).faults) }
 {
     let mut found = LineFaults::new(alloc);
-    let after = line_after(program, entry)?;
+    let after = line_after(program, entry);
     let lines = program.lines_of(entry);
     let _ = walk_lines(alloc, scope, lines, Around::Frame(after), after, &mut found)?;
     Ok(found)

@@ -25,16 +25,16 @@ use std::thread::Threads;
 pub const DEEPEST_CUT: u32 = 6;
 
 // The lines of an entry.
-fn lines_in<'a>(program: &Program<'a>, entry: EntryId) -> Result<Part<'a>, AllocError>
-    ensures { IfOk result (IsOfEntry (map routine_of program.now) entry) }
+fn lines_in<'a>(program: &Program<'a>, entry: EntryId) -> Part<'a>
+    ensures { IsOfEntry (map routine_of program.now) entry result }
 {
-    let after = line_after(program, entry)?;
+    let after = line_after(program, entry);
     let lines = program.lines_of(entry);
-    Ok(Part {
+    Part {
         lines,
         around: Around::Frame(after),
         after,
-    })
+    }
 }
 
 // The verdict of an entry that is certified by a block.
@@ -53,7 +53,7 @@ fn verdict_by<P: Pieces + Sync, R: Threads + Sync>(
     let scope = Scope::of(checks.program, checks.rules, checks.entries, entry, block);
     let line = checks.program.line(entry);
     let own = own_faults(alloc, &scope, number_of(line), formals_of(line))?;
-    let part = lines_in(checks.program, entry)?;
+    let part = lines_in(checks.program, entry);
     let walk = walk_part(rt, alloc, &scope, part, depth, pieces)?;
     let mut verdict = Verdict::new(alloc);
     verdict.put_found(walk.faults)?;

@@ -11,3 +11,4 @@ pub mod LockExamples
 pub mod CallExamples
 pub mod Written
 mod Targets
+mod NameCounts

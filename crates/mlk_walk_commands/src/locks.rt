@@ -11,14 +11,14 @@ ghost use Rattle.mlk_walk_exprs.specs.Walks.{Outcome, add_all};
 ghost use Rattle.mlk_walk_commands.specs.Holding.{held_quickly};
 ghost use Rattle.mlk_walk_commands.specs.Locks.{known_names, is_timed, column_at, granted, claim, claim_after, give_back, by_sign, lock_row, lock_argument, release};
 
-use crate::names::{capture_names, count_names, names_fault, terms_of};
+use crate::names::{capture_names, names_fault, symbols_of, terms_of, without_names};
 use mlk_calls::{State, claimed, may_take, release_all, release_one};
 use mlk_cert_parts::{Shared, Test};
 use mlk_names::LockTerm;
 use mlk_rules::rank_of;
 use mlk_syntax::{Expr, LockArgument, Sign, Variable};
 use mlk_text::{Code, Column, Failure, copy_of};
-use mlk_walk_exprs::{Mend, Note, Spot, Transfer, Walk, each, last_of, value_if};
+use mlk_walk_exprs::{Mend, Note, Spot, Transfer, Walk, each, value_if};
 use std::alloc::{AllocError, Global};
 
 // The check that the subscripts of names, which were captured last, are known.
@@ -33,8 +33,7 @@ impl<'a> Transfer for Known<'a> {
 
     fn make(&self, state: State, walk: &mut Walk) -> Result<(), AllocError> {
         let names = self.argument.names.as_slice();
-        let count = count_names(names)?;
-        match names_fault(self.spot, &state, names, last_of(&state, count)) {
+        match names_fault(self.spot, &state, names, symbols_of(names, &state)) {
             None => walk.go(state),
             Some((column, code)) => {
                 let note = Note::in_case(Mend::Nothing, &state.case)?;
@@ -247,8 +246,7 @@ impl<'a> Transfer for Locks<'a> {
     fn make(&self, state: State, walk: &mut Walk) -> Result<(), AllocError> {
         let spot = self.spot;
         let names = self.argument.names.as_slice();
-        let count = count_names(names)?;
-        let terms = terms_of(spot.alloc, names, last_of(&state, count))?;
+        let terms = terms_of(spot.alloc, names, symbols_of(names, &state))?;
         let Some(terms) = terms else {
             let note = Note::in_case(Mend::Nothing, &state.case)?;
             return walk.refuse(spot.line, spot.word, Code::UnknownSubscript, note);
@@ -257,7 +255,7 @@ impl<'a> Transfer for Locks<'a> {
             spot,
             self.argument,
             terms.as_slice(),
-            state.without_last(count),
+            without_names(names, state),
             walk,
         )
     }

@@ -1,8 +1,9 @@
 // The lock names of LOCK arguments.
 
-ghost use Rattle.std.specs.Prelude.{◌≡◌, IfOk, OnOk, map, option_map, take, drop};
+ghost use Rattle.std.specs.Prelude.{◌≡◌, ◌-◌, IfOk, OnOk, map, option_map, take, drop};
 ghost use Rattle.mlk_syntax.specs.ExprTrees.{tree_of, sub_trees, subs_from};
 ghost use Rattle.mlk_syntax.specs.Views.{variable_of};
+ghost use Rattle.mlk_walk_state.specs.States.{last_captured, without_last};
 ghost use Rattle.mlk_walk_state.specs.Terms.{all_known};
 ghost use Rattle.mlk_walk_exprs.specs.Spots.{spot_of};
 ghost use Rattle.mlk_walk_commands.specs.Locks.{root_of, capture_names, count_names, unknown_code, subscript_fault, subs_fault, names_fault, term_of, terms_of};
@@ -29,18 +30,34 @@ pub(crate) fn capture_names<'a>(
     Ok(())
 }
 
-/// The total number of subscripts of the names, which memory bounds.
-pub(crate) fn count_names(names: &[Variable]) -> Result<usize, AllocError>
-    ensures { IfOk result (λ n. n ≡ count_names (map variable_of names.now)) }
+// The number of captured symbols before those of the names' subscripts, which were captured last.
+fn count_before(captured: usize, names: &[Variable]) -> usize
+    ensures { result ≡ captured - count_names (map variable_of names.now) }
 {
-    let mut count: usize = 0;
+    let mut before = captured;
     for name in names {
-        let Some(next) = count.checked_add(count_of(name)) else {
-            return Err(AllocError);
-        };
-        count = next;
+        before = before.saturating_sub(count_of(name));
     }
-    Ok(count)
+    before
+}
+
+/// The symbols of the names' subscripts, which were captured last.
+pub(crate) fn symbols_of<'a>(names: &[Variable], state: &'a State) -> &'a [Sym]
+    ensures { result.now ≡ last_captured (count_names (map variable_of names.now)) state.now }
+{
+    let symbols = state.captured.as_slice();
+    let (_, own) = symbols.split_at(count_before(symbols.len(), names));
+    own
+}
+
+/// The state without the symbols of the names' subscripts, which were captured last.
+pub(crate) fn without_names(names: &[Variable], state: State) -> State
+    ensures { result ≡ without_last (count_names (map variable_of names.now)) state }
+{
+    let before = count_before(state.captured.len(), names);
+    let mut state = state;
+    state.captured.truncate(before);
+    state
 }
 
 #[tactic(auto, using(crate::proofs::Opened::local_unknown))]

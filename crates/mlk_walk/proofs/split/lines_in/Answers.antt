@@ -10,6 +10,6 @@ use Rattle.mlk_walk.proofs.split.lines_in.Goals as goal
 pub returns : goal.returns
 returns c sc =
     let lines = lines_from (map line_of c.lines_of-lines.result.now) in
-    entry_whole sc (option_map head_of (option_copied c.in_ok-after.after)) lines
-    ∙ ap (λ after. walk_lines sc (OfFrame after) lines) c.in_ok-after.ensures
+    entry_whole sc (option_map head_of (option_copied c.line_after-after.result)) lines
+    ∙ ap (λ after. walk_lines sc (OfFrame after) lines) c.line_after-after.ensures
     ∙ ap (λ ls. walk_lines sc (OfFrame (head_after (map routine_of c.args.program.now) c.args.entry)) (lines_from ls)) c.lines_of-lines.ensures

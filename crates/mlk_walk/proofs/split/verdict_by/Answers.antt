@@ -8,5 +8,5 @@ pub returns : goal.returns
 returns g c =
     let both = put_both c.in_ok-own.own (map fault_in (map (λ f. f.0) c.in_ok-walk.walk.faults.items)) [] in
     let found = c.in_ok-walk.ensures.0 in
-    let lines = c.in_ok-part.ensures (scope_of c.of-scope.result) in
+    let lines = c.lines_in-part.ensures (scope_of c.of-scope.result) in
     grind rules
