@@ -7,7 +7,7 @@ use mlk_walk_exprs::{Fault, Mend};
 use std::alloc::AllocError;
 
 /// A part of an entry's summary that a caller has to meet.
-#[derive(Drop)]
+#[derive(Drop, PartialEq, Eq)]
 pub enum Ask {
     /// callers hold this lock, in the entry's own terms
     Need(LockTerm),

@@ -1,0 +1,29 @@
+-- Texts of routines in which faults are mended. This project's own choice.
+use Rattle.std.specs.Prelude.{ℕ, ◌≡◌, ◌+◌, ◌≤◌, ◌<◌, ◌==◌, ◌||◌, Bool, List, [], ◌∷◌, Any, length, slice_index}
+use Rattle.std.specs.Vec.{Vec}
+use Rattle.std.specs.declared.alloc.Global.{Global}
+use Rattle.mlk_behind.specs.declared.patch.Patch.{Patch}
+
+-- LF and CR end lines
+abbrev pub ends_line : ℕ → Bool
+ends_line byte = (byte == 10) || (byte == 13)
+
+-- a patch is for the byte at this place of a text
+abbrev pub IsPatchAt : ℕ → Patch → Type 0
+IsPatchAt place p = (p.start ≤ place) × (place < p.start + length p.bytes.items)
+
+-- one of the patches is for the byte at this place of the text of a routine
+abbrev pub IsPatched : List Patch → ℕ → ℕ → Type 0
+IsPatched patches routine place = Any (λ p. (p.routine ≡ routine) × IsPatchAt place p) patches
+
+-- The new text has as many bytes as the old one, and lines end at the same places. Other bytes differ at these places only.
+pub record DiffersOnlyAt (IsPlace : ℕ → Type 0) (old new : List ℕ) : Type 0 where
+  pub length_stays : length new ≡ length old
+  pub lines_stay : (k : ℕ) → ends_line (slice_index new k) ≡ ends_line (slice_index old k)
+  pub others_stay : (k : ℕ) → (IsPlace k → ⊥) → slice_index new k ≡ slice_index old k
+
+-- the texts of the routines from this one on, with the patches that are for each
+abbrev pub AreMended : List Patch → ℕ → List (List ℕ) → List (List ℕ) → Type 0
+AreMended patches routine [] [] = Unit {0}
+AreMended patches routine (old ∷ olds) (new ∷ news) = DiffersOnlyAt (IsPatched patches routine) old new × AreMended patches (routine + 1) olds news
+AreMended patches routine olds news = ⊥

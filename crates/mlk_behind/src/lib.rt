@@ -1,0 +1,6 @@
+//! Routines in which the faults of a report are mended.
+#![tactic(auto)]
+
+mod patch;
+
+pub use patch::{Patch, mended_texts};
