@@ -11,6 +11,6 @@ mod weakened;
 
 pub use ask::{Ask, may_change, need_like};
 pub use grounds::Grounds;
-pub use nearby::{LockEvent, LockEvents, events_near};
+pub use nearby::{LockEvent, LockEvents, events_near, has_root};
 pub use origin::{Origin, Trail, origins_of, trail_of};
 pub use routine::{Mark, RoutineFacts};

@@ -1,0 +1,290 @@
+// What faults are about, and where they are mended.
+
+use crate::argument::name_length;
+use crate::lock::{FaultyLock, named_lock};
+use crate::site::{Remedy, Site};
+use crate::subject::{Subject, missing_in};
+use mlk_cert_parts::Summary;
+use mlk_excerpts::split_at_column;
+use mlk_explain_origins::{
+    Ask, Grounds, Mark, Origin, RoutineFacts, has_root, need_like, origins_of,
+};
+use mlk_names::LockTerm;
+use mlk_program::EntryId;
+use mlk_syntax::{LockArgument, Variable};
+use mlk_text::Code;
+use mlk_walk::{Checks, Row};
+use mlk_walk_exprs::{Fault, Note};
+use std::alloc::{AllocError, Global};
+
+// A need of a callee, and the places behind it.
+#[derive(Drop)]
+struct Traced {
+    entry: EntryId,
+    need: LockTerm,
+    origins: Vec<Origin>,
+}
+
+/// Looks at the rows of a report, in the order of their routines.
+#[derive(Drop)]
+pub(crate) struct Reader<'a> {
+    alloc: Global,
+    grounds: &'a Grounds<'a>,
+    checks: &'a Checks<'a>,
+    // the routine of the last row
+    facts: RoutineFacts<'a>,
+    traced: Vec<Traced>,
+}
+
+// Whether a lock of this name's root may be held where a call of the entry with this summary ends.
+fn hands_on(summary: &Summary, name: &Variable) -> bool {
+    summary.exits.as_slice().iter().any(|exit| {
+        let held = exit.held.as_slice();
+        held.iter().any(|term| has_root(name, &term.root))
+    })
+}
+
+// Whether a call leaves the locks as they are.
+fn keeps_locks(summary: &Summary) -> bool {
+    let need = summary.need.as_slice();
+    let mut exits = summary.exits.as_slice().iter();
+    !summary.drops && exits.all(|exit| exit.held.as_slice() == need)
+}
+
+fn add_site(
+    sites: &mut Vec<Site>,
+    entry: EntryId,
+    fault: Fault,
+    remedy: Remedy,
+) -> Result<(), AllocError> {
+    sites.push(Site {
+        entry,
+        fault,
+        remedy,
+    })?;
+    Ok(())
+}
+
+fn is_touch(origin: &Origin) -> bool {
+    origin.fault.code == Code::Uncovered
+}
+
+impl<'a> Reader<'a> {
+    /// One that looks at the routine with this number.
+    pub(crate) fn new(
+        alloc: Global,
+        grounds: &'a Grounds<'a>,
+        checks: &'a Checks<'a>,
+        number: usize,
+    ) -> Result<Reader<'a>, AllocError> {
+        Ok(Reader {
+            alloc,
+            grounds,
+            checks,
+            facts: RoutineFacts::of(alloc, grounds, number)?,
+            traced: Vec::new(alloc),
+        })
+    }
+
+    /// Looks at the routine with this number.
+    pub(crate) fn look_up(&mut self, number: usize) -> Result<(), AllocError> {
+        if self.facts.number != number {
+            self.facts = RoutineFacts::of(self.alloc, self.grounds, number)?;
+        }
+        Ok(())
+    }
+
+    // What the entry that is called at a fault needs of the locks that are missing there.
+    fn need_at(&self, row: &Row, note: &Note) -> Option<(EntryId, &'a LockTerm)> {
+        let entry = self.facts.target(self.grounds.program, row.fault)?;
+        let summary = self.checks.entries.summary(entry)?;
+        let need = need_like(summary, missing_in(note).first()?)?;
+        Some((entry, need))
+    }
+
+    fn traced(&self, entry: EntryId, need: &LockTerm) -> Option<&Traced> {
+        let mut traced = self.traced.iter();
+        traced.find(|other| other.entry == entry && other.need == *need)
+    }
+
+    /// Looks for the places behind the need that a call does not meet, if they were not looked for.
+    pub(crate) fn trace(&mut self, row: &Row, note: &Note) -> Result<(), AllocError> {
+        if row.fault.code != Code::NeedMissing {
+            return Ok(());
+        }
+        let Some((entry, need)) = self.need_at(row, note) else {
+            return Ok(());
+        };
+        if self.traced(entry, need).is_some() {
+            return Ok(());
+        }
+        let ask = Ask::Need(need.clone()?);
+        let origins = origins_of(self.alloc, self.grounds, self.checks, entry, ask)?;
+        let need = need.clone()?;
+        self.traced.push(Traced {
+            entry,
+            need,
+            origins,
+        })?;
+        Ok(())
+    }
+
+    // The places behind the need that a call does not meet, as far as they were looked for.
+    fn origins(&self, row: &Row, note: &Note) -> &[Origin] {
+        let Some((entry, need)) = self.need_at(row, note) else {
+            return &[];
+        };
+        match self.traced(entry, need) {
+            Some(traced) => traced.origins.as_slice(),
+            None => &[],
+        }
+    }
+
+    fn lock_argument(&self, fault: Fault) -> Option<&'a LockArgument> {
+        self.facts.lock_argument(fault.line, fault.column)
+    }
+
+    fn add_names(
+        &self,
+        entry: EntryId,
+        names: &[Variable],
+        locks: &mut Vec<FaultyLock>,
+    ) -> Result<(), AllocError> {
+        for name in names {
+            if let Some(lock) = named_lock(self.alloc, entry, name)? {
+                locks.push(lock)?;
+            }
+        }
+        Ok(())
+    }
+
+    // The name of a global or a lock at a fault, as M writes it.
+    fn written_name(&self, fault: Fault) -> &'a [u8] {
+        let (_, rest) = split_at_column(self.facts.line(fault.line), fault.column);
+        rest.get(..name_length(rest)).unwrap_or(rest)
+    }
+
+    // Whether some rule is for the global with this name.
+    fn has_rule(&self, written: &[u8]) -> bool {
+        let lists = self.grounds.rules.lists();
+        let global = written.strip_prefix(b"^").unwrap_or(written);
+        let is_named = |name: &[u8]| name == global;
+        let mut covers = lists.covers.as_slice().iter();
+        let mut others = lists
+            .private
+            .as_slice()
+            .iter()
+            .chain(lists.readonly.as_slice());
+        covers.any(|cover| is_named(cover.pattern.global.as_bytes()))
+            || others.any(|pattern| is_named(pattern.global.as_bytes()))
+    }
+
+    // The name at a fault for which a rule is missing.
+    fn unruled(&self, fault: Fault) -> Result<Option<Vec<u8>>, AllocError> {
+        let written = self.written_name(fault);
+        let is_missing = match fault.code {
+            Code::Unruled => !self.has_rule(written),
+            Code::Unranked => true,
+            _ => false,
+        };
+        if !is_missing {
+            return Ok(None);
+        }
+        Ok(Some(Vec::from_slice(self.alloc, written)?))
+    }
+
+    /// What a row is about. The places behind it were looked for.
+    pub(crate) fn subject(&self, row: &Row, note: &Note) -> Result<Subject, AllocError> {
+        let mut subject = Subject::new(self.alloc);
+        subject.add_missing(row.entry, note)?;
+        subject.add_behind(self.origins(row, note))?;
+        if let Some(argument) = self.lock_argument(row.fault) {
+            self.add_names(row.entry, argument.names.as_slice(), &mut subject.locks)?;
+        }
+        subject.unruled = self.unruled(row.fault)?;
+        Ok(subject)
+    }
+
+    // Whether the argument of LOCK at a fault can be taken away: no caller gets a lock by it.
+    fn is_kept_inside(&self, row: &Row) -> bool {
+        let Some(argument) = self.lock_argument(row.fault) else {
+            return false;
+        };
+        match self.checks.entries.summary(row.entry) {
+            Some(summary) => !argument.names.iter().any(|name| hands_on(summary, name)),
+            None => true,
+        }
+    }
+
+    // Whether the call at a fault can be taken away: it leaves the locks as they are.
+    fn is_call_removable(&self, fault: Fault) -> bool {
+        let Some(entry) = self.facts.target(self.grounds.program, fault) else {
+            return false;
+        };
+        match self.checks.entries.summary(entry) {
+            Some(summary) => keeps_locks(summary),
+            None => false,
+        }
+    }
+
+    fn begins_job(&self, fault: Fault) -> bool {
+        matches!(self.facts.mark(fault.line, fault.column), Some(Mark::Job(_)))
+    }
+
+    // What is mended at a row's fault; `None` if that would change what holds after it, or if nothing is after it.
+    fn remedy(&self, row: &Row, subject: &Subject) -> Option<Remedy> {
+        let fault = row.fault;
+        match fault.code {
+            Code::Uncovered => Some(Remedy::TouchesOfLock),
+            Code::Unruled if subject.unruled.is_some() => Some(Remedy::TouchesOfGlobal),
+            Code::Unruled | Code::ReadOnly | Code::NotPrivate => Some(Remedy::Touch),
+            Code::NotHeld => Some(Remedy::Argument),
+            Code::NoCertificate if self.begins_job(fault) => Some(Remedy::Argument),
+            Code::Unranked | Code::RankOrder | Code::SharedName | Code::UnknownSubscript
+                if self.is_kept_inside(row) =>
+            {
+                Some(Remedy::Argument)
+            }
+            Code::Pinned | Code::RankOrder | Code::UnknownSubscript | Code::DropsFrame
+                if self.is_call_removable(fault) =>
+            {
+                Some(Remedy::Argument)
+            }
+            _ => None,
+        }
+    }
+
+    // Adds the places at which the need of a call is mended: the touches behind it, or the call, if a release is behind it too.
+    fn add_need_sites(
+        &self,
+        row: &Row,
+        origins: &[Origin],
+        sites: &mut Vec<Site>,
+    ) -> Result<(), AllocError> {
+        if !origins.iter().all(|origin| is_touch(origin)) {
+            return add_site(sites, row.entry, row.fault, Remedy::Argument);
+        }
+        for origin in origins {
+            add_site(sites, origin.entry, origin.fault, Remedy::TouchesOfLock)?;
+        }
+        Ok(())
+    }
+
+    /// Adds the places at which a row's fault is mended, as far as it can be without a change of what holds after it. The places
+    /// behind it were looked for.
+    pub(crate) fn add_sites(
+        &self,
+        row: &Row,
+        note: &Note,
+        subject: &Subject,
+        sites: &mut Vec<Site>,
+    ) -> Result<(), AllocError> {
+        if row.fault.code == Code::NeedMissing {
+            return self.add_need_sites(row, self.origins(row, note), sites);
+        }
+        match self.remedy(row, subject) {
+            Some(remedy) => add_site(sites, row.entry, row.fault, remedy),
+            None => Ok(()),
+        }
+    }
+}
