@@ -10,4 +10,5 @@ pub further : {First Second Both : ℕ → Type 0} {old between new : List ℕ} 
 further f s one two = record {
   length_stays = s.length_stays ∙ f.length_stays;
   lines_stay = λ k. s.lines_stay k ∙ f.lines_stay k;
-  others_stay = λ k h. s.others_stay k (λ x. h (two k x)) ∙ f.others_stay k (λ x. h (one k x)) }
+  others_stay = λ k h. s.others_stay k (λ x. h (two k x)) ∙ f.others_stay k (λ x. h (one k x));
+}

@@ -158,11 +158,7 @@ impl Argument {
 
     /// Blanks that take the argument away from its line, with the command's word if it has no other argument. The arguments
     /// after it get a word of their own, the first letter of this one. `None` if that word had a condition.
-    pub(crate) fn blanks(
-        &self,
-        alloc: Global,
-        line: &[u8],
-    ) -> Result<Option<Blanks>, AllocError> {
+    pub(crate) fn blanks(&self, alloc: Global, line: &[u8]) -> Result<Option<Blanks>, AllocError> {
         let (start, end) = self.extent();
         let mut bytes = vec![in alloc; b' '; end.saturating_sub(start)]?;
         if self.is_last() {

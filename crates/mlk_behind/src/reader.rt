@@ -228,7 +228,10 @@ impl<'a> Reader<'a> {
     }
 
     fn begins_job(&self, fault: Fault) -> bool {
-        matches!(self.facts.mark(fault.line, fault.column), Some(Mark::Job(_)))
+        matches!(
+            self.facts.mark(fault.line, fault.column),
+            Some(Mark::Job(_))
+        )
     }
 
     // What is mended at a row's fault; `None` if that would change what holds after it, or if nothing is after it.
@@ -241,15 +244,9 @@ impl<'a> Reader<'a> {
             Code::NotHeld => Some(Remedy::Argument),
             Code::NoCertificate if self.begins_job(fault) => Some(Remedy::Argument),
             Code::Unranked | Code::RankOrder | Code::SharedName | Code::UnknownSubscript
-                if self.is_kept_inside(row) =>
-            {
-                Some(Remedy::Argument)
-            }
+                if self.is_kept_inside(row) => { Some(Remedy::Argument) }
             Code::Pinned | Code::RankOrder | Code::UnknownSubscript | Code::DropsFrame
-                if self.is_call_removable(fault) =>
-            {
-                Some(Remedy::Argument)
-            }
+                if self.is_call_removable(fault) => { Some(Remedy::Argument) }
             _ => None,
         }
     }
