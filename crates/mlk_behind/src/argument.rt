@@ -126,6 +126,19 @@ pub(crate) fn argument_at(line: &[u8], place: usize) -> Option<Argument> {
 }
 
 impl Argument {
+    /// Whether its command's word begins with one of these letters.
+    pub(crate) fn is_of(&self, line: &[u8], letters: &[u8]) -> bool {
+        match line.get(self.command.word) {
+            Some(letter) => letters.contains(letter),
+            None => false,
+        }
+    }
+
+    /// Whether it begins at a place of its line.
+    pub(crate) fn begins_at(&self, place: usize) -> bool {
+        self.start == place
+    }
+
     fn is_first(&self) -> bool {
         self.start == self.command.start
     }
@@ -158,7 +171,7 @@ impl Argument {
 
     /// Blanks that take the argument away from its line, with the command's word if it has no other argument. The arguments
     /// after it get a word of their own, the first letter of this one. `None` if that word had a condition.
-    pub(crate) fn blanks(&self, alloc: Global, line: &[u8]) -> Result<Option<Blanks>, AllocError> {
+    pub(crate) fn blanked(&self, alloc: Global, line: &[u8]) -> Result<Option<Blanks>, AllocError> {
         let (start, end) = self.extent();
         let mut bytes = vec![in alloc; b' '; end.saturating_sub(start)]?;
         if self.is_last() {

@@ -19,7 +19,7 @@ use std::alloc::{AllocError, Global};
 
 // A need of a callee, and the places behind it.
 #[derive(Drop)]
-struct Traced {
+struct NeedOrigins {
     entry: EntryId,
     need: LockTerm,
     origins: Vec<Origin>,
@@ -33,7 +33,7 @@ pub(crate) struct Reader<'a> {
     checks: &'a Checks<'a>,
     // the routine of the last row
     facts: RoutineFacts<'a>,
-    traced: Vec<Traced>,
+    needs: Vec<NeedOrigins>,
 }
 
 // Whether a lock of this name's root may be held where a call of the entry with this summary ends.
@@ -82,7 +82,7 @@ impl<'a> Reader<'a> {
             grounds,
             checks,
             facts: RoutineFacts::of(alloc, grounds, number)?,
-            traced: Vec::new(alloc),
+            needs: Vec::new(alloc),
         })
     }
 
@@ -102,9 +102,10 @@ impl<'a> Reader<'a> {
         Some((entry, need))
     }
 
-    fn traced(&self, entry: EntryId, need: &LockTerm) -> Option<&Traced> {
-        let mut traced = self.traced.iter();
-        traced.find(|other| other.entry == entry && other.need == *need)
+    // The places behind a need, if they were looked for.
+    fn looked_for(&self, entry: EntryId, need: &LockTerm) -> Option<&NeedOrigins> {
+        let mut needs = self.needs.iter();
+        needs.find(|other| other.entry == entry && other.need == *need)
     }
 
     /// Looks for the places behind the need that a call does not meet, if they were not looked for.
@@ -115,13 +116,13 @@ impl<'a> Reader<'a> {
         let Some((entry, need)) = self.need_at(row, note) else {
             return Ok(());
         };
-        if self.traced(entry, need).is_some() {
+        if self.looked_for(entry, need).is_some() {
             return Ok(());
         }
         let ask = Ask::Need(need.clone()?);
         let origins = origins_of(self.alloc, self.grounds, self.checks, entry, ask)?;
         let need = need.clone()?;
-        self.traced.push(Traced {
+        self.needs.push(NeedOrigins {
             entry,
             need,
             origins,
@@ -134,8 +135,8 @@ impl<'a> Reader<'a> {
         let Some((entry, need)) = self.need_at(row, note) else {
             return &[];
         };
-        match self.traced(entry, need) {
-            Some(traced) => traced.origins.as_slice(),
+        match self.looked_for(entry, need) {
+            Some(found) => found.origins.as_slice(),
             None => &[],
         }
     }
@@ -174,7 +175,7 @@ impl<'a> Reader<'a> {
             .private
             .as_slice()
             .iter()
-            .chain(lists.readonly.as_slice());
+            .chain(lists.readonly.as_slice().iter());
         covers.any(|cover| is_named(cover.pattern.global.as_bytes()))
             || others.any(|pattern| is_named(pattern.global.as_bytes()))
     }
@@ -241,12 +242,12 @@ impl<'a> Reader<'a> {
             Code::Uncovered => Some(Remedy::TouchesOfLock),
             Code::Unruled if subject.unruled.is_some() => Some(Remedy::TouchesOfGlobal),
             Code::Unruled | Code::ReadOnly | Code::NotPrivate => Some(Remedy::Touch),
-            Code::NotHeld => Some(Remedy::Argument),
-            Code::NoCertificate if self.begins_job(fault) => Some(Remedy::Argument),
+            Code::NotHeld => Some(Remedy::Lock),
+            Code::NoCertificate if self.begins_job(fault) => Some(Remedy::Call),
             Code::Unranked | Code::RankOrder | Code::SharedName | Code::UnknownSubscript
-                if self.is_kept_inside(row) => { Some(Remedy::Argument) }
+                if self.is_kept_inside(row) => { Some(Remedy::Lock) }
             Code::Pinned | Code::RankOrder | Code::UnknownSubscript | Code::DropsFrame
-                if self.is_call_removable(fault) => { Some(Remedy::Argument) }
+                if self.is_call_removable(fault) => { Some(Remedy::Call) }
             _ => None,
         }
     }
@@ -259,7 +260,7 @@ impl<'a> Reader<'a> {
         sites: &mut Vec<Site>,
     ) -> Result<(), AllocError> {
         if !origins.iter().all(|origin| is_touch(origin)) {
-            return add_site(sites, row.entry, row.fault, Remedy::Argument);
+            return add_site(sites, row.entry, row.fault, Remedy::Call);
         }
         for origin in origins {
             add_site(sites, origin.entry, origin.fault, Remedy::TouchesOfLock)?;

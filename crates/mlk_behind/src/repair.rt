@@ -1,6 +1,6 @@
 // The patches that mend faults at their places.
 
-use crate::argument::{argument_at, name_length, reference_front};
+use crate::argument::{Argument, argument_at, name_length, reference_front};
 use crate::patch::Patch;
 use crate::site::{Remedy, Site};
 use mlk_excerpts::split_at_column;
@@ -46,13 +46,24 @@ fn place_of(column: Column) -> usize {
 }
 
 // What a name that is touched begins with, if it is that of a local.
-fn local_front(text: &[u8]) -> Option<&'static [u8]> {
+fn local_front(text: &[u8]) -> Option<&'static str> {
     let length = name_length(text);
     match text {
-        [b'^', b'%', ..] if length <= LONGEST_NAME => Some(b"zz"),
-        [b'^', ..] if length > 1 && length <= LONGEST_NAME => Some(b"z"),
+        [b'^', b'%', ..] if length <= LONGEST_NAME => Some("zz"),
+        [b'^', ..] if length > 1 && length <= LONGEST_NAME => Some("z"),
         _ => None,
     }
+}
+
+// The argument at a place of a line, if it is one that the remedy takes away.
+fn removable(line: &[u8], place: usize, remedy: Remedy) -> Option<Argument> {
+    let argument = argument_at(line, place)?;
+    let is_meant = match remedy {
+        Remedy::Lock => argument.is_of(line, b"Ll"),
+        Remedy::Call => argument.is_of(line, b"DdJj") && argument.begins_at(place),
+        _ => false,
+    };
+    if is_meant { Some(argument) } else { None }
 }
 
 // How many subscripts of a node decide which lock of a rule it needs.
@@ -129,7 +140,7 @@ impl<'a> Patcher<'a> {
         let Some(front) = local_front(self.text_at(line, column)) else {
             return Ok(());
         };
-        let bytes = Vec::from_slice(self.alloc, front)?;
+        let bytes = Vec::from_slice(self.alloc, front.as_bytes())?;
         if let Some(patch) = self.patch(line, place_of(column), bytes) {
             self.touches.push(patch)?;
         }
@@ -180,10 +191,10 @@ impl<'a> Patcher<'a> {
         if self.cut.iter().any(|other| *other == here) {
             return Ok(());
         }
-        let Some(argument) = argument_at(line, place_of(site.fault.column)) else {
+        let Some(argument) = removable(line, place_of(site.fault.column), site.remedy) else {
             return Ok(());
         };
-        let Some(blanks) = argument.blanks(self.alloc, line)? else {
+        let Some(blanks) = argument.blanked(self.alloc, line)? else {
             return Ok(());
         };
         if let Some(patch) = self.patch(site.fault.line, blanks.start, blanks.bytes) {
@@ -198,7 +209,7 @@ impl<'a> Patcher<'a> {
             Remedy::Touch => self.add_touch(site.fault.line, site.fault.column),
             Remedy::TouchesOfLock => self.add_alike(site),
             Remedy::TouchesOfGlobal => self.add_all(site),
-            Remedy::Argument => self.add_argument(site),
+            Remedy::Lock | Remedy::Call => self.add_argument(site),
         }
     }
 

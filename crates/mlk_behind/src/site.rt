@@ -12,8 +12,10 @@ pub(crate) enum Remedy {
     TouchesOfLock,
     /// the touch there, and all others of its global in the routine
     TouchesOfGlobal,
-    /// the argument there
-    Argument,
+    /// the argument of LOCK there
+    Lock,
+    /// the call by DO or JOB there
+    Call,
 }
 
 /// A place at which a fault is mended.
