@@ -1,7 +1,5 @@
 -- Texts of routines in which faults are mended. This project's own choice.
 use Rattle.std.specs.Prelude.{ℕ, ◌≡◌, ◌+◌, ◌≤◌, ◌<◌, ◌==◌, ◌||◌, Bool, List, [], ◌∷◌, Any, length, slice_index}
-use Rattle.std.specs.Vec.{Vec}
-use Rattle.std.specs.declared.alloc.Global.{Global}
 use Rattle.mlk_behind.specs.declared.patch.Patch.{Patch}
 
 -- LF and CR end lines

@@ -4,7 +4,7 @@ use crate::lock::FaultyLock;
 use crate::subject::Subject;
 use mlk_names::{LockTerm, prefix};
 use mlk_program::EntryId;
-use mlk_text::Code;
+use mlk_text::{Code, Root};
 use mlk_walk::Row;
 use mlk_walk_exprs::{Fault, Note};
 use std::alloc::{AllocError, Global};
@@ -18,6 +18,8 @@ pub struct KnownFaults {
     // places, by the number of the routine
     places: BTreeSet<(usize, Fault)>,
     locks: BTreeMap<EntryId, Vec<FaultyLock>>,
+    // the roots of locks whose release is taken away where it is not held: they may stay held elsewhere
+    released: Vec<Root>,
     // names for which a rule is missing, as M writes them
     unruled: BTreeSet<Vec<u8>>,
 }
@@ -39,6 +41,7 @@ impl KnownFaults {
             alloc,
             places: BTreeSet::new(alloc),
             locks: BTreeMap::new(alloc),
+            released: Vec::new(alloc),
             unruled: BTreeSet::new(alloc),
         }
     }
@@ -73,11 +76,13 @@ impl KnownFaults {
         locks.iter().any(|lock| is_missing(lock)) || self.has_locks(subject.behind.as_slice())
     }
 
-    // Whether a lock is held that another fault of the entry is about.
+    // Whether a lock may be held only because of what mends other faults.
     fn has_held(&self, entry: EntryId, held: &[LockTerm]) -> bool {
         let known = self.locks_of(entry);
-        held.iter()
-            .any(|term| known.iter().any(|lock| prefix(&lock.term, term)))
+        held.iter().any(|term| {
+            known.iter().any(|lock| prefix(&lock.term, term))
+                || self.released.iter().any(|root| *root == term.root)
+        })
     }
 
     fn has_standing(&self, entry: EntryId, note: &Note) -> bool {
@@ -100,7 +105,9 @@ impl KnownFaults {
             Code::CaseNotListed | Code::SummaryShort => true,
             Code::NeedMissing => self.has_need(subject),
             Code::Uncovered | Code::NotHeld | Code::SharedName | Code::UnknownSubscript => {
-                self.has_place(row) || self.has_locks(subject.locks.as_slice())
+                self.has_place(row)
+                    || self.has_locks(subject.locks.as_slice())
+                    || self.has_locks(subject.behind.as_slice())
             }
             Code::Unruled | Code::Unranked => self.has_place(row) || self.has_unruled(subject),
             Code::Pinned
@@ -114,6 +121,10 @@ impl KnownFaults {
     }
 
     fn add_lock(&mut self, lock: FaultyLock) -> Result<(), AllocError> {
+        let root = &lock.term.root;
+        if lock.is_released && !self.released.iter().any(|other| *other == *root) {
+            self.released.push(root.clone()?)?;
+        }
         let locks = self
             .locks
             .entry(lock.entry)?

@@ -14,6 +14,8 @@ pub(crate) struct FaultyLock {
     pub(crate) term: LockTerm,
     /// whether subscripts are left out that the text does not show
     pub(crate) is_cut: bool,
+    /// whether it is released there, and not held
+    pub(crate) is_released: bool,
 }
 
 // The value of a subscript, as far as the text shows it.
@@ -52,6 +54,7 @@ fn lock_of(
         entry,
         term: LockTerm { root, subs },
         is_cut,
+        is_released: false,
     })
 }
 

@@ -7,7 +7,7 @@ use crate::subject::{Subject, missing_in};
 use mlk_cert_parts::Summary;
 use mlk_excerpts::split_at_column;
 use mlk_explain_origins::{
-    Ask, Grounds, Mark, Origin, RoutineFacts, has_root, need_like, origins_of,
+    Ask, Grounds, Mark, Origin, RoutineFacts, has_root, named_need, need_like, origins_of,
 };
 use mlk_names::LockTerm;
 use mlk_program::EntryId;
@@ -65,8 +65,16 @@ fn add_site(
     Ok(())
 }
 
-fn is_touch(origin: &Origin) -> bool {
-    origin.fault.code == Code::Uncovered
+// Adds the places at which a need is mended: the touches and releases behind it.
+fn add_need_sites(origins: &[Origin], sites: &mut Vec<Site>) -> Result<(), AllocError> {
+    for origin in origins {
+        let remedy = match origin.fault.code {
+            Code::NotHeld => Remedy::Lock,
+            _ => Remedy::TouchesOfLock,
+        };
+        add_site(sites, origin.entry, origin.fault, remedy)?;
+    }
+    Ok(())
 }
 
 impl<'a> Reader<'a> {
@@ -94,11 +102,15 @@ impl<'a> Reader<'a> {
         Ok(())
     }
 
-    // What the entry that is called at a fault needs of the locks that are missing there.
+    // The need of the entry that is called at a fault, if that is what the call does not meet.
     fn need_at(&self, row: &Row, note: &Note) -> Option<(EntryId, &'a LockTerm)> {
         let entry = self.facts.target(self.grounds.program, row.fault)?;
         let summary = self.checks.entries.summary(entry)?;
-        let need = need_like(summary, missing_in(note).first()?)?;
+        let need = match row.fault.code {
+            Code::NeedMissing => need_like(summary, missing_in(note).first()?)?,
+            Code::UnknownSubscript => named_need(summary)?,
+            _ => return None,
+        };
         Some((entry, need))
     }
 
@@ -110,9 +122,6 @@ impl<'a> Reader<'a> {
 
     /// Looks for the places behind the need that a call does not meet, if they were not looked for.
     pub(crate) fn trace(&mut self, row: &Row, note: &Note) -> Result<(), AllocError> {
-        if row.fault.code != Code::NeedMissing {
-            return Ok(());
-        }
         let Some((entry, need)) = self.need_at(row, note) else {
             return Ok(());
         };
@@ -197,7 +206,7 @@ impl<'a> Reader<'a> {
     /// What a row is about. The places behind it were looked for.
     pub(crate) fn subject(&self, row: &Row, note: &Note) -> Result<Subject, AllocError> {
         let mut subject = Subject::new(self.alloc);
-        subject.add_missing(row.entry, note)?;
+        subject.add_missing(row, note)?;
         subject.add_behind(self.origins(row, note))?;
         if let Some(argument) = self.lock_argument(row.fault) {
             self.add_names(row.entry, argument.names.as_slice(), &mut subject.locks)?;
@@ -252,22 +261,6 @@ impl<'a> Reader<'a> {
         }
     }
 
-    // Adds the places at which the need of a call is mended: the touches behind it, or the call, if a release is behind it too.
-    fn add_need_sites(
-        &self,
-        row: &Row,
-        origins: &[Origin],
-        sites: &mut Vec<Site>,
-    ) -> Result<(), AllocError> {
-        if !origins.iter().all(|origin| is_touch(origin)) {
-            return add_site(sites, row.entry, row.fault, Remedy::Call);
-        }
-        for origin in origins {
-            add_site(sites, origin.entry, origin.fault, Remedy::TouchesOfLock)?;
-        }
-        Ok(())
-    }
-
     /// Adds the places at which a row's fault is mended, as far as it can be without a change of what holds after it. The places
     /// behind it were looked for.
     pub(crate) fn add_sites(
@@ -277,8 +270,9 @@ impl<'a> Reader<'a> {
         subject: &Subject,
         sites: &mut Vec<Site>,
     ) -> Result<(), AllocError> {
-        if row.fault.code == Code::NeedMissing {
-            return self.add_need_sites(row, self.origins(row, note), sites);
+        let origins = self.origins(row, note);
+        if !origins.is_empty() {
+            return add_need_sites(origins, sites);
         }
         match self.remedy(row, subject) {
             Some(remedy) => add_site(sites, row.entry, row.fault, remedy),

@@ -4,6 +4,8 @@ use crate::lock::FaultyLock;
 use mlk_explain_origins::Origin;
 use mlk_names::{LockTerm, prefix};
 use mlk_program::EntryId;
+use mlk_text::Code;
+use mlk_walk::Row;
 use mlk_walk_exprs::{Mend, Note};
 use std::alloc::{AllocError, Global};
 
@@ -28,16 +30,18 @@ pub(crate) fn missing_in(note: &Note) -> &[LockTerm] {
     }
 }
 
-// Adds a lock in the terms of `entry`.
+// Adds a lock in the terms of `entry`, at a fault with this code.
 fn add_term(
     locks: &mut Vec<FaultyLock>,
     entry: EntryId,
     term: &LockTerm,
+    code: Code,
 ) -> Result<(), AllocError> {
     locks.push(FaultyLock {
         entry,
         term: term.clone()?,
         is_cut: false,
+        is_released: code == Code::NotHeld,
     })?;
     Ok(())
 }
@@ -58,18 +62,18 @@ impl Subject {
         }
     }
 
-    /// Adds the locks that are missing in `entry`, and those that are held in their place.
-    pub(crate) fn add_missing(&mut self, entry: EntryId, note: &Note) -> Result<(), AllocError> {
+    /// Adds the locks that are missing where a row's fault is, and those that are held in their place.
+    pub(crate) fn add_missing(&mut self, row: &Row, note: &Note) -> Result<(), AllocError> {
         let missing = missing_in(note);
         for term in missing {
-            add_term(&mut self.locks, entry, term)?;
+            add_term(&mut self.locks, row.entry, term, row.fault.code)?;
         }
         let Some(standing) = &note.standing else {
             return Ok(());
         };
         for term in standing.held.as_slice() {
             if missing.iter().any(|other| is_alike(term, other)) {
-                add_term(&mut self.alike, entry, term)?;
+                add_term(&mut self.alike, row.entry, term, row.fault.code)?;
             }
         }
         Ok(())
@@ -79,7 +83,7 @@ impl Subject {
     pub(crate) fn add_behind(&mut self, origins: &[Origin]) -> Result<(), AllocError> {
         for origin in origins {
             for term in missing_in(&origin.note) {
-                add_term(&mut self.behind, origin.entry, term)?;
+                add_term(&mut self.behind, origin.entry, term, origin.fault.code)?;
             }
         }
         Ok(())
