@@ -166,16 +166,15 @@ impl<'a> Search<'a> {
     fn look_behind<R: Threads + Wait + Sync, W: Watch>(
         &mut self,
         rt: &R,
-        patches: Vec<Patch>,
+        patches: &[Patch],
         watch: &W,
     ) -> Result<(), AllocError> {
-        let mut patches = patches;
-        let mut texts = mended_texts(self.alloc, self.grounds.texts, patches.as_slice())?;
+        let mut texts = mended_texts(self.alloc, self.grounds.texts, patches)?;
         for _ in 0..MOST_ROUNDS {
+            let patches = self.read(rt, texts.as_slice(), watch)?;
             if patches.is_empty() {
                 break;
             }
-            patches = self.read(rt, texts.as_slice(), watch)?;
             texts = mended_texts(self.alloc, texts.as_slice(), patches.as_slice())?;
         }
         Ok(())
@@ -190,10 +189,14 @@ impl<'a> Search<'a> {
         watch: &W,
     ) -> Result<FaultsBehind, AllocError> {
         let mut search = self;
-        if is_explained(style) && !report.is_yes() {
-            let grounds = search.grounds;
-            let patches = search.learn(grounds, report, true)?;
-            search.look_behind(rt, patches, watch)?;
+        if !is_explained(style) || report.is_yes() {
+            return Ok(search.behind);
+        }
+        let grounds = search.grounds;
+        let patches = search.learn(grounds, report, true)?;
+        // The certificate that was given may be at fault itself.
+        if !patches.is_empty() || !grounds.is_made {
+            search.look_behind(rt, patches.as_slice(), watch)?;
         }
         Ok(search.behind)
     }

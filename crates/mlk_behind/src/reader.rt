@@ -154,16 +154,19 @@ impl<'a> Reader<'a> {
         self.facts.lock_argument(fault.line, fault.column)
     }
 
+    // Adds the locks that an argument of LOCK names where a row's fault is.
     fn add_names(
         &self,
-        entry: EntryId,
+        row: &Row,
         names: &[Variable],
         locks: &mut Vec<FaultyLock>,
     ) -> Result<(), AllocError> {
         for name in names {
-            if let Some(lock) = named_lock(self.alloc, entry, name)? {
-                locks.push(lock)?;
-            }
+            let Some(mut lock) = named_lock(self.alloc, row.entry, name)? else {
+                continue;
+            };
+            lock.is_released = row.fault.code == Code::NotHeld;
+            locks.push(lock)?;
         }
         Ok(())
     }
@@ -209,7 +212,7 @@ impl<'a> Reader<'a> {
         subject.add_missing(row, note)?;
         subject.add_behind(self.origins(row, note))?;
         if let Some(argument) = self.lock_argument(row.fault) {
-            self.add_names(row.entry, argument.names.as_slice(), &mut subject.locks)?;
+            self.add_names(row, argument.names.as_slice(), &mut subject.locks)?;
         }
         subject.unruled = self.unruled(row.fault)?;
         Ok(subject)

@@ -23,9 +23,9 @@ fn push_behind(text: &mut Vec<u8>, behind: &FaultsBehind) -> Result<(), AllocErr
     push_all(
         text,
         &[
-            Words("note: behind these, not counted: "),
+            Words("note: if these were mended, the check would find "),
             count,
-            Words(", which the check finds as if these were mended\n"),
+            Words(" more, not counted above:\n"),
             Bytes(behind.text()),
         ],
     )
