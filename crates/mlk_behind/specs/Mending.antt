@@ -1,5 +1,5 @@
 -- Texts of routines in which faults are mended. This project's own choice.
-use Rattle.std.specs.Prelude.{ℕ, ◌≡◌, ◌+◌, ◌≤◌, ◌<◌, ◌==◌, ◌||◌, Bool, List, [], ◌∷◌, Any, length, slice_index}
+use Rattle.std.specs.Prelude.{ℕ, ◌≡◌, ◌+◌, ◌≤◌, ◌<◌, ◌==◌, ◌||◌, Bool, List, [], Any, length, slice_index, slice_index_or}
 use Rattle.mlk_behind.specs.declared.patch.Patch.{Patch}
 
 -- LF and CR end lines
@@ -20,8 +20,7 @@ pub record DiffersOnlyAt (IsPlace : ℕ → Type 0) (old new : List ℕ) : Type 
   pub lines_stay : (k : ℕ) → ends_line (slice_index new k) ≡ ends_line (slice_index old k)
   pub others_stay : (k : ℕ) → (IsPlace k → ⊥) → slice_index new k ≡ slice_index old k
 
--- the texts of the routines from this one on, with the patches that are for each
-abbrev pub AreMended : List Patch → ℕ → List (List ℕ) → List (List ℕ) → Type 0
-AreMended patches routine [] [] = Unit {0}
-AreMended patches routine (old ∷ olds) (new ∷ news) = DiffersOnlyAt (IsPatched patches routine) old new × AreMended patches (routine + 1) olds news
-AreMended patches routine olds news = ⊥
+-- Each text has the patches that are for its routine.
+pub record AreMended (patches : List Patch) (olds news : List (List ℕ)) : Type 0 where
+  pub count_stays : length news ≡ length olds
+  pub mended : (routine : ℕ) → routine < length olds → DiffersOnlyAt (IsPatched patches routine) (slice_index_or olds routine []) (slice_index_or news routine [])

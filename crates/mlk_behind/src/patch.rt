@@ -70,7 +70,7 @@ pub fn mended_texts(
     texts: &[Vec<u8>],
     patches: &[Patch],
 ) -> Result<Vec<Vec<u8>>, AllocError>
-    ensures { IfOk result (λ mended. AreMended patches.now 0 (map (λ t. t.items) texts.now) (map (λ t. t.items) mended.items)) }
+    ensures { IfOk result (λ mended. AreMended patches.now (map (λ t. t.items) texts.now) (map (λ t. t.items) mended.items)) }
 {
     let mut mended = Vec::with_capacity(alloc, texts.len())?;
     for (routine, text) in texts.iter().enumerate() {

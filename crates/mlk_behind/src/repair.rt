@@ -13,6 +13,9 @@ use std::alloc::{AllocError, Global};
 // The longest name that a letter may be put in front of, with its `^`.
 const LONGEST_NAME: usize = 31;
 
+// The maximum number of subscripts of a global.
+const MOST_SUBSCRIPTS: usize = 32;
+
 // Makes the patches of one routine after another.
 #[derive(Drop)]
 struct Patcher<'a> {
@@ -77,20 +80,23 @@ fn count_in(lock: &Template) -> usize {
     count
 }
 
-// How many subscripts of a global decide which locks it needs.
-fn deciding_count(rules: &Rules, written: &[u8]) -> usize {
-    let global = written.strip_prefix(b"^").unwrap_or(written);
-    let mut count = 0usize;
+// How many subscripts of a global decide which locks it needs: those that the lock of its cover has; all if it has several covers.
+fn deciding_count(rules: &Rules, global: &[u8]) -> usize {
+    let mut count = None;
     for cover in rules.lists().covers.as_slice() {
         if cover.pattern.global.as_bytes() != global {
             continue;
         }
-        count = count.max(count_in(&cover.lock));
-        if let Some(also) = &cover.also {
-            count = count.max(count_in(also));
+        if count.is_some() {
+            return MOST_SUBSCRIPTS;
         }
+        let also = match &cover.also {
+            Some(also) => count_in(also),
+            None => 0,
+        };
+        count = Some(count_in(&cover.lock).max(also));
     }
-    count
+    count.unwrap_or(0)
 }
 
 impl<'a> Patcher<'a> {
@@ -160,10 +166,10 @@ impl<'a> Patcher<'a> {
     fn add_alike(&mut self, site: &Site) -> Result<(), AllocError> {
         let text = self.text_at(site.fault.line, site.fault.column);
         let (name, _) = text.split_at(name_length(text).min(text.len()));
-        let count = deciding_count(self.grounds.rules, name);
+        let global = name.strip_prefix(b"^").unwrap_or(name);
+        let count = deciding_count(self.grounds.rules, global);
         let front = reference_front(text, count);
         let (first, last) = self.span(site.entry);
-        let global = name.strip_prefix(b"^").unwrap_or(name);
         for (line, column) in self.facts.uses_of(self.alloc, global, first, last)? {
             if reference_front(self.text_at(line, column), count) == front {
                 self.add_touch(line, column)?;
@@ -231,9 +237,13 @@ pub(crate) fn patches_for(
     let mut sites = sites;
     sites.sort_unstable();
     let mut patcher = Patcher::new(alloc, grounds, 0)?;
+    let mut last = None;
     for site in &sites {
-        patcher.look_up(site.entry.routine())?;
-        patcher.add(site)?;
+        if last != Some(*site) {
+            patcher.look_up(site.entry.routine())?;
+            patcher.add(site)?;
+            last = Some(*site);
+        }
     }
     patcher.into_patches()
 }
