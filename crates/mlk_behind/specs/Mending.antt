@@ -1,5 +1,5 @@
 -- Texts of routines in which faults are mended. This project's own choice.
-use Rattle.std.specs.Prelude.{ℕ, ◌≡◌, ◌+◌, ◌≤◌, ◌<◌, ◌==◌, ◌||◌, Bool, List, [], Any, length, slice_index, slice_index_or}
+use Rattle.std.specs.Prelude.{ℕ, ◌≡◌, ◌+◌, ◌≤◌, ◌<◌, ◌==◌, ◌||◌, Bool, List, [], Any, length, map, slice_index, slice_index_or}
 use Rattle.mlk_behind.specs.declared.patch.Patch.{Patch}
 
 -- LF and CR end lines
@@ -16,8 +16,7 @@ IsPatched patches routine place = Any (λ p. (p.routine ≡ routine) × IsPatchA
 
 -- The new text has as many bytes as the old one, and lines end at the same places. Other bytes differ at these places only.
 pub record DiffersOnlyAt (IsPlace : ℕ → Type 0) (old new : List ℕ) : Type 0 where
-  pub length_stays : length new ≡ length old
-  pub lines_stay : (k : ℕ) → ends_line (slice_index new k) ≡ ends_line (slice_index old k)
+  pub lines_stay : map ends_line new ≡ map ends_line old
   pub others_stay : (k : ℕ) → (IsPlace k → ⊥) → slice_index new k ≡ slice_index old k
 
 -- Each text has the patches that are for its routine.
