@@ -78,10 +78,11 @@ impl<'a> Search<'a> {
         }
     }
 
-    // What mends the faults of a report. They are known from then on, and those that are new are explained, unless the report is the
-    // one that was given.
+    // What mends the faults of a report, where `given` is what is known of the entries by the report that was given. The faults are
+    // known from then on, and those that are new are explained, unless the report is the given one.
     fn learn(
         &mut self,
+        given: &Entries<'_>,
         grounds: &Grounds<'_>,
         report: &Report,
         is_given: bool,
@@ -93,7 +94,7 @@ impl<'a> Search<'a> {
             rules: grounds.rules,
             entries: &entries,
         };
-        let round = next_round(self.alloc, grounds, &checks, report, &mut self.known)?;
+        let round = next_round(self.alloc, grounds, &checks, given, report, &mut self.known)?;
         if !is_given {
             let shown = Grounds {
                 texts: self.grounds.texts,
@@ -110,6 +111,7 @@ impl<'a> Search<'a> {
     fn check<R: Threads + Wait + Sync, W: Watch>(
         &mut self,
         rt: &R,
+        given: &Entries<'_>,
         program: &Program<'_>,
         texts: &[Vec<u8>],
         watch: &W,
@@ -140,13 +142,14 @@ impl<'a> Search<'a> {
             certificate: &certificate,
             is_made: true,
         };
-        self.learn(&grounds, &report, false)
+        self.learn(given, &grounds, &report, false)
     }
 
     // Reads routines with these texts, and checks them.
     fn read<R: Threads + Wait + Sync, W: Watch>(
         &mut self,
         rt: &R,
+        given: &Entries<'_>,
         texts: &[Vec<u8>],
         watch: &W,
     ) -> Result<Vec<Patch>, AllocError> {
@@ -159,19 +162,20 @@ impl<'a> Search<'a> {
         let Some(program) = found(link(self.alloc, routines.as_slice()))? else {
             return Ok(nothing);
         };
-        self.check(rt, &program, texts, watch)
+        self.check(rt, given, &program, texts, watch)
     }
 
     // Looks behind the faults that these patches mend, and behind those that are found then.
     fn look_behind<R: Threads + Wait + Sync, W: Watch>(
         &mut self,
         rt: &R,
+        given: &Entries<'_>,
         patches: &[Patch],
         watch: &W,
     ) -> Result<(), AllocError> {
         let mut texts = mended_texts(self.alloc, self.grounds.texts, patches)?;
         for _ in 0..MOST_ROUNDS {
-            let patches = self.read(rt, texts.as_slice(), watch)?;
+            let patches = self.read(rt, given, texts.as_slice(), watch)?;
             if patches.is_empty() {
                 break;
             }
@@ -193,10 +197,12 @@ impl<'a> Search<'a> {
             return Ok(search.behind);
         }
         let grounds = search.grounds;
-        let patches = search.learn(grounds, report, true)?;
+        let blocks = grounds.certificate.blocks();
+        let given = Entries::of(search.alloc, grounds.program, grounds.rules, blocks)?;
+        let patches = search.learn(&given, grounds, report, true)?;
         // The certificate that was given may be at fault itself.
         if !patches.is_empty() || !grounds.is_made {
-            search.look_behind(rt, patches.as_slice(), watch)?;
+            search.look_behind(rt, &given, patches.as_slice(), watch)?;
         }
         Ok(search.behind)
     }

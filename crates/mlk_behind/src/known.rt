@@ -110,6 +110,7 @@ impl KnownFaults {
                     || self.has_locks(subject.behind.as_slice())
             }
             Code::Unruled | Code::Unranked => self.has_place(row) || self.has_unruled(subject),
+            Code::RankOrder | Code::DropsFrame if subject.needs_less => true,
             Code::Pinned
             | Code::RankOrder
             | Code::HeldAtEnd
@@ -149,6 +150,7 @@ impl KnownFaults {
             behind,
             alike,
             unruled,
+            ..
         } = subject;
         self.places.insert((row.entry.routine(), row.fault))?;
         self.add_locks(locks)?;

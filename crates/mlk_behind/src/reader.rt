@@ -4,6 +4,7 @@ use crate::argument::name_length;
 use crate::lock::{FaultyLock, named_lock};
 use crate::site::{Remedy, Site};
 use crate::subject::{Subject, missing_in};
+use mlk_calls::Entries;
 use mlk_cert_parts::Summary;
 use mlk_excerpts::split_at_column;
 use mlk_explain_origins::{
@@ -31,6 +32,8 @@ pub(crate) struct Reader<'a> {
     alloc: Global,
     grounds: &'a Grounds<'a>,
     checks: &'a Checks<'a>,
+    // what was known of the entries before anything was mended
+    given: &'a Entries<'a>,
     // the routine of the last row
     facts: RoutineFacts<'a>,
     needs: Vec<NeedOrigins>,
@@ -83,12 +86,14 @@ impl<'a> Reader<'a> {
         alloc: Global,
         grounds: &'a Grounds<'a>,
         checks: &'a Checks<'a>,
+        given: &'a Entries<'a>,
         number: usize,
     ) -> Result<Reader<'a>, AllocError> {
         Ok(Reader {
             alloc,
             grounds,
             checks,
+            given,
             facts: RoutineFacts::of(alloc, grounds, number)?,
             needs: Vec::new(alloc),
         })
@@ -206,6 +211,22 @@ impl<'a> Reader<'a> {
         Ok(Some(Vec::from_slice(self.alloc, written)?))
     }
 
+    // Whether an entry needs no lock of some root of which it needed one before anything was mended.
+    fn needs_less(&self, entry: EntryId) -> bool {
+        let Some(before) = self.given.summary(entry) else {
+            return false;
+        };
+        let needs = match self.checks.entries.summary(entry) {
+            Some(summary) => summary.need.as_slice(),
+            None => &[],
+        };
+        before
+            .need
+            .as_slice()
+            .iter()
+            .any(|term| !needs.iter().any(|need| need.root == term.root))
+    }
+
     /// What a row is about. The places behind it were looked for.
     pub(crate) fn subject(&self, row: &Row, note: &Note) -> Result<Subject, AllocError> {
         let mut subject = Subject::new(self.alloc);
@@ -215,6 +236,9 @@ impl<'a> Reader<'a> {
             self.add_names(row, argument.names.as_slice(), &mut subject.locks)?;
         }
         subject.unruled = self.unruled(row.fault)?;
+        let callee = self.facts.target(self.grounds.program, row.fault);
+        subject.needs_less = self.needs_less(row.entry)
+            || callee.is_some_and(|entry| self.needs_less(entry));
         Ok(subject)
     }
 

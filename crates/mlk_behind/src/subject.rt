@@ -20,6 +20,8 @@ pub(crate) struct Subject {
     pub(crate) alike: Vec<FaultyLock>,
     /// the name of a global that no rule has, or of a lock that no rule ranks, as M writes it
     pub(crate) unruled: Option<Vec<u8>>,
+    /// whether the fault's entry, or the one that is called there, needs less than it did before anything was mended
+    pub(crate) needs_less: bool,
 }
 
 /// The locks that `note` names as missing.
@@ -59,6 +61,7 @@ impl Subject {
             behind: Vec::new(alloc),
             alike: Vec::new(alloc),
             unruled: None,
+            needs_less: false,
         }
     }
 
