@@ -60,13 +60,13 @@ impl<'r> RuleUses<'r> {
             uses: Vec::new(alloc),
             by_global: IndexMap::new(alloc),
         };
-        for (index, cover) in lists.covers.iter().enumerate() {
+        for (index, cover) in lists.covers.as_slice().iter().enumerate() {
             uses.add_rule(alloc, RuleKind::Cover, index, &cover.pattern)?;
         }
-        for (index, pattern) in lists.private.iter().enumerate() {
+        for (index, pattern) in lists.private.as_slice().iter().enumerate() {
             uses.add_rule(alloc, RuleKind::Private, index, pattern)?;
         }
-        for (index, pattern) in lists.readonly.iter().enumerate() {
+        for (index, pattern) in lists.readonly.as_slice().iter().enumerate() {
             uses.add_rule(alloc, RuleKind::Readonly, index, pattern)?;
         }
         Ok(uses)
