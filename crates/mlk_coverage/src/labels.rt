@@ -43,36 +43,32 @@ fn line_matters(alloc: Global, line: &Line) -> Result<bool, AllocError> {
     Ok(mentions.iter().any(matters))
 }
 
-// The labels of a routine while its lines are looked at.
-#[derive(Drop)]
-struct Reading<'a> {
-    routine: &'a [u8],
-    // the label above, if it is not reached and nothing below it matters so far
-    open: Option<UnreachedLabel<'a>>,
-}
-
-impl<'a> Reading<'a> {
-    // Begins a label.
-    fn begin(&mut self, labels: &mut Labels<'a>, line: &'a Line, is_reached: bool) {
-        labels.all = labels.all.saturating_add(1);
+impl<'a> Labels<'a> {
+    // Counts a label.
+    fn count(&mut self, is_reached: bool) {
+        self.all = self.all.saturating_add(1);
         if is_reached {
-            labels.reached = labels.reached.saturating_add(1);
-            self.open = None;
-            return;
+            self.reached = self.reached.saturating_add(1);
         }
+    }
+
+    // Adds the label on the line with this index, which is not reached.
+    fn add_unreached(&mut self, routine: &'a Routine, index: usize) -> Result<(), AllocError> {
+        let Some(line) = routine.lines.get(index) else {
+            return Ok(());
+        };
         let label: &'a [u8] = match line.label.as_ref() {
             Some(label) => label.as_bytes(),
             None => b"",
         };
-        self.open = Some(UnreachedLabel {
-            routine: self.routine,
+        let unreached = UnreachedLabel {
+            routine: routine.name.as_bytes(),
             label,
             line: line.number,
-        });
+        };
+        push_sparing(&mut self.unreached, unreached)
     }
-}
 
-impl<'a> Labels<'a> {
     // Adds the labels of the routine with this number.
     fn add_routine(
         &mut self,
@@ -81,21 +77,20 @@ impl<'a> Labels<'a> {
         number: usize,
         routine: &'a Routine,
     ) -> Result<(), AllocError> {
-        let mut reading = Reading {
-            routine: routine.name.as_bytes(),
-            open: None,
-        };
+        // the line of the label above, if it is not reached and nothing below it matters so far
+        let mut open: Option<usize> = None;
         for (index, line) in routine.lines.iter().enumerate() {
             if index == 0 || line.label.is_some() {
                 let is_reached = marks.is_reached(EntryId::new(number, index));
-                reading.begin(self, line, is_reached);
+                self.count(is_reached);
+                open = if is_reached { None } else { Some(index) };
             }
-            let Some(open) = reading.open else {
+            let Some(first) = open else {
                 continue;
             };
             if line_matters(alloc, line)? {
-                push_sparing(&mut self.unreached, open)?;
-                reading.open = None;
+                self.add_unreached(routine, first)?;
+                open = None;
             }
         }
         Ok(())

@@ -80,7 +80,8 @@ impl<'r> RuleUses<'r> {
         pattern: &'r Pattern,
     ) -> Result<(), AllocError> {
         let rule = RuleId { kind, index };
-        self.add_to_global(alloc, pattern.global.as_bytes(), self.uses.len())?;
+        let number = self.uses.len();
+        self.add_to_global(alloc, pattern.global.as_bytes(), number)?;
         push_sparing(&mut self.patterns, pattern)?;
         push_sparing(
             &mut self.uses,
