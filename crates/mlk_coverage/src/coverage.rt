@@ -32,7 +32,7 @@ pub struct Coverage<'a> {
     pub lines: Share,
     /// how often each rule is met in these lines: covers, private patterns, readonly ones
     pub rules: Vec<RuleUse>,
-    /// the covers, by index from 0, whose lock no reached line claims
+    /// the numbers, from 1, of the covers that have a lock which no reached line claims
     pub unclaimed: Vec<usize>,
     /// the labels that matter and are not reached, in order
     pub unreached: Vec<UnreachedLabel<'a>>,
@@ -111,7 +111,7 @@ impl<'r, 'a> Finds<'r, 'a> {
         let mut unclaimed = Vec::new(alloc);
         for (index, cover) in covers.iter().enumerate() {
             if !self.has_claims(cover) {
-                push_sparing(&mut unclaimed, index)?;
+                push_sparing(&mut unclaimed, index.saturating_add(1))?;
             }
         }
         Ok(unclaimed)

@@ -3,6 +3,7 @@
 #![tactic(auto)]
 
 mod coverage;
+mod gap;
 mod labels;
 mod marks;
 mod reach;
@@ -10,5 +11,6 @@ mod rule_use;
 mod touches;
 
 pub use coverage::{Coverage, Share, coverage_of};
+pub use gap::{GAP_KINDS, Gap, GapKind, GapPlace, gaps_of};
 pub use labels::UnreachedLabel;
 pub use rule_use::{RuleId, RuleKind, RuleUse};

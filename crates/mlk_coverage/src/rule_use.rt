@@ -1,5 +1,8 @@
 // How often rules are met.
 
+ghost use Rattle.std.specs.Prelude.{◌≡◌};
+ghost use Rattle.mlk_coverage.specs.Words.{kind_word};
+
 use indexmap::IndexMap;
 use mlk_names::{Access, Reference};
 use mlk_rules::{Pattern, RuleLists, may_meet};
@@ -14,11 +17,24 @@ pub enum RuleKind {
     Readonly,
 }
 
-/// A rule: its kind, and its index among those, from 0.
+impl RuleKind {
+    /// The key of such rules in a rule file.
+    pub fn word(self) -> &'static str
+        ensures { result.now ≡ kind_word self }
+    {
+        match self {
+            RuleKind::Cover => "cover",
+            RuleKind::Private => "private",
+            RuleKind::Readonly => "readonly",
+        }
+    }
+}
+
+/// A rule: its kind, and its number among those in the rule file, from 1.
 #[derive(Clone, Copy, Debug, Drop, PartialEq, Eq)]
 pub struct RuleId {
     pub kind: RuleKind,
-    pub index: usize,
+    pub number: usize,
 }
 
 /// How often the text of reached lines may touch what a rule is about, as far as constants in subscripts show.
@@ -79,7 +95,10 @@ impl<'r> RuleUses<'r> {
         index: usize,
         pattern: &'r Pattern,
     ) -> Result<(), AllocError> {
-        let rule = RuleId { kind, index };
+        let rule = RuleId {
+            kind,
+            number: index.saturating_add(1),
+        };
         let number = self.uses.len();
         self.add_to_global(alloc, pattern.global.as_bytes(), number)?;
         push_sparing(&mut self.patterns, pattern)?;
