@@ -94,8 +94,8 @@ pub fn gaps_of<'a>(alloc: Global, coverage: &Coverage<'a>) -> Result<Vec<Gap<'a>
         let kind = GapKind::NoEntry;
         push_sparing(&mut gaps, Gap { kind, place })?;
     }
-    for label in &coverage.unreached {
-        let place = GapPlace::Label(*label);
+    for label in coverage.unreached.iter().copied() {
+        let place = GapPlace::Label(label);
         let kind = GapKind::UnreachedLabel;
         push_sparing(&mut gaps, Gap { kind, place })?;
     }

@@ -17,7 +17,7 @@ const MOST_ELEMENTS: usize = 1024;
 
 /// A section of a rule file.
 #[derive(Clone, Copy, Drop)]
-enum Section {
+pub enum Section {
     Lock,
     Cover,
     Private,
@@ -91,6 +91,12 @@ impl RuleFile {
         let elements = self.table.as_ref()?.get(rule.section.word())?.as_array()?;
         let element = elements.as_slice().get(rule.number)?.as_table()?;
         Some(element.get(key)?.as_str()?.as_bytes())
+    }
+
+    /// The pattern of the rule with the number `number`, from 1, of a section of rules on globals, as the file has it.
+    pub fn pattern(&self, section: Section, number: usize) -> Option<&[u8]> {
+        let number = number.checked_sub(1)?;
+        self.text(RuleAt { section, number }, "global")
     }
 }
 
