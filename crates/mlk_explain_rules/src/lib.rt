@@ -3,4 +3,4 @@
 
 mod rule;
 
-pub use rule::{RuleFile, Section, free_reads, has_rules, rule_texts};
+pub use rule::{RuleFile, free_reads, has_rules, rule_texts};

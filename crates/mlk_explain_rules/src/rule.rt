@@ -1,5 +1,6 @@
 // The rules that apply to a fault, and their texts.
 
+use mlk_coverage::{RuleId, RuleKind};
 use mlk_explain_places::{Part, Phrase, Place, phrase_text, push_front, root_of};
 use mlk_report_text::Piece::{Number, Words};
 use mlk_report_text::{push_all, text_of};
@@ -17,7 +18,7 @@ const MOST_ELEMENTS: usize = 1024;
 
 /// A section of a rule file.
 #[derive(Clone, Copy, Drop)]
-pub enum Section {
+enum Section {
     Lock,
     Cover,
     Private,
@@ -93,9 +94,14 @@ impl RuleFile {
         Some(element.get(key)?.as_str()?.as_bytes())
     }
 
-    /// The pattern of the rule with the number `number`, from 1, of a section of rules on globals, as the file has it.
-    pub fn pattern(&self, section: Section, number: usize) -> Option<&[u8]> {
-        let number = number.checked_sub(1)?;
+    /// The pattern of `rule`, as the file has it.
+    pub fn pattern(&self, rule: RuleId) -> Option<&[u8]> {
+        let section = match rule.kind {
+            RuleKind::Cover => Section::Cover,
+            RuleKind::Private => Section::Private,
+            RuleKind::Readonly => Section::Readonly,
+        };
+        let number = rule.number.checked_sub(1)?;
         self.text(RuleAt { section, number }, "global")
     }
 }

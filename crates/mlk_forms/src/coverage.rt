@@ -1,22 +1,13 @@
 // How much a report is about, as notes below its answer.
 
-use mlk_coverage::{Coverage, RuleKind, RuleUse};
-use mlk_explain_rules::{RuleFile, Section};
+use mlk_coverage::{Coverage, RuleId, RuleKind, RuleUse};
+use mlk_explain_rules::RuleFile;
 use mlk_report_text::Piece::{Bytes, Number, Words};
 use mlk_report_text::push_all;
 use std::alloc::{AllocError, Global};
 
 // How many labels that are not reached are named at most.
 const MOST_LABELS: usize = 20;
-
-// The section that rules of a kind are in.
-fn section_of(kind: RuleKind) -> Section {
-    match kind {
-        RuleKind::Cover => Section::Cover,
-        RuleKind::Private => Section::Private,
-        RuleKind::Readonly => Section::Readonly,
-    }
-}
 
 // `note: 2 entries reach 14 of 16 labels, 120 of 131 lines`
 fn push_shares(text: &mut Vec<u8>, coverage: &Coverage<'_>) -> Result<(), AllocError> {
@@ -44,18 +35,13 @@ fn push_shares(text: &mut Vec<u8>, coverage: &Coverage<'_>) -> Result<(), AllocE
 }
 
 // `note: cover ^PAT(id,...): 12 reads, 5 writes`
-fn push_rule(
-    text: &mut Vec<u8>,
-    rule_file: &RuleFile,
-    found: &RuleUse,
-) -> Result<(), AllocError> {
-    let kind = found.rule.kind;
-    let pattern = rule_file.pattern(section_of(kind), found.rule.number);
+fn push_rule(text: &mut Vec<u8>, rule_file: &RuleFile, found: &RuleUse) -> Result<(), AllocError> {
+    let pattern = rule_file.pattern(found.rule);
     push_all(
         text,
         &[
             Words("note: "),
-            Words(kind.word()),
+            Words(found.rule.kind.word()),
             Words(" "),
             Bytes(pattern.unwrap_or(b"")),
             Words(": "),
@@ -73,7 +59,8 @@ fn push_unclaimed(
     rule_file: &RuleFile,
     number: usize,
 ) -> Result<(), AllocError> {
-    let pattern = rule_file.pattern(Section::Cover, number);
+    let kind = RuleKind::Cover;
+    let pattern = rule_file.pattern(RuleId { kind, number });
     push_all(
         text,
         &[

@@ -13,7 +13,7 @@ returns c =
       reported = c.in_ok-hazards.ensures;
       found = c.in_ok-gaps.ensures;
       printed = subst (λ gaps. as_printed c.in_ok-hazards.hazards.items gaps) c.as_slice-found.ensures.value
-        (subst (λ hazards. as_printed hazards c.as_slice-found.result.now) c.as_slice-reported.ensures.value c.in_ok-text.ensures);
+          (subst (λ hazards. as_printed hazards c.as_slice-found.result.now) c.as_slice-reported.ensures.value c.in_ok-text.ensures);
       ended = c.passes-passes.ensures ∙ ap (λ hazards. passes c.args.report.now hazards c.as_slice-found.result.now) c.as_slice-reported.ensures.value
-        ∙ ap (passes c.args.report.now c.in_ok-hazards.hazards.items) c.as_slice-found.ensures.value;
+          ∙ ap (passes c.args.report.now c.in_ok-hazards.hazards.items) c.as_slice-found.ensures.value;
     }
