@@ -68,12 +68,14 @@ pub fn read_baseline<'t>(
     text: &'t [u8],
 ) -> Result<Baseline<'t>, Failure<BaselineFault>> {
     let mut counts = IndexMap::new(alloc);
-    for (index, line) in text.lines().enumerate() {
+    let mut number: u32 = 0;
+    for line in text.lines() {
+        number = number.saturating_add(1);
         if is_silent(line) {
             continue;
         }
         let Some((count, key)) = parts_of(line) else {
-            let line = LineNumber::new((index as u32).saturating_add(1));
+            let line = LineNumber::new(number);
             return Err(Failure::Refused(BaselineFault { line }));
         };
         let before = counts.get(key).copied().unwrap_or(0);

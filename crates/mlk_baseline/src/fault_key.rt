@@ -1,10 +1,10 @@
 // What a fault is known by, so that it is found again when lines move.
 
-use crate::labels::RoutineLines;
+use crate::labels::{RelativeLine, RoutineLines};
 use mlk_program::{EntryId, Program};
 use mlk_report_text::Piece::{Bytes, Number, Words};
 use mlk_report_text::text_of;
-use mlk_text::push_sparing;
+use mlk_text::{Code, LineNumber, push_sparing};
 use mlk_walk::{Report, Row};
 use std::alloc::{AllocError, Global};
 
@@ -20,6 +20,29 @@ impl FaultKey {
     pub fn as_bytes(&self) -> &[u8] {
         self.bytes.as_slice()
     }
+}
+
+// `CODE ENTRY LABEL+OFFSET TEXT`
+fn key_text<'a>(
+    alloc: Global,
+    code: Code,
+    entry: &'a [u8],
+    line: &'a RelativeLine<'a>,
+) -> Result<Vec<u8>, AllocError> {
+    text_of(
+        alloc,
+        &[
+            Number(usize::from(code.number())),
+            Words(" "),
+            Bytes(entry),
+            Words(" "),
+            Bytes(line.label),
+            Words("+"),
+            Number(line.offset),
+            Words(" "),
+            Bytes(line.text),
+        ],
+    )
 }
 
 // Keys of faults, by the lines of the routine that the last fault was in.
@@ -60,31 +83,24 @@ impl<'p, 'a> Keys<'p, 'a> {
         }
     }
 
+    // A line by the label above it, in the routine that was looked up.
+    fn relative(&self, line: LineNumber) -> RelativeLine<'a> {
+        match &self.last {
+            Some((_, lines)) => lines.relative(line),
+            None => RelativeLine {
+                label: b"",
+                offset: 0,
+                text: b"",
+            },
+        }
+    }
+
     // The key of a fault.
     fn key(&mut self, row: &Row) -> Result<FaultKey, AllocError> {
         self.look_up(row.entry.routine())?;
-        let code = Number(usize::from(row.fault.code.number()));
         let entry = self.entry_text(row.entry)?;
-        let entry = Bytes(entry.as_slice());
-        let Some((_, lines)) = &self.last else {
-            let bytes = text_of(self.alloc, &[code, Words(" "), entry])?;
-            return Ok(FaultKey { bytes });
-        };
-        let line = lines.relative(row.fault.line);
-        let bytes = text_of(
-            self.alloc,
-            &[
-                code,
-                Words(" "),
-                entry,
-                Words(" "),
-                Bytes(line.label),
-                Words("+"),
-                Number(line.offset),
-                Words(" "),
-                Bytes(line.text),
-            ],
-        )?;
+        let line = self.relative(row.fault.line);
+        let bytes = key_text(self.alloc, row.fault.code, entry.as_slice(), &line)?;
         Ok(FaultKey { bytes })
     }
 }

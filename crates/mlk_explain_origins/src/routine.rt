@@ -171,8 +171,8 @@ impl<'a> RoutineFacts<'a> {
                 break;
             }
             match &at.mention {
-                Mention::Global(column, global, _) if global.as_bytes() == name => {
-                    uses.push((at.line, *column))?;
+                Mention::Touch(touch) if touch.global.as_bytes() == name => {
+                    uses.push((at.line, touch.column))?;
                 }
                 _ => {}
             }
