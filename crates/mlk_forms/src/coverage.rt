@@ -34,7 +34,7 @@ fn push_shares(text: &mut Vec<u8>, coverage: &Coverage<'_>) -> Result<(), AllocE
     )
 }
 
-// `note: cover ^PAT(id,...): 12 reads, 5 writes`
+// `note: cover ^PAT(id,...): reads 12, writes 5`
 fn push_rule(text: &mut Vec<u8>, rule_file: &RuleFile, found: &RuleUse) -> Result<(), AllocError> {
     let pattern = rule_file.pattern(found.rule);
     push_all(
@@ -44,11 +44,11 @@ fn push_rule(text: &mut Vec<u8>, rule_file: &RuleFile, found: &RuleUse) -> Resul
             Words(found.rule.kind.word()),
             Words(" "),
             Bytes(pattern.unwrap_or(b"")),
-            Words(": "),
+            Words(": reads "),
             Number(found.reads),
-            Words(" reads, "),
+            Words(", writes "),
             Number(found.writes),
-            Words(" writes\n"),
+            Words("\n"),
         ],
     )
 }
