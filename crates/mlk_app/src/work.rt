@@ -15,6 +15,7 @@ use crate::behind::{Search, is_explained};
 use crate::source::{Sources, Work, copied_texts};
 use mlk_cert::{CertFormat, Certificate, read_cert};
 use mlk_cli::{Asked, Output, ProgramRequest, ReportStyle};
+use mlk_coverage::{Coverage, coverage_of};
 use mlk_explain::{Grounds, free_reads};
 use mlk_forms::{Explanations, render_report};
 use mlk_outcome::{NoReport, certificate_for, certificate_text, jobs_text, report_by_certificate};
@@ -91,6 +92,19 @@ fn listed_reads(
     }
 }
 
+// How much a report is about, if a report in this style says so.
+fn reported_coverage<'a>(
+    alloc: Global,
+    program: &Program<'a>,
+    rules: &Rules,
+    style: ReportStyle,
+) -> Result<Option<Coverage<'a>>, AllocError> {
+    if !is_explained(style) && !style.is_strict {
+        return Ok(None);
+    }
+    Ok(Some(coverage_of(alloc, program, rules)?))
+}
+
 // Prints `report`, which `explanations` explain.
 fn printed_report(
     alloc: Global,
@@ -106,6 +120,8 @@ fn printed_report(
     let inputs = Inputs {
         routines: grounds.program.routines(),
         paths: request.routines.as_slice(),
+        rules_path: request.rules,
+        rule_text: grounds.rule_text,
         texts: grounds.texts,
         free_reads: free_reads.as_slice(),
     };
@@ -146,9 +162,11 @@ fn print_report<R: Threads + Wait + Sync, W: Watch>(
     let style = style_in(&subject.request.asked);
     let search = Search::new(alloc, subject.sources, &grounds, style);
     let behind = search.run(rt, &report, style, watch)?;
+    let coverage = reported_coverage(alloc, program, rules, style)?;
     let explanations = Explanations {
         grounds: &grounds,
         behind: &behind,
+        coverage: coverage.as_ref(),
     };
     let printed = printed_report(alloc, &explanations, subject.request, &report)?;
     Ok(printed)

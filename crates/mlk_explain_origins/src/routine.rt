@@ -37,7 +37,7 @@ fn mark_after<'a>(
     column: Column,
 ) -> Option<Mark<'a>> {
     match mention {
-        Mention::Global(at, _, usage) if *at == column => Some(Mark::Global(*usage)),
+        Mention::Touch(touch) if touch.column == column => Some(Mark::Global(touch.usage)),
         Mention::Call(at, callee) if *at == column => Some(Mark::Call(*callee)),
         Mention::Job(at) if *at == column => match before {
             Some(Mark::Call(callee)) => Some(Mark::Job(callee)),
@@ -171,8 +171,8 @@ impl<'a> RoutineFacts<'a> {
                 break;
             }
             match &at.mention {
-                Mention::Global(column, global, _) if global.as_bytes() == name => {
-                    uses.push((at.line, *column))?;
+                Mention::Touch(touch) if touch.global.as_bytes() == name => {
+                    uses.push((at.line, touch.column))?;
                 }
                 _ => {}
             }

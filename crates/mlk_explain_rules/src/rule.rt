@@ -1,5 +1,6 @@
 // The rules that apply to a fault, and their texts.
 
+use mlk_coverage::{RuleId, RuleKind};
 use mlk_explain_places::{Part, Phrase, Place, phrase_text, push_front, root_of};
 use mlk_report_text::Piece::{Number, Words};
 use mlk_report_text::{push_all, text_of};
@@ -91,6 +92,17 @@ impl RuleFile {
         let elements = self.table.as_ref()?.get(rule.section.word())?.as_array()?;
         let element = elements.as_slice().get(rule.number)?.as_table()?;
         Some(element.get(key)?.as_str()?.as_bytes())
+    }
+
+    /// The pattern of `rule`, as the file has it.
+    pub fn pattern(&self, rule: RuleId) -> Option<&[u8]> {
+        let section = match rule.kind {
+            RuleKind::Cover => Section::Cover,
+            RuleKind::Private => Section::Private,
+            RuleKind::Readonly => Section::Readonly,
+        };
+        let number = rule.number.checked_sub(1)?;
+        self.text(RuleAt { section, number }, "global")
     }
 }
 

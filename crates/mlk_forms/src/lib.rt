@@ -1,10 +1,12 @@
 //! Reports, refusals and surveys in the form that the command line asks for: as text, as JSON, or as SARIF; and pages of codes.
 #![tactic(auto)]
 
+mod coverage;
 mod notice;
 mod page;
 mod report;
 mod survey;
+mod warning;
 
 pub use notice::render_notice;
 pub use page::render_pages;

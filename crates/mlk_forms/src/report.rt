@@ -3,16 +3,16 @@
 ghost use Rattle.std.specs.Prelude.{◌≡◌, ◌++◌, IfOk, OnOk, map};
 ghost use Rattle.mlk_syntax.specs.Views.{routine_of};
 ghost use Rattle.mlk_pool.specs.Texts.{last_line, report_text};
-ghost use Rattle.mlk_forms.specs.Rendering.{AreReported, IsExplained, IsJson, IsSarif, IsReportIn, IsReportAs, IsRendered, hazard_line, hazard_lines, passes};
+ghost use Rattle.mlk_forms.specs.Rendering.{IsExplained, IsJson, IsSarif, IsReportIn, IsReportAs, IsRendered, warning_lines, passes};
 
+use crate::coverage::push_coverage;
 use crate::notice::with_end;
+use crate::warning::{Warnings, push_warnings, reported_gaps, reported_hazards};
 use mlk_cli::{Output, ReportStyle};
+use mlk_coverage::Coverage;
 use mlk_explain::{FaultsBehind, Grounds, Story, explained_rows, notes_below, stories_of};
-use mlk_hazards::{HazardAt, hazards_of};
 use mlk_output::{Findings, Inputs, report_json, report_sarif};
 use mlk_pool::{ReportText, push_answer, report_text};
-use mlk_report_text::Piece::{At, Bytes, Words};
-use mlk_report_text::text_of;
 use mlk_syntax::Routine;
 use mlk_walk::Report;
 use std::alloc::{AllocError, Global};
@@ -21,7 +21,7 @@ use std::alloc::{AllocError, Global};
 #[derive(Drop)]
 pub struct PrintedReport {
     pub text: ReportText,
-    /// whether there is no fault, and no hazard if these are reported
+    /// whether there is no fault, and no hazard and no gap if these are reported
     pub passes: bool,
 }
 
@@ -31,70 +31,20 @@ pub struct Explanations<'a> {
     pub grounds: &'a Grounds<'a>,
     /// in the form that the style of the report asks for
     pub behind: &'a FaultsBehind,
-}
-
-// The hazards that are reported: none, unless they are asked for.
-fn reported_hazards<'a>(
-    alloc: Global,
-    routines: &'a [Routine],
-    is_strict: bool,
-) -> Result<Vec<HazardAt<'a>>, AllocError>
-    ensures { IfOk result (λ hazards. AreReported is_strict hazards.items) }
-{
-    if !is_strict {
-        return Ok(Vec::new(alloc));
-    }
-    let hazards = hazards_of(alloc, routines)?;
-    Ok(hazards)
-}
-
-// `hazard ROUTINE line:column NAME`
-fn push_hazard(
-    alloc: Global,
-    text: &mut ReportText,
-    hazard: &HazardAt<'_>,
-) -> Result<(), AllocError>
-    ensures { OnOk result (text.new ≡ text.old ++ hazard_line hazard.now) }
-{
-    let place = &hazard.position;
-    let line = text_of(
-        alloc,
-        &[
-            Words("hazard "),
-            Bytes(place.routine),
-            Words(" "),
-            At(place.line, place.column),
-            Words(" "),
-            Words(hazard.hazard.word()),
-            Words("\n"),
-        ],
-    )?;
-    text.push(line.as_slice())
-}
-
-fn push_hazards(
-    alloc: Global,
-    text: &mut ReportText,
-    hazards: &[HazardAt<'_>],
-) -> Result<(), AllocError>
-    ensures { OnOk result (text.new ≡ text.old ++ hazard_lines hazards.now) }
-{
-    for hazard in hazards {
-        push_hazard(alloc, text, hazard)?;
-    }
-    Ok(())
+    /// how much the report is about, if that is reported
+    pub coverage: Option<&'a Coverage<'a>>,
 }
 
 fn plain_text(
     alloc: Global,
     routines: &[Routine],
     report: &Report,
-    hazards: &[HazardAt<'_>],
+    warnings: &Warnings<'_>,
 ) -> Result<ReportText, AllocError>
-    ensures { IfOk result (λ text. text ≡ report_text (map routine_of routines.now) report.now ++ hazard_lines hazards.now) }
+    ensures { IfOk result (λ text. text ≡ report_text (map routine_of routines.now) report.now ++ warning_lines warnings.now.hazards.now warnings.now.gaps.now) }
 {
     let mut text = report_text(alloc, routines, report)?;
-    push_hazards(alloc, &mut text, hazards)?;
+    push_warnings(alloc, &mut text, warnings)?;
     Ok(text)
 }
 
@@ -122,21 +72,35 @@ fn stories_in(
     stories_of(alloc, grounds, report)
 }
 
-// The text of explained faults, with the answer, `notes` and a line for each hazard below it.
+// The text of explained faults, with the answer, `notes` and a line for each hazard and gap below it.
 fn text_below(
     alloc: Global,
     faults: Vec<u8>,
     notes: &[u8],
     report: &Report,
-    hazards: &[HazardAt<'_>],
+    warnings: &Warnings<'_>,
 ) -> Result<ReportText, AllocError>
-    ensures { IfOk result (λ text. text ≡ ((faults.items ++ last_line report.now) ++ notes.now) ++ hazard_lines hazards.now) }
+    ensures { IfOk result (λ text. text ≡ ((faults.items ++ last_line report.now) ++ notes.now) ++ warning_lines warnings.now.hazards.now warnings.now.gaps.now) }
 {
     let mut text = ReportText::of(faults);
     push_answer(&mut text, report.rows())?;
     text.push(notes)?;
-    push_hazards(alloc, &mut text, hazards)?;
+    push_warnings(alloc, &mut text, warnings)?;
     Ok(text)
+}
+
+// The notes below the answer: what is behind the faults, and how much the report is about.
+fn notes_of(
+    alloc: Global,
+    explanations: &Explanations<'_>,
+    report: &Report,
+) -> Result<Vec<u8>, AllocError> {
+    let grounds = explanations.grounds;
+    let mut notes = notes_below(alloc, grounds, report, explanations.behind)?;
+    if let Some(coverage) = explanations.coverage {
+        push_coverage(alloc, &mut notes, coverage, grounds.rule_text)?;
+    }
+    Ok(notes)
 }
 
 // The text with explanations.
@@ -144,33 +108,35 @@ fn explained_text(
     alloc: Global,
     explanations: &Explanations<'_>,
     report: &Report,
-    hazards: &[HazardAt<'_>],
+    warnings: &Warnings<'_>,
 ) -> Result<ReportText, AllocError>
-    ensures { IfOk result (IsExplained report.now hazards.now) }
+    ensures { IfOk result (IsExplained report.now warnings.now.hazards.now warnings.now.gaps.now) }
 {
     let faults = explained_faults(alloc, explanations.grounds, report)?;
-    let notes = notes_below(alloc, explanations.grounds, report, explanations.behind)?;
+    let notes = notes_of(alloc, explanations, report)?;
     let below = notes.as_slice();
-    let text = text_below(alloc, faults, below, report, hazards)?;
+    let text = text_below(alloc, faults, below, report, warnings)?;
     Ok(text)
 }
 
-// The faults, each with what is known of it, those behind them, and the hazards.
+// The faults, each with what is known of it, those behind them, hazards and gaps, and how much the report is about.
 fn findings_of<'a>(
     alloc: Global,
     explanations: &Explanations<'a>,
     report: &'a Report,
-    hazards: &'a [HazardAt<'a>],
+    warnings: &Warnings<'a>,
     is_strict: bool,
 ) -> Result<Findings<'a>, AllocError>
-    ensures { IfOk result (λ findings. (findings.report.now ≡ report.now) × (findings.hazards.now ≡ hazards.now)) }
+    ensures { IfOk result (λ findings. (findings.report.now ≡ report.now) × (findings.hazards.now ≡ warnings.now.hazards.now) × (findings.gaps.now ≡ warnings.now.gaps.now)) }
 {
     let stories = stories_in(alloc, explanations.grounds, report)?;
     Ok(Findings {
         report,
         stories,
         behind: explanations.behind,
-        hazards,
+        coverage: explanations.coverage,
+        hazards: warnings.hazards,
+        gaps: warnings.gaps,
         is_strict,
     })
 }
@@ -191,31 +157,31 @@ fn sarif_text(
     inputs: &Inputs<'_>,
     findings: &Findings<'_>,
 ) -> Result<ReportText, AllocError>
-    ensures { IfOk result (IsSarif findings.now.report.now findings.now.hazards.now) }
+    ensures { IfOk result (IsSarif findings.now.report.now findings.now.hazards.now findings.now.gaps.now) }
 {
     let text = report_sarif(alloc, inputs, findings)?;
     with_end(text)
 }
 
-// The text in the form that is asked for, with these hazards.
+// The text in the form that is asked for, with these warnings.
 fn text_in(
     alloc: Global,
     inputs: &Inputs<'_>,
     report: &Report,
     style: ReportStyle,
-    hazards: &[HazardAt<'_>],
+    warnings: &Warnings<'_>,
     explanations: &Explanations<'_>,
 ) -> Result<ReportText, AllocError>
-    ensures { IfOk result (IsReportIn style.output (map routine_of inputs.now.routines.now) report.now hazards.now) }
+    ensures { IfOk result (IsReportIn style.output (map routine_of inputs.now.routines.now) report.now warnings.now.hazards.now warnings.now.gaps.now) }
 {
     match style.output {
-        Output::Text => plain_text(alloc, inputs.routines, report, hazards),
+        Output::Text => plain_text(alloc, inputs.routines, report, warnings),
         Output::Json => {
-            let findings = findings_of(alloc, explanations, report, hazards, style.is_strict)?;
+            let findings = findings_of(alloc, explanations, report, warnings, style.is_strict)?;
             json_text(alloc, inputs, &findings)
         }
         Output::Sarif => {
-            let findings = findings_of(alloc, explanations, report, hazards, style.is_strict)?;
+            let findings = findings_of(alloc, explanations, report, warnings, style.is_strict)?;
             sarif_text(alloc, inputs, &findings)
         }
     }
@@ -227,21 +193,21 @@ fn styled_text(
     inputs: &Inputs<'_>,
     report: &Report,
     style: ReportStyle,
-    hazards: &[HazardAt<'_>],
+    warnings: &Warnings<'_>,
     explanations: &Explanations<'_>,
 ) -> Result<ReportText, AllocError>
-    ensures { IfOk result (IsReportAs style.is_explained style.output (map routine_of inputs.now.routines.now) report.now hazards.now) }
+    ensures { IfOk result (IsReportAs style.is_explained style.output (map routine_of inputs.now.routines.now) report.now warnings.now.hazards.now warnings.now.gaps.now) }
 {
     if style.is_explained {
-        return explained_text(alloc, explanations, report, hazards);
+        return explained_text(alloc, explanations, report, warnings);
     }
-    text_in(alloc, inputs, report, style, hazards, explanations)
+    text_in(alloc, inputs, report, style, warnings, explanations)
 }
 
-fn passes(report: &Report, hazards: &[HazardAt<'_>]) -> bool
-    ensures { result ≡ passes report.now hazards.now }
+fn passes(report: &Report, warnings: &Warnings<'_>) -> bool
+    ensures { result ≡ passes report.now warnings.now.hazards.now warnings.now.gaps.now }
 {
-    report.rows().is_empty() && hazards.is_empty()
+    report.rows().is_empty() && warnings.hazards.is_empty() && warnings.gaps.is_empty()
 }
 
 /// Writes `report` in the `style` that is asked for, and says whether it passes. `explanations` explain it, if that is asked for.
@@ -255,8 +221,14 @@ pub fn render_report(
     ensures { IfOk result (λ printed. IsRendered style (map routine_of inputs.now.routines.now) report.now printed.text printed.passes) }
 {
     let hazards = reported_hazards(alloc, inputs.routines, style.is_strict)?;
+    let gaps = reported_gaps(alloc, explanations.coverage, style.is_strict)?;
     let reported = hazards.as_slice();
-    let text = styled_text(alloc, inputs, report, style, reported, explanations)?;
-    let passes = passes(report, reported);
+    let found = gaps.as_slice();
+    let warnings = Warnings {
+        hazards: reported,
+        gaps: found,
+    };
+    let text = styled_text(alloc, inputs, report, style, &warnings, explanations)?;
+    let passes = passes(report, &warnings);
     Ok(PrintedReport { text, passes })
 }

@@ -24,7 +24,7 @@ fn add_mention<'a>(
         ),
         Mention::Lock(argument) => add_names(hazards, mention, argument),
         Mention::Begin
-        | Mention::Global(_, _, _)
+        | Mention::Touch(_)
         | Mention::Call(_, _)
         | Mention::Job(_)
         | Mention::Unlock => Ok(()),

@@ -3,7 +3,9 @@
 ghost use Rattle.std.specs.Prelude.{◌≡◌, IfOk, length, string_bytes};
 ghost use Rattle.mlk_output.specs.Documents.{IsJsonReport};
 
+use crate::coverage::coverage_value;
 use crate::document::{Members, json_document};
+use crate::gap::gap_value;
 use crate::notice::{Notice, Place};
 use crate::row::{Inputs, RoutineNumbers};
 use crate::story::{Findings, add_story, texts_value};
@@ -78,12 +80,15 @@ fn hazard_value(
 fn hazards_value(
     alloc: Global,
     inputs: &Inputs<'_>,
-    hazards: &[HazardAt<'_>],
+    findings: &Findings<'_>,
 ) -> Result<Value, AllocError> {
     let numbers = RoutineNumbers::of(alloc, inputs.routines)?;
-    let mut values = Vec::with_capacity(alloc, hazards.len())?;
-    for hazard in hazards {
+    let mut values = Vec::with_capacity(alloc, findings.hazards.len())?;
+    for hazard in findings.hazards {
         values.push(hazard_value(alloc, inputs, &numbers, hazard)?)?;
+    }
+    for gap in findings.gaps {
+        values.push(gap_value(alloc, inputs, &numbers, gap)?)?;
     }
     Ok(Value::Array(values))
 }
@@ -113,8 +118,12 @@ fn other_members(
         let behind = behind_value(alloc, inputs, findings.behind)?;
         put(&mut members, alloc, "behind", behind)?;
     }
+    if let Some(coverage) = findings.coverage {
+        let coverage = coverage_value(alloc, coverage, inputs.rule_text)?;
+        put(&mut members, alloc, "coverage", coverage)?;
+    }
     if findings.is_strict {
-        let hazards = hazards_value(alloc, inputs, findings.hazards)?;
+        let hazards = hazards_value(alloc, inputs, findings)?;
         put(&mut members, alloc, "hazards", hazards)?;
     }
     if !inputs.free_reads.is_empty() {
@@ -125,8 +134,8 @@ fn other_members(
 }
 
 /// Writes `findings` as one JSON object, on lines with indents: `answer`, which is `yes` or `no`, `faults`, in their order, each
-/// with what is known of it, `behind`, if there are faults behind these, `hazards`, if these are reported, and `free_reads`, if rules
-/// free reads.
+/// with what is known of it, `behind`, if there are faults behind these, `coverage`, `hazards`, if these are reported, with the gaps, and
+/// `free_reads`, if rules free reads.
 pub fn report_json(
     alloc: Global,
     inputs: &Inputs<'_>,

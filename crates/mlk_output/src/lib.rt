@@ -1,8 +1,10 @@
 //! Reports and refusals for other programs: as one JSON object, and as SARIF 2.1.0, which build servers read.
 #![tactic(auto)]
 
+mod coverage;
 mod document;
 mod finding;
+mod gap;
 mod hash;
 mod hazard;
 mod json;

@@ -7,11 +7,14 @@ use mlk_syntax::Routine;
 use std::alloc::{AllocError, Global};
 use std::collections::BTreeMap;
 
-/// What a report is about: the routines of a program, and the path and the text of the file of each, in their order.
+/// What a report is about: the routines of a program, the path and the text of the file of each, in their order, and the rule file.
 #[derive(Clone, Copy, Drop)]
 pub struct Inputs<'a> {
     pub routines: &'a [Routine],
     pub paths: &'a [&'a str],
+    /// the path of the rule file
+    pub rules_path: &'a str,
+    pub rule_text: &'a [u8],
     /// SARIF counts columns in characters of them; other forms need none
     pub texts: &'a [Vec<u8>],
     /// the patterns of the covers that free reads, as the rule file has them

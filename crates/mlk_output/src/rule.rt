@@ -1,7 +1,8 @@
 // The rules of a run: what each code and each hazard means, and what helps.
 
-use crate::hazard::{HAZARD_MEANINGS, HazardMeaning};
+use crate::hazard::HAZARD_MEANINGS;
 use mlk_code_pages::{CODES, Page, page_of};
+use mlk_coverage::GAP_KINDS;
 use mlk_report_text::Piece::{Number, Words};
 use mlk_report_text::{Field, member, object, text_of};
 use mlk_text::Code;
@@ -51,16 +52,20 @@ pub(crate) fn rules_values(alloc: Global) -> Result<Vec<Value>, AllocError> {
     Ok(values)
 }
 
-// The rule of a hazard, by its word.
-fn hazard_rule_value(alloc: Global, meaning: &HazardMeaning) -> Result<Value, AllocError> {
-    let hazard = meaning.hazard;
-    let short = member(alloc, "text", Field::Text(meaning.is))?;
-    let full = member(alloc, "text", Field::Text(meaning.is))?;
-    let help = member(alloc, "text", Field::Text(hazard.advice()))?;
+// The rule of a hazard or a gap, by its word.
+fn warning_rule_value(
+    alloc: Global,
+    word: &str,
+    meaning: &str,
+    advice: &str,
+) -> Result<Value, AllocError> {
+    let short = member(alloc, "text", Field::Text(meaning))?;
+    let full = member(alloc, "text", Field::Text(meaning))?;
+    let help = member(alloc, "text", Field::Text(advice))?;
     let level = member(alloc, "level", Field::Text("warning"))?;
     let members = vec![in alloc;
-        ("id", Field::Text(hazard.word())),
-        ("name", Field::Text(hazard.word())),
+        ("id", Field::Text(word)),
+        ("name", Field::Text(word)),
         ("shortDescription", Field::Value(short)),
         ("fullDescription", Field::Value(full)),
         ("help", Field::Value(help)),
@@ -69,11 +74,15 @@ fn hazard_rule_value(alloc: Global, meaning: &HazardMeaning) -> Result<Value, Al
     object(alloc, members)
 }
 
-/// The same rules, and those of hazards.
+/// The same rules, and those of hazards and gaps.
 pub(crate) fn all_rules_values(alloc: Global) -> Result<Vec<Value>, AllocError> {
     let mut values = rules_values(alloc)?;
     for meaning in HAZARD_MEANINGS.iter() {
-        values.push(hazard_rule_value(alloc, meaning)?)?;
+        let hazard = meaning.hazard;
+        values.push(warning_rule_value(alloc, hazard.word(), meaning.is, hazard.advice())?)?;
+    }
+    for kind in GAP_KINDS.iter() {
+        values.push(warning_rule_value(alloc, kind.word(), kind.meaning(), kind.advice())?)?;
     }
     Ok(values)
 }

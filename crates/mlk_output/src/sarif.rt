@@ -3,8 +3,10 @@
 ghost use Rattle.std.specs.Prelude.{◌≡◌, ◌+◌, IfOk, OnOk, length, string_bytes};
 ghost use Rattle.mlk_output.specs.Documents.{IsSarifReport};
 
+use crate::coverage::coverage_value;
 use crate::document::{Members, put_text, sarif_document};
 use crate::finding::{Finding, WayStep, fingerprints_value, result_value};
+use crate::gap::file_of;
 use crate::hash::{HashedLine, HashedLines, ProgramLines};
 use crate::hazard::hazard_is_what;
 use crate::json::behind_value;
@@ -14,7 +16,8 @@ use crate::row::{Inputs, RoutineNumbers};
 use crate::rule::{all_rules_values, rule_id, rules_values};
 use crate::story::{Findings, story_line};
 use mlk_code_pages::page_of;
-use mlk_explain::{FaultsBehind, Story, WayPoint};
+use mlk_coverage::Gap;
+use mlk_explain::{Story, WayPoint};
 use mlk_hazards::HazardAt;
 use mlk_report_text::Piece::{Bytes, Number, Words};
 use mlk_report_text::{Field, escape_bytes, member, object, text_of};
@@ -179,6 +182,58 @@ fn add_hazards<'a>(
     Ok(())
 }
 
+// The result of a gap.
+fn gap_result<'a>(
+    alloc: Global,
+    inputs: &Inputs<'a>,
+    numbers: &RoutineNumbers,
+    gap: &Gap<'_>,
+    lines: &mut ProgramLines<'a>,
+    counts: &mut BTreeMap<Vec<u8>, usize>,
+) -> Result<Value, AllocError> {
+    let word = gap.kind.word().as_bytes();
+    let rule = Vec::from_slice(alloc, word)?;
+    let file = file_of(alloc, inputs, numbers, &gap.place)?;
+    lines.look_up(file.number)?;
+    let meaning = Words(gap.kind.meaning());
+    let message = text_of(alloc, &[Bytes(word), Words(": "), meaning])?;
+    let finding = Finding {
+        rule,
+        level: "warning",
+        message,
+        place: Place {
+            path: file.path,
+            line: file.line,
+            column: None,
+        },
+        line: lines.line(file.line),
+        within: file.within,
+        kind: "module",
+        fingerprint: "hazardInRoutine/v1",
+        way: Vec::new(alloc),
+    };
+    result_value(alloc, counts, &finding)
+}
+
+// Adds a result for each gap.
+fn add_gaps<'a>(
+    alloc: Global,
+    inputs: &Inputs<'a>,
+    gaps: &[Gap<'_>],
+    lines: &mut ProgramLines<'a>,
+    values: &mut Vec<Value>,
+) -> Result<(), AllocError>
+    ensures { OnOk result (length values.new.items ≡ length values.old.items + length gaps.now) }
+{
+    let numbers = RoutineNumbers::of(alloc, inputs.routines)?;
+    let mut counts = BTreeMap::new(alloc);
+    for gap in gaps {
+        let value = gap_result(alloc, inputs, &numbers, gap, lines, &mut counts)?;
+        values.push(value)?;
+    }
+    Ok(())
+}
+
 // The program, with its rules.
 fn tool_value(alloc: Global, rules: Vec<Value>) -> Result<Value, AllocError> {
     let rules = Value::Array(rules);
@@ -221,33 +276,42 @@ fn invocation_value(alloc: Global, results: usize) -> Result<Value, AllocError> 
     object(alloc, members)
 }
 
-// Adds the faults behind those of a report to the properties of its run: they are no results.
-fn add_behind(
+// Adds the properties of a run: the faults behind those of the report, which are no results, and how much the report is about.
+fn add_properties(
     alloc: Global,
     inputs: &Inputs<'_>,
-    behind: &FaultsBehind,
+    findings: &Findings<'_>,
     run: &mut Members,
 ) -> Result<(), AllocError> {
-    if behind.rows().is_empty() {
+    let mut properties = Vec::new(alloc);
+    if !findings.behind.rows().is_empty() {
+        let faults = behind_value(alloc, inputs, findings.behind)?;
+        properties.push(("behind", Field::Value(faults)))?;
+    }
+    if let Some(coverage) = findings.coverage {
+        let coverage = coverage_value(alloc, coverage, inputs.rule_text)?;
+        properties.push(("coverage", Field::Value(coverage)))?;
+    }
+    if properties.is_empty() {
         return Ok(());
     }
-    let faults = behind_value(alloc, inputs, behind)?;
-    let properties = member(alloc, "behind", Field::Value(faults))?;
+    let properties = object(alloc, properties)?;
     put(run, alloc, "properties", properties)
 }
 
-/// Writes `findings` as SARIF: a result for each fault, in their order, and one for each hazard, if these are reported. The faults
-/// behind these are no results, but a property of the run.
+/// Writes `findings` as SARIF: a result for each fault, in their order, and one for each hazard and each gap, if these are
+/// reported. The faults behind these are no results, but a property of the run, as is how much the report is about.
 pub fn report_sarif(
     alloc: Global,
     inputs: &Inputs<'_>,
     findings: &Findings<'_>,
 ) -> Result<String, AllocError>
-    ensures { IfOk result (λ text. IsSarifReport (length findings.now.report.now + length findings.now.hazards.now) (string_bytes text)) }
+    ensures { IfOk result (λ text. IsSarifReport ((length findings.now.report.now + length findings.now.hazards.now) + length findings.now.gaps.now) (string_bytes text)) }
 {
     let mut lines = ProgramLines::new(alloc, inputs.texts);
     let mut results = fault_values(alloc, inputs, findings, &mut lines)?;
     add_hazards(alloc, inputs, findings.hazards, &mut lines, &mut results)?;
+    add_gaps(alloc, inputs, findings.gaps, &mut lines, &mut results)?;
     let rules = if findings.is_strict {
         all_rules_values(alloc)?
     } else {
@@ -255,7 +319,7 @@ pub fn report_sarif(
     };
     let invocation = invocation_value(alloc, results.len())?;
     let mut run = run_members(alloc, rules, invocation)?;
-    add_behind(alloc, inputs, findings.behind, &mut run)?;
+    add_properties(alloc, inputs, findings, &mut run)?;
     sarif_document(alloc, results, run)
 }
 

@@ -1,6 +1,7 @@
 // What is known of a fault, beside its code and its place.
 
 use crate::row::Inputs;
+use mlk_coverage::{Coverage, Gap};
 use mlk_explain::{FaultsBehind, OriginStory, Story, WayPoint};
 use mlk_hazards::HazardAt;
 use mlk_report_text::Piece::{Bytes, Listed, Words};
@@ -9,14 +10,19 @@ use mlk_walk::Report;
 use serde_json::Value;
 use std::alloc::{AllocError, Global};
 
-/// What is reported: the faults, what is known of each, in their order and as far as anything is, those behind them, and hazards.
+/// What is reported: the faults, what is known of each, in their order and as far as anything is, those behind them, hazards and
+/// gaps, and how much the report is about.
 #[derive(Drop)]
 pub struct Findings<'a> {
     pub report: &'a Report,
     pub stories: Vec<Option<Story>>,
     pub behind: &'a FaultsBehind,
+    /// how much the report is about, if that is reported
+    pub coverage: Option<&'a Coverage<'a>>,
     /// empty unless hazards are reported
     pub hazards: &'a [HazardAt<'a>],
+    /// empty unless hazards are reported
+    pub gaps: &'a [Gap<'a>],
     /// whether hazards are reported, even if there is none
     pub is_strict: bool,
 }

@@ -84,8 +84,8 @@ pub(crate) fn globals_in<'a>(
 ) -> Result<Vec<GlobalUse<'a>>, AllocError> {
     let mut globals = Globals::new(alloc);
     for at in mentions {
-        if let Mention::Global(_, name, usage) = at.mention {
-            globals.add(name.as_bytes(), usage)?;
+        if let Mention::Touch(touch) = at.mention {
+            globals.add(touch.global.as_bytes(), touch.usage)?;
         }
     }
     globals.in_order(alloc)

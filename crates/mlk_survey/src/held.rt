@@ -75,7 +75,7 @@ impl<'a> Held<'a> {
                 Ok(())
             }
             Mention::Lock(argument) => self.lock(argument),
-            Mention::Global(_, _, _)
+            Mention::Touch(_)
             | Mention::Call(_, _)
             | Mention::Job(_)
             | Mention::SkippedCall(_) => Ok(()),

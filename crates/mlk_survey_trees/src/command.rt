@@ -2,7 +2,8 @@
 
 use crate::expr::{Runs, in_expr, in_exprs, in_subscripts};
 use crate::lock_name::subscripts_of;
-use crate::mention::{Mention, Usage};
+use crate::mention::{Mention, Touch, Usage};
+use mlk_names::Extent;
 use mlk_syntax::{
     Action, Actual, Call, Command, Commands, Control, DoArgument, Expr, KillArgument, LockArgument,
     MergeArgument, Parameter, ReadArgument, SetArgument, Several, Target, Variable, WriteArgument,
@@ -65,11 +66,19 @@ impl<T: HasMentions> HasMentions for Several<T> {
 fn add_use<'a>(
     found: &mut Vec<Mention<'a>>,
     variable: &'a Variable,
+    extent: Extent,
     usage: Usage,
 ) -> Result<(), AllocError> {
     match &variable.name {
-        Expr::Global(column, name, _) => {
-            push_sparing(found, Mention::Global(*column, name, usage))
+        Expr::Global(column, name, subscripts) => {
+            let touch = Touch {
+                column: *column,
+                global: name,
+                subscripts: subscripts.as_slice(),
+                extent,
+                usage,
+            };
+            push_sparing(found, Mention::Touch(touch))
         }
         _ => Ok(()),
     }
@@ -79,10 +88,29 @@ fn add_use<'a>(
 fn find_use<'a>(
     found: &mut Vec<Mention<'a>>,
     variable: &'a Variable,
+    extent: Extent,
     usage: Usage,
 ) -> Result<(), AllocError> {
     in_subscripts(found, subscripts_of(variable), Runs::Surely)?;
-    add_use(found, variable, usage)
+    add_use(found, variable, extent, usage)
+}
+
+// Adds a use of the node of a variable, and the mentions in its subscripts.
+fn find_node<'a>(
+    found: &mut Vec<Mention<'a>>,
+    variable: &'a Variable,
+    usage: Usage,
+) -> Result<(), AllocError> {
+    find_use(found, variable, Extent::Node, usage)
+}
+
+// Adds a use of the tree of a variable, and the mentions in its subscripts.
+fn find_tree<'a>(
+    found: &mut Vec<Mention<'a>>,
+    variable: &'a Variable,
+    usage: Usage,
+) -> Result<(), AllocError> {
+    find_use(found, variable, Extent::Tree, usage)
 }
 
 impl HasMentions for Actual {
@@ -111,7 +139,7 @@ impl HasMentions for DoArgument {
 impl HasMentions for KillArgument {
     fn find<'a>(&'a self, found: &mut Vec<Mention<'a>>) -> Result<(), AllocError> {
         match self {
-            KillArgument::One(variable) => find_use(found, variable, Usage::Kill),
+            KillArgument::One(variable) => find_tree(found, variable, Usage::Kill),
             KillArgument::AllBut(_) => Ok(()),
         }
     }
@@ -129,8 +157,8 @@ impl HasMentions for LockArgument {
 
 impl HasMentions for MergeArgument {
     fn find<'a>(&'a self, found: &mut Vec<Mention<'a>>) -> Result<(), AllocError> {
-        find_use(found, &self.target, Usage::Write)?;
-        find_use(found, &self.source, Usage::Read)
+        find_tree(found, &self.target, Usage::Write)?;
+        find_tree(found, &self.source, Usage::Read)
     }
 }
 
@@ -140,12 +168,12 @@ impl HasMentions for ReadArgument {
             ReadArgument::Text(_) => Ok(()),
             ReadArgument::Format(tab) => tab.find(found),
             ReadArgument::Line(variable, most, timeout) => {
-                find_use(found, variable, Usage::Write)?;
+                find_node(found, variable, Usage::Write)?;
                 most.find(found)?;
                 timeout.find(found)
             }
             ReadArgument::Character(variable, timeout) => {
-                find_use(found, variable, Usage::Write)?;
+                find_node(found, variable, Usage::Write)?;
                 timeout.find(found)
             }
         }
@@ -156,11 +184,11 @@ impl HasMentions for ReadArgument {
 impl HasMentions for Target {
     fn find<'a>(&'a self, found: &mut Vec<Mention<'a>>) -> Result<(), AllocError> {
         match self {
-            Target::Whole(variable) => find_use(found, variable, Usage::Write),
+            Target::Whole(variable) => find_node(found, variable, Usage::Write),
             Target::Part(_, variable, arguments) => {
-                find_use(found, variable, Usage::Read)?;
+                find_node(found, variable, Usage::Read)?;
                 in_exprs(found, arguments, Runs::Surely)?;
-                add_use(found, variable, Usage::Write)
+                add_use(found, variable, Extent::Node, Usage::Write)
             }
         }
     }

@@ -1,8 +1,9 @@
 // The mentions in expressions: uses of globals, and calls.
 
-use crate::mention::{Mention, Usage};
+use crate::mention::{Mention, Touch, Usage};
+use mlk_names::Extent;
 use mlk_syntax::{Actual, Callee, Expr, Function, Subscript};
-use mlk_text::{Column, Op, Relation, push_sparing};
+use mlk_text::{Column, Name, Op, Relation, push_sparing};
 use std::alloc::AllocError;
 
 /// Whether an expression is evaluated whenever its command runs.
@@ -45,7 +46,10 @@ fn in_parts<'a>(found: &mut Vec<Mention<'a>>, e: &'a Expr, runs: Runs) -> Result
         Expr::Local(_, subscripts) => in_subscripts(found, subscripts, runs),
         Expr::Global(column, name, subscripts) => {
             in_subscripts(found, subscripts, runs)?;
-            push_sparing(found, Mention::Global(*column, name, Usage::Read))
+            push_sparing(
+                found,
+                Mention::Touch(Touch::read(*column, name, subscripts)),
+            )
         }
         Expr::Unary(_, operand) => in_expr(found, operand, runs),
         Expr::Binary(first, rest) => {
@@ -53,7 +57,7 @@ fn in_parts<'a>(found: &mut Vec<Mention<'a>>, e: &'a Expr, runs: Runs) -> Result
             in_chain(found, rest, runs)
         }
         Expr::Func(Function::Name, arguments) => in_spelled(found, arguments, runs),
-        Expr::Func(_, arguments) => in_exprs(found, arguments, runs),
+        Expr::Func(function, arguments) => in_function(found, *function, arguments, runs),
         Expr::Select(choices) => in_select(found, choices, runs),
         Expr::Call(column, callee, actuals) => {
             add_call(found, *column, callee, runs)?;
@@ -90,6 +94,58 @@ pub(crate) fn in_exprs<'a>(
         in_expr(found, e, runs)?;
     }
     Ok(())
+}
+
+// The subscripts of the node on top of the tree that a function touches, if its first argument has these; `None` if it touches
+// no tree.
+fn tree_of<'a>(function: Function, subscripts: &'a [Subscript]) -> Option<&'a [Subscript]> {
+    match function {
+        Function::Data => Some(subscripts),
+        Function::Order => match subscripts.split_last() {
+            Some((_, above)) => Some(above),
+            None => Some(subscripts),
+        },
+        Function::Query => Some(&[]),
+        _ => None,
+    }
+}
+
+// The touch of a function whose first argument is this global.
+fn touch_of<'a>(
+    function: Function,
+    column: Column,
+    global: &'a Name,
+    subscripts: &'a [Subscript],
+) -> Touch<'a> {
+    match tree_of(function, subscripts) {
+        None => Touch::read(column, global, subscripts),
+        Some(above) => Touch {
+            column,
+            global,
+            subscripts: above,
+            extent: Extent::Tree,
+            usage: Usage::Read,
+        },
+    }
+}
+
+// Adds the mentions in the arguments of a function.
+#[cycle(surveying)]
+fn in_function<'a>(
+    found: &mut Vec<Mention<'a>>,
+    function: Function,
+    arguments: &'a [Expr],
+    runs: Runs,
+) -> Result<(), AllocError> {
+    match arguments {
+        [Expr::Global(column, name, subscripts), rest @ ..] => {
+            in_subscripts(found, subscripts, runs)?;
+            let touch = touch_of(function, *column, name, subscripts);
+            push_sparing(found, Mention::Touch(touch))?;
+            in_exprs(found, rest, runs)
+        }
+        _ => in_exprs(found, arguments, runs),
+    }
 }
 
 // Adds the mentions in the arguments of $NAME, the first of which names a node that is not read.

@@ -8,7 +8,7 @@ mod lock_name;
 mod mention;
 mod position;
 
-pub use line::mentions_of;
+pub use line::{mentions_in, mentions_of};
 pub use lock_name::{Likeness, LockRoot, likeness_of};
-pub use mention::{Mention, MentionAt, Usage};
+pub use mention::{Mention, MentionAt, Touch, Usage};
 pub use position::Position;

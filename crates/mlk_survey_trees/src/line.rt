@@ -67,6 +67,18 @@ fn add_routine<'a>(
     add_lines(alloc, found, name, routine.lines.as_slice())
 }
 
+/// The mentions in a line of the routine with this name, and in its block.
+pub fn mentions_in<'a>(
+    alloc: Global,
+    routine: &'a [u8],
+    line: &'a Line,
+) -> Result<Vec<MentionAt<'a>>, AllocError> {
+    let mut found = Vec::new(alloc);
+    add_line(alloc, &mut found, routine, line)?;
+    add_lines(alloc, &mut found, routine, line.block.as_slice())?;
+    Ok(found)
+}
+
 /// The mentions in `routines`, in the order of their lines.
 pub fn mentions_of<'a>(
     alloc: Global,
