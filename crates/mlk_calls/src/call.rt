@@ -243,24 +243,31 @@ fn held_after(
     Shared::new(alloc, put_all(alloc, aside.as_slice(), terms)?)
 }
 
+// How a call ends: the actuals at its end, by which the terms of exits are translated, and the terms that were set aside.
+#[derive(Clone, Copy, Drop)]
+struct Ending<'a> {
+    how: Calling,
+    formals: &'a [Name],
+    given: &'a [Option<Sym>],
+    aside: &'a Shared<LockTerm>,
+}
+
 // The state after an exit.
 fn leave(
     alloc: Global,
-    how: Calling,
-    formals: &[Name],
-    given: &[Option<Sym>],
-    aside: &Shared<LockTerm>,
+    ending: &Ending<'_>,
     state: &State,
     exit: &ExitCase,
 ) -> Result<Option<State>, AllocError>
-    ensures { IfOk result (λ s. s ≡ leave how formals.now given.now aside.now state.now exit.now) }
+    ensures { IfOk result (λ s. s ≡ leave ending.now.how ending.now.formals.now ending.now.given.now ending.now.aside.now state.now exit.now) }
 {
-    let Some(terms) = put_terms(alloc, formals, given, exit.held.as_slice())? else {
+    let terms = put_terms(alloc, ending.formals, ending.given, exit.held.as_slice())?;
+    let Some(terms) = terms else {
         return Ok(None);
     };
     let case = Case {
-        test: test_after(how, state.case.test, exit.test),
-        held: held_after(alloc, aside, terms.as_slice())?,
+        test: test_after(ending.how, state.case.test, exit.test),
+        held: held_after(alloc, ending.aside, terms.as_slice())?,
         own: state.case.own.clone()?,
         kept: state.case.kept.clone()?,
         saved: state.case.saved.clone()?,
@@ -271,20 +278,17 @@ fn leave(
 
 fn leave_all(
     alloc: Global,
-    how: Calling,
-    formals: &[Name],
-    given: &[Option<Sym>],
-    aside: &Shared<LockTerm>,
+    ending: &Ending<'_>,
     state: &State,
     exits: &[ExitCase],
 ) -> Result<Option<Vec<State>>, AllocError>
     ensures { IfOk result (λ o. option_map (λ v. v.items) o
-        ≡ all_some (leave how formals.now given.now aside.now state.now) exits.now) }
+        ≡ all_some (leave ending.now.how ending.now.formals.now ending.now.given.now ending.now.aside.now state.now) exits.now) }
 {
     let mut found = Vec::new(alloc);
     let mut left = exits;
     while let Some((exit, others)) = left.split_first() {
-        let Some(after) = leave(alloc, how, formals, given, aside, state, exit)? else {
+        let Some(after) = leave(alloc, ending, state, exit)? else {
             return Ok(None);
         };
         found.push(after)?;
@@ -338,56 +342,57 @@ fn given_at_end(
     passed(alloc, marked.as_slice())
 }
 
+// A call of a certified entry that may change `names`. Its `count` actuals were captured last.
+#[derive(Clone, Copy, Drop)]
+struct ChangingCall<'a> {
+    how: Calling,
+    target: &'a KnownCallee<'a>,
+    names: &'a [NameSet],
+    count: usize,
+}
+
 fn after_call(
     alloc: Global,
-    how: Calling,
-    target: &KnownCallee,
-    names: &[NameSet],
+    call: &ChangingCall<'_>,
     aside: &Shared<LockTerm>,
-    count: usize,
     state: &State,
 ) -> Result<Vec<State>, Failure<Code>>
-    ensures { Answers (λ v. v.items) result (after_call how (called_of target.now)
-        (last_captured count state.now) names.now aside.now (without_last count state.now)) }
+    ensures { Answers (λ v. v.items) result (after_call call.now.how (called_of call.now.target.now)
+        (last_captured call.now.count state.now) call.now.names.now aside.now (without_last call.now.count state.now)) }
 {
+    let target = call.target;
     let exits = target.summary.exits.as_slice();
-    let actuals = last_of(state.captured.as_slice(), count);
-    let given = given_at_end(alloc, names, actuals, exits)?;
-    let after = changed_before(alloc, names, count, state)?;
-    let Some(states) = leave_all(
-        alloc,
-        how,
-        target.formals,
-        given.as_slice(),
+    let actuals = last_of(state.captured.as_slice(), call.count);
+    let given = given_at_end(alloc, call.names, actuals, exits)?;
+    let after = changed_before(alloc, call.names, call.count, state)?;
+    let ending = Ending {
+        how: call.how,
+        formals: target.formals,
+        given: given.as_slice(),
         aside,
-        &after,
-        exits,
-    )?
-    else {
+    };
+    let Some(states) = leave_all(alloc, &ending, &after, exits)? else {
         return Err(Failure::Refused(Code::UnknownSubscript));
     };
     Ok(states)
 }
 
-// Calls a certified entry that may change `names`.
 fn call_changing(
     alloc: Global,
     scope: &Scope,
-    how: Calling,
-    target: &KnownCallee,
-    names: &[NameSet],
-    count: usize,
+    call: &ChangingCall<'_>,
     state: &State,
 ) -> Result<Vec<State>, Failure<Code>>
-    ensures { Answers (λ v. v.items) result (call_changing (scope_of scope.now) how (called_of target.now)
-        names.now (last_captured count state.now) (without_last count state.now)) }
+    ensures { Answers (λ v. v.items) result (call_changing (scope_of scope.now) call.now.how (called_of call.now.target.now)
+        call.now.names.now (last_captured call.now.count state.now) (without_last call.now.count state.now)) }
 {
-    let actuals = last_of(state.captured.as_slice(), count);
+    let target = call.target;
+    let actuals = last_of(state.captured.as_slice(), call.count);
     let aside = set_aside(alloc, target, actuals, &state.case.held)?;
-    if let Some(code) = call_fault(scope, target.summary, names, aside.as_slice(), state) {
+    if let Some(code) = call_fault(scope, target.summary, call.names, aside.as_slice(), state) {
         return Err(Failure::Refused(code));
     }
-    let states = after_call(alloc, how, target, names, &aside, count, state)?;
+    let states = after_call(alloc, call, &aside, state)?;
     Ok(states)
 }
 
@@ -405,15 +410,27 @@ fn call_target(
         (last_captured (length (actual_trees given.now)) state.now)
         (without_last (length (actual_trees given.now)) state.now)) }
 {
-    let count = given.len();
     let mods = target.summary.mods.as_slice();
     let lent = lent(alloc, given)?;
+    let count = given.len();
     if lent.is_empty() {
-        let states = call_changing(alloc, scope, how, target, mods, count, state)?;
+        let call = ChangingCall {
+            how,
+            target,
+            names: mods,
+            count,
+        };
+        let states = call_changing(alloc, scope, &call, state)?;
         return Ok(states);
     }
     let names = changes(alloc, mods, lent)?;
-    let states = call_changing(alloc, scope, how, target, names.as_slice(), count, state)?;
+    let call = ChangingCall {
+        how,
+        target,
+        names: names.as_slice(),
+        count,
+    };
+    let states = call_changing(alloc, scope, &call, state)?;
     Ok(states)
 }
 

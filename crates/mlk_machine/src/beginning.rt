@@ -14,9 +14,9 @@ use crate::number::is_used;
 use indexmap::IndexSet;
 use mlk_machine_jobs::Job;
 use mlk_machine_locks::Refusal;
-use mlk_machine_run::join;
+use mlk_machine_run::{Beginning, join};
 use mlk_program::{EntryId, Program};
-use mlk_text::{Failure, Value};
+use mlk_text::Failure;
 use std::alloc::Global;
 
 // Whether jobs may begin at `entry`.
@@ -26,44 +26,31 @@ fn is_declared(entries: &[EntryId], entry: EntryId) -> bool
     entries.iter().any(|declared| *declared == entry)
 }
 
-/// Adds a job that begins at `entry`, which must be one of `entries`.
+/// Adds a job, whose entry must be one of `entries`.
 pub(crate) fn begin<'a>(
     alloc: Global,
     program: &Program<'a>,
     entries: &[EntryId],
     numbers: &mut IndexSet<u32>,
     jobs: &mut Vec<Job<'a>>,
-    entry: EntryId,
-    number: u32,
-    test: bool,
-    values: &[Value],
+    beginning: &Beginning<'_>,
 ) -> Result<(), Failure<Refusal>>
     requires sound { AreSound jobs.old.items }
     requires numbers { AreNumbers numbers.old.keys jobs.old.items }
     ensures answer { Answers (λ _. map job_of jobs.new.items) result
-        (happens (machine_in program.now entries.now) (map job_of jobs.old.items) number
-        (systems.Begin entry test (map Some values.now))) }
+        (happens (machine_in program.now entries.now) (map job_of jobs.old.items) beginning.now.number
+        (systems.Begin beginning.now.entry beginning.now.test (map Some beginning.now.values.now))) }
     ensures stays { OnErr result (map job_of jobs.new.items ≡ map job_of jobs.old.items) }
     ensures sound { AreSound jobs.new.items }
     ensures numbers { AreNumbers numbers.new.keys jobs.new.items }
     ensures covered { StayCovered jobs.old.items jobs.new.items }
 {
-    let is_declared = is_declared(entries, entry);
-    let is_used = is_used(numbers, number);
+    let is_declared = is_declared(entries, beginning.entry);
+    let is_used = is_used(numbers, beginning.number);
     numbers.reserve(1)?;
-    match join(
-        alloc,
-        program,
-        jobs,
-        entry,
-        is_declared,
-        is_used,
-        number,
-        test,
-        values,
-    ) {
+    match join(alloc, program, jobs, beginning, is_declared, is_used) {
         Ok(()) => {
-            let _ = numbers.insert(number);
+            let _ = numbers.insert(beginning.number);
             Ok(())
         }
         Err(why) => Err(why),

@@ -21,6 +21,7 @@ use crate::stepping::{abort_numbered, go_numbered};
 use indexmap::IndexSet;
 use mlk_machine_jobs::{Choice, Job, Touch};
 use mlk_machine_locks::{LockTable, Refusal, waits_for};
+use mlk_machine_run::Beginning;
 use mlk_names::LockName;
 use mlk_program::{EntryId, Program};
 use mlk_text::{Failure, Value};
@@ -99,16 +100,19 @@ impl<'a> System<'a> {
         ensures same { IsSame self.old self.new }
         ensures stays { OnErr result (Stays self.old self.new) }
     {
+        let beginning = Beginning {
+            entry,
+            number,
+            test,
+            values,
+        };
         begin(
             self.alloc,
             self.program,
             self.entries,
             &mut self.numbers,
             &mut self.jobs,
-            entry,
-            number,
-            test,
-            values,
+            &beginning,
         )
     }
 

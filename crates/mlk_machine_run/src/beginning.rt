@@ -81,19 +81,31 @@ fn begin_first<'a>(
     Ok(())
 }
 
-/// A job that begins at `entry`, as by a call, with `$TEST` and with values for its first formals, at most as many as there
-/// are formals.
+/// How a job begins: at an entry, as by a call, with a number, with `$TEST`, and with values for its first formals, at most as many as
+/// there are formals.
+#[derive(Clone, Copy, Drop)]
+pub struct Beginning<'a> {
+    pub entry: EntryId,
+    pub number: u32,
+    pub test: bool,
+    pub values: &'a [Value],
+}
+
+/// A job that begins so.
 pub fn begin<'a>(
     alloc: Global,
     program: &Program<'a>,
-    entry: EntryId,
-    number: u32,
-    test: bool,
-    values: &[Value],
+    beginning: &Beginning<'_>,
 ) -> Result<Job<'a>, Failure<Refusal>>
-    ensures job { Answers job_of result (begun (map routine_of program.now) entry number test (map Some values.now)) }
+    ensures job { Answers job_of result (begun (map routine_of program.now) beginning.now.entry beginning.now.number beginning.now.test (map Some beginning.now.values.now)) }
     ensures sound { IfOk result (λ j. Sound j) }
 {
+    let Beginning {
+        entry,
+        number,
+        test,
+        values,
+    } = *beginning;
     let lines = lines_after(program, entry);
     if formals_at(lines) < values.len() {
         return Err(Failure::Refused(Refusal::BadChoice));

@@ -10,7 +10,7 @@ mod silent;
 mod stepping;
 mod system;
 
-pub use beginning::begin;
+pub use beginning::{Beginning, begin};
 pub use silent::silent_step;
 pub use stepping::{claimed_names, step};
 pub use system::{abort, go, join};

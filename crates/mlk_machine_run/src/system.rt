@@ -13,12 +13,12 @@ ghost use Rattle.mlk_machine_jobs.specs.JobViews.{job_of};
 ghost use Rattle.mlk_machine_locks.specs.Tables.{Covers};
 ghost use Rattle.mlk_machine_run.specs.Jobs.{AreSound, IsPlaceOf, StayCovered, seen_in};
 
-use crate::beginning::begin;
+use crate::beginning::{Beginning, begin};
 use crate::stepping::{claimed_names, step};
 use mlk_machine_jobs::{Choice, Job};
 use mlk_machine_locks::{LockTable, Refusal};
-use mlk_program::{EntryId, Program};
-use mlk_text::{Failure, Value};
+use mlk_program::Program;
+use mlk_text::Failure;
 use std::alloc::Global;
 
 /// Makes one step of the job `number`, which is at `place`, if there is one, with the choice `choice`. The table finds the jobs
@@ -86,24 +86,21 @@ fn may_begin(is_declared: bool, number: u32) -> bool
     is_declared && is_job_number(number)
 }
 
-/// Adds a job that begins at `entry`; `is_declared` says whether jobs may begin there, `is_used` whether a job has its number.
+/// Adds a job; `is_declared` says whether jobs may begin at its entry, `is_used` whether a job has its number.
 pub fn join<'a>(
     alloc: Global,
     program: &Program<'a>,
     jobs: &mut Vec<Job<'a>>,
-    entry: EntryId,
+    beginning: &Beginning<'_>,
     is_declared: bool,
     is_used: bool,
-    number: u32,
-    test: bool,
-    values: &[Value],
 ) -> Result<(), Failure<Refusal>>
     requires sound { AreSound jobs.old.items }
-    requires used { is_used ≡ is_numbered seen (map job_of jobs.old.items) number }
-    ensures answer { (declared : EntryOf → Bool) → declared entry ≡ is_declared
+    requires used { is_used ≡ is_numbered seen (map job_of jobs.old.items) beginning.now.number }
+    ensures answer { (declared : EntryOf → Bool) → declared beginning.now.entry ≡ is_declared
         → Answers (λ _. map job_of jobs.new.items) result
-        (happens (machine (map routine_of program.now) declared) (map job_of jobs.old.items) number
-        (systems.Begin entry test (map Some values.now))) }
+        (happens (machine (map routine_of program.now) declared) (map job_of jobs.old.items) beginning.now.number
+        (systems.Begin beginning.now.entry beginning.now.test (map Some beginning.now.values.now))) }
     ensures stays { OnErr result (map job_of jobs.new.items ≡ map job_of jobs.old.items) }
     ensures sound { AreSound jobs.new.items }
     ensures covered { StayCovered jobs.old.items jobs.new.items }
@@ -111,10 +108,10 @@ pub fn join<'a>(
     if is_used {
         return Err(Failure::Refused(Refusal::NotEnabled));
     }
-    if !may_begin(is_declared, number) {
+    if !may_begin(is_declared, beginning.number) {
         return Err(Failure::Refused(Refusal::NotEnabled));
     }
-    match begin(alloc, program, entry, number, test, values) {
+    match begin(alloc, program, beginning) {
         Ok(job) => {
             let Ok(()) = jobs.push(job) else {
                 return Err(Failure::OutOfMemory);

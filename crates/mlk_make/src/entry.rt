@@ -14,7 +14,7 @@ use mlk_walk_exprs::Fault;
 use mlk_walk_lines::Around;
 use std::alloc::{AllocError, Global};
 
-/// How often an entry is walked at most in a round. Each time its needs or its summary have grown.
+/// How often an entry is walked at most in a round. Each time, its needs or its summary have grown.
 const MOST_WALKS: usize = 1_000_000;
 
 fn own_formals(alloc: Global, names: &[Name]) -> Result<Vec<Own>, AllocError> {
@@ -43,7 +43,7 @@ fn begin_case(ground: &Ground<'_>, draft: &Draft) -> Result<Case, AllocError> {
     })
 }
 
-// The case in which an entry begins is listed at its line.
+// Lists the case in which an entry begins at its line.
 fn begin(ground: &Ground<'_>, maker: &mut Maker, draft: &mut Draft) -> Result<(), Failure<Stop>> {
     let line = number_of(ground.program, draft.entry);
     let case = begin_case(ground, draft)?;
@@ -57,7 +57,7 @@ fn begin(ground: &Ground<'_>, maker: &mut Maker, draft: &mut Draft) -> Result<()
     Ok(())
 }
 
-// Walks an entry's lines: whether they are to be walked again, since the entry calls itself by another summary.
+// Walks an entry's lines, and returns whether they have to be walked again, since the entry calls itself and its summary has changed.
 fn sweep(ground: &Ground<'_>, maker: &mut Maker, draft: &mut Draft) -> Result<bool, Failure<Stop>> {
     begin(ground, maker, draft)?;
     let before = draft.changed;
@@ -73,7 +73,7 @@ fn sweep(ground: &Ground<'_>, maker: &mut Maker, draft: &mut Draft) -> Result<bo
     Ok(draft.changed != before && draft.callees.contains(&draft.entry))
 }
 
-// Walks an entry until its lists grow no more.
+// Walks an entry until its lists no longer grow.
 fn walk(ground: &Ground<'_>, maker: &mut Maker, draft: &mut Draft) -> Result<(), Failure<GaveUp>> {
     for _ in 0..MOST_WALKS {
         match sweep(ground, maker, draft) {
@@ -87,7 +87,7 @@ fn walk(ground: &Ground<'_>, maker: &mut Maker, draft: &mut Draft) -> Result<(),
     Ok(())
 }
 
-// Whether something that the walk of a draft asked has changed since.
+// Whether a summary that the last walk of `draft` asked for has changed since.
 fn is_stale(maker: &Maker, draft: &Draft) -> bool {
     let Some(walked) = draft.walked else {
         return true;
@@ -122,7 +122,7 @@ fn changes_after(
     }
 }
 
-/// Walks an entry of which something is known, unless nothing has changed that its walk asks.
+/// Walks an entry that has a draft, unless nothing has changed that its walk asks for.
 pub(crate) fn walk_entry(
     ground: &Ground<'_>,
     maker: &mut Maker,

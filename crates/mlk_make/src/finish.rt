@@ -1,4 +1,4 @@
-// The certificate of what is known.
+// The certificate of the drafts.
 
 ghost use Rattle.std.specs.Prelude.{IfOk, IfErr};
 ghost use Rattle.mlk_text.specs.Failures.{IfRefused};
@@ -23,7 +23,7 @@ fn blocks(alloc: Global, maker: Maker) -> Result<Vec<EntryCert>, AllocError> {
     Ok(all)
 }
 
-// What is told where blocks are no certificate. No such blocks are known.
+// The error for blocks that are no certificate. No such blocks are known.
 fn no_certificate() -> MakeError
     ensures { IsUnspelled result }
 {
@@ -37,7 +37,7 @@ fn no_certificate() -> MakeError
     })
 }
 
-// What is told where blocks are refused by their text.
+// The error for blocks whose text is refused.
 fn refused(fault: CertFault) -> MakeError
     ensures { IsUnspelled result }
 {
@@ -47,7 +47,7 @@ fn refused(fault: CertFault) -> MakeError
     no_certificate()
 }
 
-// The certificate of blocks, and its text in the first format, of which it is read.
+// The certificate of `made`, and its text in the first format, from which it is read back.
 #[tactic(auto, using(crate::proofs::FirstText::first_text))]
 fn spelled(alloc: Global, made: Vec<EntryCert>) -> Result<Spelled, Failure<MakeError>>
     ensures spells { IfOk result (λ s. SpellsIn First s.certificate s.text.items) }
@@ -60,7 +60,7 @@ fn spelled(alloc: Global, made: Vec<EntryCert>) -> Result<Spelled, Failure<MakeE
     }
 }
 
-// The certificate of blocks, and its text in a format, which is then written of it.
+// The certificate of `made`, and its text in `format`, which is written from it.
 fn written(
     alloc: Global,
     made: Vec<EntryCert>,
@@ -80,7 +80,7 @@ fn written(
     }
 }
 
-/// The certificate of all entries about which something is known. It has no text, so no limit on texts applies.
+/// The certificate of all drafts. It has no text, so no limit on texts applies.
 pub(crate) fn certificate_in(alloc: Global, maker: Maker) -> Result<Certificate, Failure<MakeError>>
     ensures refused { IfErr result (λ e. IfRefused e IsUnspelled) }
 {
@@ -92,7 +92,7 @@ pub(crate) fn certificate_in(alloc: Global, maker: Maker) -> Result<Certificate,
     }
 }
 
-/// The certificate of all entries about which something is known, and its text in a format.
+/// The certificate of all drafts, and its text in `format`.
 pub(crate) fn finish(
     alloc: Global,
     maker: Maker,

@@ -1,5 +1,4 @@
-//! The maker of certificates. Nothing rests on what it makes but the time of its users: whoever has a certificate asks
-//! the check.
+//! The maker of certificates. No `yes` rests on it: the check decides, whoever made the certificate.
 #![tactic(auto)]
 
 mod entry;

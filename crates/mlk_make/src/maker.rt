@@ -1,4 +1,4 @@
-// All entries of which something is known.
+// The state of the maker.
 
 use crate::stop::{GaveUp, Stop, WhenStuck};
 use mlk_calls::Entries;
@@ -10,7 +10,7 @@ use mlk_walk_exprs::Fault;
 use std::alloc::{AllocError, Global};
 use std::collections::BTreeMap;
 
-/// What the maker looks into.
+/// What the maker works on, which doesn't change.
 #[derive(Clone, Copy, Drop)]
 pub(crate) struct Ground<'a> {
     pub(crate) alloc: Global,
@@ -20,7 +20,7 @@ pub(crate) struct Ground<'a> {
     pub(crate) declared: &'a Entries<'a>,
 }
 
-/// What is known of all entries but the one that is walked, the changes so far, and the entries that were given up.
+/// The drafts of all entries except the one that is walked, the changes so far, and the entries that were given up.
 #[derive(Drop)]
 pub(crate) struct Maker {
     pub(crate) drafts: BTreeMap<EntryId, Draft>,
@@ -34,7 +34,7 @@ pub(crate) struct Maker {
 }
 
 impl Maker {
-    /// Nothing is known.
+    /// A maker without drafts.
     pub(crate) fn new(alloc: Global, when_stuck: WhenStuck) -> Maker {
         Maker {
             drafts: BTreeMap::new(alloc),
@@ -45,7 +45,7 @@ impl Maker {
         }
     }
 
-    /// Something changes, which mends this fault.
+    /// Counts a change that mends `fault`. Gives up in the last round.
     pub(crate) fn change(&mut self, fault: Fault) -> Result<(), Failure<Stop>> {
         self.changes = self.changes.saturating_add(1);
         if self.last {
@@ -54,7 +54,7 @@ impl Maker {
         Ok(())
     }
 
-    /// An entry of which nothing is known yet, where it is not there; whether it was added.
+    /// Adds an empty draft of `entry`, unless it has one, and returns whether it was added.
     pub(crate) fn add(
         &mut self,
         ground: &Ground<'_>,
@@ -80,7 +80,7 @@ impl Maker {
     }
 }
 
-/// The number of an entry's line.
+/// The number of the line of `entry`, 1 if the program does not have it.
 pub(crate) fn number_of(program: &Program<'_>, entry: EntryId) -> LineNumber {
     match program.line(entry) {
         None => LineNumber::new(1),
@@ -88,7 +88,7 @@ pub(crate) fn number_of(program: &Program<'_>, entry: EntryId) -> LineNumber {
     }
 }
 
-/// Whether the summary of an entry has changed after so many changes.
+/// Whether the summary of `entry` has changed since there were `walked` changes.
 pub(crate) fn has_changed(maker: &Maker, entry: EntryId, walked: usize) -> bool {
     match maker.drafts.get(&entry) {
         Some(callee) => callee.changed > walked,

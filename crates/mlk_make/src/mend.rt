@@ -1,10 +1,10 @@
-// What mends the faults of a line.
+// Mending of the faults of a line: what a certificate has to list so that they are gone.
 
 use crate::maker::{Ground, Maker};
 use crate::need::is_needed;
 use crate::stop::Stop;
 use crate::walk::{CalledEntry, Site};
-use mlk_cert::{Case, ExitCase, NameSet};
+use mlk_cert::{ExitCase, NameSet};
 use mlk_make_drafts::{At, Draft, Listing, add_exit, add_mods, drop_all, lower, widen};
 use mlk_names::LockTerm;
 use mlk_program::EntryId;
@@ -13,7 +13,7 @@ use mlk_text::{Code, Column, Failure, LineNumber};
 use mlk_walk_exprs::{Fault, Mend, Note};
 use mlk_walk_lines::LineFault;
 
-/// What is done of what would mend a fault: whether something changes.
+/// Notes how what mends `fault` was listed, and returns whether something changed.
 pub(crate) fn done(
     maker: &mut Maker,
     fault: Fault,
@@ -29,7 +29,7 @@ pub(crate) fn done(
     }
 }
 
-// The same of an entry's summary.
+// The same for an entry's summary.
 fn done_in_summary(
     maker: &mut Maker,
     draft: &mut Draft,
@@ -43,7 +43,7 @@ fn done_in_summary(
     Ok(changes)
 }
 
-// Whether the line itself, or its block, is walked from a point on this line.
+// Whether `point` is that of the line itself or of the begin of its block.
 fn is_here(line: &Line, point: LineNumber) -> bool {
     let begins_block = match line.block.as_slice().first() {
         Some(first) => first.number == point,
@@ -52,7 +52,7 @@ fn is_here(line: &Line, point: LineNumber) -> bool {
     line.number == point || begins_block
 }
 
-// The entry that is called in a column.
+// The entry that is called at `column`.
 fn called(targets: &[CalledEntry], column: Column) -> Option<EntryId> {
     for target in targets {
         if target.column == column && !target.begins {
@@ -62,7 +62,7 @@ fn called(targets: &[CalledEntry], column: Column) -> Option<EntryId> {
     None
 }
 
-// Adds the entry that a fault calls, where it has no block yet.
+// Adds the entry that is called at `fault`, if it has no block yet.
 fn add_called(
     ground: &Ground<'_>,
     maker: &mut Maker,
@@ -83,17 +83,16 @@ fn add_called(
     Ok(true)
 }
 
-// Locks that are lacking are needed, where they may be.
+// Adds the missing locks `terms` to what the entry needs of its callers, if they can hold them.
 fn add_needs(
     ground: &Ground<'_>,
     maker: &mut Maker,
     draft: &mut Draft,
     site: Site<'_>,
-    targets: &[CalledEntry],
     fault: Fault,
     terms: Vec<LockTerm>,
 ) -> Result<bool, Failure<Stop>> {
-    if !is_needed(ground, maker, draft, site, targets, fault, terms.as_slice())? {
+    if !is_needed(ground, maker, draft, site, fault, terms.as_slice())? {
         return Ok(false);
     }
     let listing = draft.need(ground.alloc, terms)?;
@@ -101,21 +100,7 @@ fn add_needs(
     Err(Failure::Refused(Stop::Anew))
 }
 
-// A case is listed at a point.
-fn add_case(
-    ground: &Ground<'_>,
-    maker: &mut Maker,
-    draft: &mut Draft,
-    line: &Line,
-    fault: Fault,
-    at: At,
-    case: Case,
-) -> Result<bool, Failure<Stop>> {
-    let listing = draft.lists.list(ground.alloc, at, case)?;
-    Ok(done(maker, fault, listing)? && is_here(line, at.line))
-}
-
-// A way in which the call may end.
+// Adds a way in which the call may end.
 fn add_end(
     ground: &Ground<'_>,
     maker: &mut Maker,
@@ -128,7 +113,7 @@ fn add_end(
     Ok(false)
 }
 
-// Names that the call may change.
+// Adds names that the call may change.
 fn add_changes(
     ground: &Ground<'_>,
     maker: &mut Maker,
@@ -140,22 +125,22 @@ fn add_changes(
     done_in_summary(maker, draft, fault, listing)
 }
 
-// Mends one fault, where that can be: whether the line has to be walked again.
+// Mends `fault` if that is possible, and returns whether the line has to be walked again.
 fn mend_one(
     ground: &Ground<'_>,
     maker: &mut Maker,
     draft: &mut Draft,
     site: Site<'_>,
-    targets: &[CalledEntry],
     fault: Fault,
     mend: Mend,
 ) -> Result<bool, Failure<Stop>> {
     match mend {
-        Mend::Nothing => add_called(ground, maker, draft, targets, fault),
-        Mend::Locks(terms) => add_needs(ground, maker, draft, site, targets, fault, terms),
+        Mend::Nothing => add_called(ground, maker, draft, site.targets, fault),
+        Mend::Locks(terms) => add_needs(ground, maker, draft, site, fault, terms),
         Mend::Listed(line, round, case) => {
             let at = At { line, round };
-            add_case(ground, maker, draft, site.line, fault, at, case)
+            let listing = draft.lists.list(ground.alloc, at, case)?;
+            Ok(done(maker, fault, listing)? && is_here(site.line, line))
         }
         Mend::Exit(exit) => add_end(ground, maker, draft, fault, exit),
         Mend::Changes(sets) => add_changes(ground, maker, draft, fault, sets),
@@ -174,18 +159,17 @@ fn mend_one(
     }
 }
 
-/// Mends the faults of a line, as far as they can be: whether the line has to be walked again.
+/// Mends the faults of a line as far as possible, and returns whether the line has to be walked again.
 pub(crate) fn mend_all(
     ground: &Ground<'_>,
     maker: &mut Maker,
     draft: &mut Draft,
     site: Site<'_>,
-    targets: &[CalledEntry],
     faults: Vec<(LineFault, Note)>,
 ) -> Result<bool, Failure<Stop>> {
     let mut again = false;
     for (found, note) in faults {
-        let one = mend_one(ground, maker, draft, site, targets, found.fault, note.mend)?;
+        let one = mend_one(ground, maker, draft, site, found.fault, note.mend)?;
         again = again || one;
     }
     Ok(again)

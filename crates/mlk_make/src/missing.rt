@@ -1,4 +1,4 @@
-// Declared entries that a program lacks.
+// Declared entries that a program does not have.
 
 ghost use Rattle.std.specs.Prelude.{◌≡◌, option_map, find, map};
 ghost use Rattle.mlk_syntax.specs.Views.{routine_of};
@@ -7,7 +7,7 @@ ghost use Rattle.mlk_make.specs.Missing.{is_missing};
 use mlk_program::Program;
 use mlk_text::Value;
 
-/// The first of these entry texts that the program lacks. It takes no memory.
+/// The first of `texts` that names no entry of `program`. Allocates nothing.
 pub(crate) fn first_missing<'a>(program: &Program<'_>, texts: &'a [Value]) -> Option<&'a [u8]>
     ensures { option_map (λ t. t.now) result ≡ find (is_missing (map routine_of program.now)) texts.now }
 {

@@ -3,7 +3,7 @@
 use crate::maker::{Ground, Maker};
 use crate::news::are_made_new;
 use crate::probe::{Probe, is_reached};
-use crate::walk::{CalledEntry, Site};
+use crate::walk::Site;
 use mlk_calls::{is_among, is_own};
 use mlk_cert::{Case, NameSet, Own};
 use mlk_make_drafts::{At, Draft, rounds_in};
@@ -22,7 +22,7 @@ fn add_names(names: &mut Vec<Name>, term: &LockTerm) -> Result<(), AllocError> {
     Ok(())
 }
 
-// The names that terms mention, in order.
+// The names that `terms` mention, in order.
 fn names_in(alloc: Global, terms: &[LockTerm]) -> Result<List<Name>, AllocError> {
     let mut names = Vec::new(alloc);
     for term in terms {
@@ -38,7 +38,7 @@ fn has(set: &NameSet, name: &Name) -> bool {
     }
 }
 
-/// The formals of a draft's entry.
+/// The formals of the entry of `draft`.
 pub(crate) fn formals_of<'a>(ground: &Ground<'a>, draft: &Draft) -> &'a [Name] {
     match ground.program.line(draft.entry) {
         None => &[],
@@ -49,7 +49,7 @@ pub(crate) fn formals_of<'a>(ground: &Ground<'a>, draft: &Draft) -> &'a [Name] {
     }
 }
 
-// Those of the names that are formals of a draft's entry, as own.
+// Those of `names` that are formals of the entry, as own names.
 fn own_formals(ground: &Ground<'_>, draft: &Draft, names: &[Name]) -> Result<Vec<Own>, AllocError> {
     let mut own = Vec::new(ground.alloc);
     for name in names {
@@ -63,7 +63,7 @@ fn own_formals(ground: &Ground<'_>, draft: &Draft, names: &[Name]) -> Result<Vec
     Ok(own)
 }
 
-// Whether a name is no formal, and the call changes it or some call shares it.
+// Whether `name` is no formal, and the call changes it or some call shares it.
 fn is_changed(ground: &Ground<'_>, draft: &Draft, name: &Name) -> bool {
     if is_among(formals_of(ground, draft), name) {
         return false;
@@ -72,7 +72,7 @@ fn is_changed(ground: &Ground<'_>, draft: &Draft, name: &Name) -> bool {
     ground.program.is_shared(name) || mods.iter().any(|set| has(set, name))
 }
 
-// Whether a case knows a name as it was when the call began.
+// Whether `case` knows `name` as it was when the call began.
 fn is_kept(ground: &Ground<'_>, draft: &Draft, case: &Case, name: &Name) -> bool {
     if is_among(formals_of(ground, draft), name) {
         return is_among(case.kept.as_slice(), name);
@@ -80,12 +80,12 @@ fn is_kept(ground: &Ground<'_>, draft: &Draft, case: &Case, name: &Name) -> bool
     !is_own(case.own.as_slice(), name)
 }
 
-/// Whether a case knows names as they were when the call began.
+/// Whether `case` knows `names` as they were when the call began.
 pub(crate) fn are_kept(ground: &Ground<'_>, draft: &Draft, case: &Case, names: &[Name]) -> bool {
     names.iter().all(|name| is_kept(ground, draft, case, name))
 }
 
-// Whether a fault is reached from one of a point's cases with these names as they were when the call began.
+// Whether the fault is reached from a case of the point of this round with the names as they were when the call began.
 fn is_reached_at(
     ground: &Ground<'_>,
     maker: &Maker,
@@ -111,7 +111,7 @@ fn is_reached_at(
     Ok(false)
 }
 
-// The same from one of a line's points.
+// Whether the fault is reached so from a case of any point of the line.
 fn is_reached_on(
     ground: &Ground<'_>,
     maker: &Maker,
@@ -126,14 +126,13 @@ fn is_reached_on(
     Ok(false)
 }
 
-/// Whether a fault may be mended by what the caller holds: its entry is not declared, and the locks mention formals that
-/// are kept there, or names that the call neither has for its own nor changes, and that no call shares.
+/// Whether `fault` may be mended by locks that the caller holds: the entry is not declared, and `terms` mention formals that are
+/// unchanged there, or names that are not own, that the call doesn't change, and that no call shares.
 pub(crate) fn is_needed(
     ground: &Ground<'_>,
     maker: &Maker,
     draft: &Draft,
     site: Site<'_>,
-    targets: &[CalledEntry],
     fault: Fault,
     terms: &[LockTerm],
 ) -> Result<bool, AllocError> {
@@ -151,7 +150,6 @@ pub(crate) fn is_needed(
     let own = own_formals(ground, draft, names)?;
     let probe = Probe {
         site,
-        targets,
         fault,
         names,
         own: own.as_slice(),

@@ -1,4 +1,4 @@
-// What NEW makes new before a column of a line.
+// Names that NEW makes new before a column of a line.
 
 use mlk_calls::is_among;
 use mlk_make_drafts::round_at;
@@ -12,7 +12,7 @@ fn is_made_new(argument: &NewArgument, names: &[Name]) -> bool {
     }
 }
 
-// Whether a command before this column makes one of the names new.
+// Whether `command` is before `column` and makes one of `names` new.
 fn makes_new(command: &Command, column: Column, names: &[Name]) -> bool {
     if command.column >= column {
         return false;
@@ -41,7 +41,7 @@ fn make_new(commands: &Commands, column: Column, names: &[Name]) -> bool {
     }
 }
 
-/// Whether a NEW between a line's begin, or that of the rounds of one of its FORs, and this column makes one of the names
+/// Whether a NEW between the begin of the line, or of the rounds of its FOR with the number `round`, and `column` makes one of `names`
 /// new.
 pub(crate) fn are_made_new(line: &Line, round: usize, column: Column, names: &[Name]) -> bool {
     match round_at(&line.commands, round) {

@@ -1,10 +1,10 @@
-// Whether a fault is reached before some names change. They are told by the walk itself: from a case in which they are
-// not own, by a summary that lets all other names change, it goes no further than where one of them does. Where it is asked
-// which names are shared, those that are own in truth count as own.
+// Whether a fault is reached before some names change. The walk itself finds out: from a case in which they are not own, and by a
+// summary that lets all other names change, it ends where one of them changes. Names that really are own count as own wherever the
+// walk asks whether a name is shared.
 
 use crate::maker::{Ground, Maker};
 use crate::need::are_kept;
-use crate::walk::{CalledEntry, Site, walk_site};
+use crate::walk::{Site, Start, walk_site};
 use mlk_calls::{copy_case, is_among};
 use mlk_cert::limit::MOST_CASES;
 use mlk_cert::{Case, EntryCert, NameSet, Own, Point, Shared};
@@ -20,10 +20,9 @@ use std::slice;
 #[derive(Clone, Copy, Drop)]
 pub(crate) struct Probe<'a> {
     pub(crate) site: Site<'a>,
-    pub(crate) targets: &'a [CalledEntry],
     pub(crate) fault: Fault,
     pub(crate) names: &'a [Name],
-    /// those of the names that are own in truth
+    /// those of the names that really are own
     pub(crate) own: &'a [Own],
 }
 
@@ -47,7 +46,7 @@ fn without(alloc: Global, case: &Case, names: &[Name]) -> Result<Case, AllocErro
     Ok(left)
 }
 
-// The block by which all names but these may change.
+// A block by which all names except `names` may change.
 fn changing_others(alloc: Global, draft: &Draft, names: &[Name]) -> Result<EntryCert, AllocError> {
     let mut block = copy_summed(alloc, &draft.block)?;
     let mut mods = List::new(alloc);
@@ -63,7 +62,7 @@ fn begins_block(line: &Line, number: LineNumber) -> bool {
     }
 }
 
-// Those of the cases in which a block may end that know the names as they were when the call began.
+// The cases in which the block of the probe's line may end and that know the names as they were when the call began.
 fn kept_ends(
     ground: &Ground<'_>,
     draft: &Draft,
@@ -86,7 +85,7 @@ fn is_same(found: &LineFault, fault: Fault) -> bool {
     found.fault == fault
 }
 
-// Whether the walk found the fault; the cases that it wants at the begin of the line's block are kept.
+// Whether the walk found the fault. Adds the cases that it wants at the begin of the line's block to `entering`.
 fn take_faults(
     probe: &Probe<'_>,
     faults: Vec<(LineFault, Note)>,
@@ -130,7 +129,7 @@ fn points_of(
     Ok(points)
 }
 
-// Whether a walk from a case of a point finds the fault; the cases that it wants at the begin of the line's block are kept.
+// Whether a walk by `block` finds the fault. Adds the cases that it wants at the begin of the line's block to `entering`.
 fn is_found(
     ground: &Ground<'_>,
     maker: &Maker,
@@ -140,20 +139,17 @@ fn is_found(
     entering: &mut List<Case>,
 ) -> Result<bool, AllocError> {
     let inner = kept_ends(ground, draft, probe)?;
-    let walked = walk_site(
-        ground,
-        maker,
-        draft,
+    let start = Start {
+        entry: draft.entry,
         block,
-        probe.own,
-        probe.site,
-        probe.targets,
-        inner,
-    )?;
+        own: probe.own,
+        site: probe.site,
+    };
+    let walked = walk_site(ground, maker, draft, &start, inner)?;
     take_faults(probe, walked.faults, entering)
 }
 
-// Whether the fault is reached from a case of a point, in which the names are not own.
+// Whether the fault is reached from `case`, in which the names are not own.
 fn is_reached_from(
     ground: &Ground<'_>,
     maker: &Maker,
@@ -178,7 +174,7 @@ fn is_reached_from(
     Ok(false)
 }
 
-/// Whether the fault is reached from a case of a point, with the names as they were when the call began.
+/// Whether the fault is reached from `case` with the names as they were when the call began.
 pub(crate) fn is_reached(
     ground: &Ground<'_>,
     maker: &Maker,

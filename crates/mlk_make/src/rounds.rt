@@ -31,7 +31,7 @@ pub struct MadeDespite {
     pub given_up: Vec<GaveUp>,
 }
 
-// The declared entries are to be certified.
+// Adds drafts of the declared entries.
 fn declare(ground: &Ground<'_>, maker: &mut Maker) -> Result<(), AllocError> {
     for text in entries(ground.rules) {
         if let Some(entry) = ground.program.entry(text.as_bytes()) {
@@ -100,7 +100,7 @@ fn walked<W: Watch>(
     Ok(maker)
 }
 
-// What is known of the declared entries and of all that they reach, once nothing changes any more. Refuses the first declared entry
+// The drafts of the declared entries and of all that they reach, once nothing changes any more. Refuses the first declared entry
 // that is not in `program`.
 fn certify<W: Watch>(
     alloc: Global,
@@ -133,9 +133,9 @@ fn certify<W: Watch>(
 /// Makes a certificate of the declared entries, and of all that they reach by calls, and its text in `format`. Its entries are in
 /// the program's order.
 ///
-/// Their summaries begin empty. In each round every entry is walked, in order, until its lists grow no more: what would
-/// mend a fault is put in, where it can be. A further round is made while one changes something; 64 are too many. What was
-/// found is written, and of the first format the certificate is read of the text. `watch` sees how far the work has come.
+/// Their summaries begin empty. In each round every entry is walked, in order, until its lists no longer grow: what would mend a fault
+/// is listed, if that is possible. Another round follows as long as one changes something, up to 64. The result is written, and in
+/// the first format the certificate is read back from the text. `watch` sees the progress.
 pub fn make<W: Watch>(
     alloc: Global,
     program: &Program<'_>,

@@ -1,9 +1,9 @@
-// An entry's lines are walked until their lists grow no more.
+// Walks of an entry's lines until their lists no longer grow.
 
 use crate::maker::{Ground, Maker, has_changed};
 use crate::mend::mend_all;
 use crate::stop::Stop;
-use crate::walk::{CalledEntry, Site, Walked, targets_of, walk_site};
+use crate::walk::{CalledEntry, Site, Start, Surroundings, Walked, targets_of, walk_site};
 use mlk_make_drafts::Draft;
 use mlk_syntax::Line;
 use mlk_text::{Code, Column, Failure};
@@ -11,10 +11,10 @@ use mlk_walk_exprs::Fault;
 use mlk_walk_lines::Around;
 use std::alloc::AllocError;
 
-/// How often one line is walked at most before the maker gives up. Each time something has grown that has a limit.
+/// How often one line is walked at most before the maker gives up. Each time, something with a limit has grown.
 const MOST_WALKS: usize = 1_000_000;
 
-// What the walk of a line changes: what it is walked from, and the cases in which its block may end.
+// What the walk of a line changes: the cases that it is walked from, and those in which the block around it may end.
 #[derive(Clone, Copy, Debug, Drop)]
 struct Turn {
     again: bool,
@@ -30,49 +30,44 @@ fn add_callees(draft: &mut Draft, targets: &[CalledEntry]) -> Result<(), Failure
     Ok(())
 }
 
-// What the walk of a line finds.
+// Walks a line from the cases that are listed for it.
 fn walk_line(
     ground: &Ground<'_>,
     maker: &Maker,
     draft: &Draft,
     site: Site<'_>,
-    targets: &[CalledEntry],
 ) -> Result<Walked, AllocError> {
     let inner = draft
         .lists
         .ends_of(ground.alloc, site.line.block.as_slice())?;
-    walk_site(
-        ground,
-        maker,
-        draft,
-        &draft.block,
-        &[],
+    let start = Start {
+        entry: draft.entry,
+        block: &draft.block,
+        own: &[],
         site,
-        targets,
-        inner,
-    )
+    };
+    walk_site(ground, maker, draft, &start, inner)
 }
 
-// A line that calls these is walked once.
+// Walks a line once, and mends its faults.
 fn walk_once(
     ground: &Ground<'_>,
     maker: &mut Maker,
     draft: &mut Draft,
     site: Site<'_>,
-    targets: &[CalledEntry],
 ) -> Result<Turn, Failure<Stop>> {
-    add_callees(draft, targets)?;
+    add_callees(draft, site.targets)?;
     draft.take(ground.alloc, site.line)?;
-    let walked = walk_line(ground, maker, draft, site, targets)?;
+    let walked = walk_line(ground, maker, draft, site)?;
     draft.put_back(ground.alloc);
     let ends = draft
         .lists
         .end(ground.alloc, site.line.number, walked.ends)?;
-    let again = mend_all(ground, maker, draft, site, targets, walked.faults)?;
+    let again = mend_all(ground, maker, draft, site, walked.faults)?;
     Ok(Turn { again, ends })
 }
 
-// The line to which a job goes on, where there is one.
+// The line to which a job continues after the lines before `later`, if there is one.
 fn next_of<'a>(around: Around<'a>, later: &'a [Line]) -> Option<&'a Line> {
     match later.first() {
         Some(line) => Some(line),
@@ -90,7 +85,7 @@ fn without_first(lines: &[Line]) -> &[Line] {
     }
 }
 
-// Whether a line calls an entry whose summary has changed since the walked one was walked.
+// Whether a line calls an entry whose summary has changed since the entry of `draft` was walked.
 fn asks_anew(maker: &Maker, draft: &Draft, targets: &[CalledEntry]) -> bool {
     let Some(walked) = draft.walked else {
         return true;
@@ -101,17 +96,16 @@ fn asks_anew(maker: &Maker, draft: &Draft, targets: &[CalledEntry]) -> bool {
     })
 }
 
-// Walks a line once, where it is due.
+// Walks a line once, if `is_due`.
 fn walk_if_due(
     ground: &Ground<'_>,
     maker: &mut Maker,
     draft: &mut Draft,
     site: Site<'_>,
-    targets: &[CalledEntry],
-    due: bool,
+    is_due: bool,
 ) -> Result<Turn, Failure<Stop>> {
-    if due {
-        return walk_once(ground, maker, draft, site, targets);
+    if is_due {
+        return walk_once(ground, maker, draft, site);
     }
     Ok(Turn {
         again: false,
@@ -119,38 +113,47 @@ fn walk_if_due(
     })
 }
 
-// A line and its block: whether the cases change in which its own block may end. It is walked from a new case, or with
-// another summary of what it calls: where it is fresh, summaries may be others than before.
+// Walks a line and its block until their lists no longer grow, and returns whether the cases change in which the block around it may
+// end. A line is walked from a new case, or if the summary of an entry that it calls is new, which only `is_fresh` lines ask.
 #[cycle(settle)]
 fn settle_line<'a>(
     line: &'a Line,
-    around: Around<'a>,
-    next: Option<&'a Line>,
+    surroundings: Surroundings<'a>,
     ground: &'a Ground<'a>,
     maker: &mut Maker,
     draft: &mut Draft,
-    fresh: bool,
+    is_fresh: bool,
 ) -> Result<bool, Failure<Stop>> {
     let has_new = draft.lists.has_new(line.number);
-    if !has_new && !fresh {
+    if !has_new && !is_fresh {
         return Ok(false);
     }
-    let site = Site { line, around, next };
     let targets = targets_of(ground, draft.entry.routine(), line)?;
-    let targets = targets.as_slice();
-    let mut due = has_new || asks_anew(maker, draft, targets);
-    let mut is_fresh = fresh;
+    let site = Site {
+        line,
+        surroundings,
+        targets: targets.as_slice(),
+    };
+    let mut is_due = has_new || asks_anew(maker, draft, site.targets);
+    let mut is_block_fresh = is_fresh;
     let mut changes = false;
     for _ in 0..MOST_WALKS {
-        let one = walk_if_due(ground, maker, draft, site, targets, due)?;
-        changes = changes || one.ends;
+        let turn = walk_if_due(ground, maker, draft, site, is_due)?;
+        changes = changes || turn.ends;
         let block = line.block.as_slice();
-        let inner = settle_lines(block, Around::Block, ground, maker, draft, is_fresh)?;
-        due = one.again || inner;
-        if !due {
+        let is_block_changed = settle_lines(
+            block,
+            Around::Block,
+            ground,
+            maker,
+            draft,
+            is_block_fresh,
+        )?;
+        is_due = turn.again || is_block_changed;
+        if !is_due {
             return Ok(changes);
         }
-        is_fresh = false;
+        is_block_fresh = false;
     }
     Err(Failure::Refused(Stop::Full(begin_of(line))))
 }
@@ -164,8 +167,8 @@ fn begin_of(line: &Line) -> Fault {
     }
 }
 
-/// Lines of one level and their blocks: whether the cases change in which their block may end. A case comes to a line
-/// only from those before it, so the first without a case ends the walk.
+/// Walks the lines of one level and their blocks until their lists no longer grow, and returns whether the cases change in which
+/// their block may end. A case comes to a line only from the lines before it, so the first line without a case ends the walk.
 #[cycle(settle)]
 pub(crate) fn settle_lines<'a>(
     lines: &'a [Line],
@@ -173,7 +176,7 @@ pub(crate) fn settle_lines<'a>(
     ground: &'a Ground<'a>,
     maker: &mut Maker,
     draft: &mut Draft,
-    fresh: bool,
+    is_fresh: bool,
 ) -> Result<bool, Failure<Stop>> {
     let mut changes = false;
     let mut later = lines;
@@ -182,9 +185,12 @@ pub(crate) fn settle_lines<'a>(
         if !draft.lists.has_some(line.number) {
             return Ok(changes);
         }
-        let next = next_of(around, later);
-        let one = settle_line(line, around, next, ground, maker, draft, fresh)?;
-        changes = changes || one;
+        let surroundings = Surroundings {
+            around,
+            next: next_of(around, later),
+        };
+        let is_changed = settle_line(line, surroundings, ground, maker, draft, is_fresh)?;
+        changes = changes || is_changed;
     }
     Ok(changes)
 }

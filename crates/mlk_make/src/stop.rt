@@ -1,4 +1,4 @@
-// Why the maker stops.
+// Reasons why the maker stops.
 
 use mlk_cert::CertFault;
 use mlk_program::EntryId;
@@ -8,15 +8,15 @@ use mlk_walk_exprs::Fault;
 /// Why no certificate was made.
 #[derive(Drop, Debug)]
 pub enum MakeError {
-    /// a declared entry that the program lacks: its text
+    /// the text of a declared entry that the program does not have
     EntryMissing(Value),
-    /// the text of the certificate is too long: the limit
+    /// the text of the certificate is longer than this limit
     TooLong(CertFault),
     /// the maker gave up
     GaveUp(GaveUp),
 }
 
-/// Where the maker gave up: what would mend this fault of the entry is past a limit of certificates, or comes in the last
+/// A place at which the maker gave up: what would mend this fault of the entry exceeds a limit of certificates, or comes in the last
 /// round.
 #[derive(Clone, Copy, Debug, Drop)]
 pub struct GaveUp {
@@ -36,13 +36,13 @@ pub(crate) enum WhenStuck {
 /// Why the walk of an entry stops.
 #[derive(Clone, Copy, Debug, Drop)]
 pub(crate) enum Stop {
-    /// its needs have grown, so its lists start anew
+    /// its needs have grown, so its lists begin again
     Anew,
-    /// what would mend this fault is too much
+    /// what would mend this fault exceeds a limit
     Full(Fault),
 }
 
-/// The maker gives up at a fault of an entry.
+/// Gives up at `fault` of `entry`.
 pub(crate) fn gave_up<T>(entry: EntryId, fault: Fault) -> Result<T, Failure<GaveUp>> {
     Err(Failure::Refused(GaveUp { entry, fault }))
 }

@@ -9,7 +9,7 @@ use mlk_text::Failure;
 use std::alloc::Global;
 use std::io::Write;
 
-// Writes the text of a certificate in a format.
+// Writes the text of a certificate in `format`.
 fn write_in<W: Write>(
     alloc: Global,
     certificate: &Certificate,
@@ -25,14 +25,14 @@ fn write_in<W: Write>(
     }
 }
 
-/// The text of a certificate in a format.
+/// The text of a certificate in `format`.
 pub fn text_in(
     alloc: Global,
     certificate: &Certificate,
     format: CertFormat,
 ) -> Result<Vec<u8>, Failure<CertFault>>
     ensures text { IfOk result (λ text. IsShortText format certificate.now text.items) }
-    // Where there is none, it is too long.
+    // If there is none, it is too long.
     ensures refused { IfErr result (IsPastLimit format certificate.now) }
 {
     let mut text = Vec::new(alloc);
@@ -40,7 +40,7 @@ pub fn text_in(
         Ok(()) => Ok(text),
         Err(Failure::OutOfMemory) => Err(Failure::OutOfMemory),
         Err(Failure::Refused(WriteFault::TooLong(fault))) => Err(Failure::Refused(fault)),
-        // A vector refuses bytes for want of memory alone.
+        // A vector refuses bytes only if memory runs out.
         Err(Failure::Refused(WriteFault::Io(_))) => Err(Failure::OutOfMemory),
     }
 }

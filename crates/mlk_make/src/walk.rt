@@ -13,15 +13,34 @@ use mlk_walk_lines::{Around, LineFault, LineFaults, walk_alone};
 use std::alloc::{AllocError, Global};
 use std::collections::BTreeSet;
 
-/// A line, what its lines are, and the line to which a job goes on.
+/// What is around a line: its block or its frame, and the line to which a job continues, if there is one.
 #[derive(Clone, Copy, Drop)]
-pub(crate) struct Site<'a> {
-    pub(crate) line: &'a Line,
+pub(crate) struct Surroundings<'a> {
     pub(crate) around: Around<'a>,
     pub(crate) next: Option<&'a Line>,
 }
 
-/// What a call in a line names: where the call stands, its entry, and whether a job begins there.
+/// A line, what is around it, and what its calls name.
+#[derive(Clone, Copy, Drop)]
+pub(crate) struct Site<'a> {
+    pub(crate) line: &'a Line,
+    pub(crate) surroundings: Surroundings<'a>,
+    pub(crate) targets: &'a [CalledEntry],
+}
+
+/// What the walk of a line begins with.
+#[derive(Clone, Copy, Drop)]
+pub(crate) struct Start<'a> {
+    /// the entry whose line it is
+    pub(crate) entry: EntryId,
+    /// the block whose cases the line is walked from
+    pub(crate) block: &'a EntryCert,
+    /// names that count as own wherever the walk asks whether a name is shared
+    pub(crate) own: &'a [Own],
+    pub(crate) site: Site<'a>,
+}
+
+/// What a call in a line names: the column of the call, its entry, and whether a job begins there.
 #[derive(Clone, Copy, Debug, Drop)]
 pub(crate) struct CalledEntry {
     pub(crate) column: Column,
@@ -29,7 +48,7 @@ pub(crate) struct CalledEntry {
     pub(crate) begins: bool,
 }
 
-/// What the walk of a line finds, and the cases in which its block may end there.
+/// The result of the walk of a line: the faults, and the cases in which the block around it may end there.
 #[derive(Drop)]
 pub(crate) struct Walked {
     pub(crate) faults: Vec<(LineFault, Note)>,
@@ -56,7 +75,7 @@ fn add_all_begun(columns: &mut BTreeSet<Column>, commands: &Commands) -> Result<
     }
 }
 
-/// What the calls of a line of a routine name.
+/// The entries that the calls of a line of the routine with the number `routine` name.
 pub(crate) fn targets_of(
     ground: &Ground<'_>,
     routine: usize,
@@ -77,7 +96,7 @@ pub(crate) fn targets_of(
     Ok(targets)
 }
 
-// What is known of an entry, where the walked one is no more in its place.
+// The draft of `entry`. That of the entry which is walked, `draft`, is not in the maker meanwhile.
 fn known<'a>(maker: &'a Maker, draft: &'a Draft, entry: EntryId) -> Option<&'a Draft> {
     if draft.entry == entry {
         return Some(draft);
@@ -85,7 +104,7 @@ fn known<'a>(maker: &'a Maker, draft: &'a Draft, entry: EntryId) -> Option<&'a D
     maker.drafts.get(&entry)
 }
 
-// The summaries of what is called.
+// The blocks of the entries that are called, without their points.
 fn summed(
     alloc: Global,
     maker: &Maker,
@@ -110,7 +129,7 @@ fn push_declared(texts: &mut List<Value>, draft: &Draft) -> Result<(), AllocErro
     Ok(())
 }
 
-// The texts of those entries that are declared, of the walked one and those at which its line begins jobs.
+// The texts of the declared entries among the walked one and those at which its line begins jobs.
 fn declared(
     alloc: Global,
     maker: &Maker,
@@ -129,7 +148,7 @@ fn declared(
     Ok(texts)
 }
 
-// Rules that declare entries, and nothing else.
+// Rules that declare `entries`, and nothing else.
 fn declaring(alloc: Global, entries: List<Value>) -> Result<Option<Rules>, AllocError> {
     let lists = RuleLists {
         families: List::new(alloc),
@@ -141,7 +160,7 @@ fn declaring(alloc: Global, entries: List<Value>) -> Result<Option<Rules>, Alloc
     Rules::new(alloc, lists)
 }
 
-// Rules that declare those entries of which a line's walk asks.
+// Rules that declare those declared entries that the walk of a line asks about.
 fn declared_rules(
     alloc: Global,
     maker: &Maker,
@@ -152,83 +171,56 @@ fn declared_rules(
     declaring(alloc, entries)
 }
 
-// The walk of a line, where this is known of entries, and these names count as own where it is asked which are shared.
+// Walks a line, given what is known of entries. The line's own block may end in the cases `inner`.
 fn walk_among(
     ground: &Ground<'_>,
     entries: &Entries<'_>,
-    entry: EntryId,
-    block: &EntryCert,
-    own: &[Own],
-    site: Site<'_>,
+    start: &Start<'_>,
     inner: List<Case>,
 ) -> Result<Walked, AllocError> {
     let alloc = ground.alloc;
+    let Start {
+        entry,
+        block,
+        own,
+        site,
+    } = *start;
     let scope = Scope::counting(ground.program, ground.rules, entries, entry, block, own);
+    let Surroundings { around, next } = site.surroundings;
     let mut found = LineFaults::new(alloc);
-    let ends = walk_alone(
-        alloc,
-        &scope,
-        site.line,
-        site.around,
-        site.next,
-        inner,
-        &mut found,
-    )?;
+    let ends = walk_alone(alloc, &scope, site.line, around, next, inner, &mut found)?;
     Ok(Walked {
         faults: found.into_vec(),
         ends,
     })
 }
 
-// The walk of a line, where entries have these blocks, and are declared by these rules.
+// Walks a line, where entries have the blocks `blocks` and are declared by `rules`.
 fn walk_by(
     ground: &Ground<'_>,
     blocks: &[EntryCert],
     rules: Option<&Rules>,
-    entry: EntryId,
-    block: &EntryCert,
-    own: &[Own],
-    site: Site<'_>,
+    start: &Start<'_>,
     inner: List<Case>,
 ) -> Result<Walked, AllocError> {
     let rules = rules.unwrap_or(ground.rules);
     let entries = Entries::of(ground.alloc, ground.program, rules, blocks)?;
-    walk_among(ground, &entries, entry, block, own, site, inner)
+    walk_among(ground, &entries, start, inner)
 }
 
-/// The walk of a line from the cases of a block, where the line's own block may end in these cases, and these names count
-/// as own where it is asked which are shared.
+/// Walks a line of the entry of `draft`. The line's own block may end in the cases `inner`.
 pub(crate) fn walk_site(
     ground: &Ground<'_>,
     maker: &Maker,
     draft: &Draft,
-    block: &EntryCert,
-    own: &[Own],
-    site: Site<'_>,
-    targets: &[CalledEntry],
+    start: &Start<'_>,
     inner: List<Case>,
 ) -> Result<Walked, AllocError> {
+    let targets = start.site.targets;
     let blocks = summed(ground.alloc, maker, draft, targets)?;
     if blocks.is_empty() {
-        return walk_among(
-            ground,
-            ground.declared,
-            draft.entry,
-            block,
-            own,
-            site,
-            inner,
-        );
+        return walk_among(ground, ground.declared, start, inner);
     }
     let few = declared_rules(ground.alloc, maker, draft, targets)?;
-    walk_by(
-        ground,
-        blocks.as_slice(),
-        few.as_ref(),
-        draft.entry,
-        block,
-        own,
-        site,
-        inner,
-    )
+    walk_by(ground, blocks.as_slice(), few.as_ref(), start, inner)
 }

@@ -13,7 +13,7 @@ returns-in-Err-clause-answer c = c.in-Err.ensures.answer (is_listed c.args.entri
 pub returns-in-Ok-clause-numbers : goal.returns-in-Ok-clause-numbers
 returns-in-Ok-clause-numbers c =
     added_number (map routine_of c.args.program.now) (is_listed c.args.entries.now) c.args.jobs.now.items c.join.new.jobs.items
-    c.args.number c.args.entry c.args.test (map Some c.args.values.now) c.args.numbers.now.keys c.reserve.new.self.keys c.insert.new.self.keys
+    c.args.beginning.now.number c.args.beginning.now.entry c.args.beginning.now.test (map Some c.args.beginning.now.values.now) c.args.numbers.now.keys c.reserve.new.self.keys c.insert.new.self.keys
     c.requires.numbers c.reserve.ensures.keys
     (c.in-Ok.ensures.answer (is_listed c.args.entries.now) (sym c.is_declared-is_declared.ensures))
     (where_ok c.insert.result (c.insert.ensures.succeeds c.in_ok-reserve.ensures.ok) c.insert.ensures.keys)

@@ -16,7 +16,7 @@ use Rattle.mlk_machine_run.proofs.system.join.Goals as goal
 
 pub returns-then-is_used-clause-answer : goal.returns-then-is_used-clause-answer
 returns-then-is_used-clause-answer c = λ declared h.
-    join_used (machine (map routine_of c.args.program.now) declared) c.args.number (map job_of c.args.jobs.now.items) _
+    join_used (machine (map routine_of c.args.program.now) declared) c.args.beginning.now.number (map job_of c.args.jobs.now.items) _
     (sym c.requires.used ∙ c.if-is_used.true)
 
 pub returns-in-Ok-push-clause-sound : goal.returns-in-Ok-push-clause-sound
@@ -27,23 +27,23 @@ returns-in-Ok-push-clause-sound c =
 pub returns-in-Ok-push-clause-answer : goal.returns-in-Ok-push-clause-answer
 returns-in-Ok-push-clause-answer c = λ declared h.
     let js = c.args.jobs.now.items in
-    let unused : is_numbered seen (map job_of js) c.args.number ≡ false =
+    let unused : is_numbered seen (map job_of js) c.args.beginning.now.number ≡ false =
     sym c.requires.used ∙ c.if-is_used.false in
-    join_declared (machine (map routine_of c.args.program.now) declared) c.args.number (map job_of js) _
-    (declared c.args.entry && is_job_number c.args.number)
-    (ap (λ d. d && is_job_number c.args.number) h ∙ sym c.may_begin.ensures ∙ c.if-not-may_begin.false) unused
+    join_declared (machine (map routine_of c.args.program.now) declared) c.args.beginning.now.number (map job_of js) _
+    (declared c.args.beginning.now.entry && is_job_number c.args.beginning.now.number)
+    (ap (λ d. d && is_job_number c.args.beginning.now.number) h ∙ sym c.may_begin.ensures ∙ c.if-not-may_begin.false) unused
     ∙ ap (and_then (λ (j : Job). Ok (map job_of js ++ j ∷ []))) c.in-Ok.ensures.job
     ∙ ap Ok (sym (ap (map job_of) c.in-Ok-push.ensures.items ∙ map-append job_of js (c.in-Ok.job ∷ [])))
 
 pub returns-in-Err-clause-answer : goal.returns-in-Err-clause-answer
 returns-in-Err-clause-answer c = λ declared h.
     let js = c.args.jobs.now.items in
-    let unused : is_numbered seen (map job_of js) c.args.number ≡ false =
+    let unused : is_numbered seen (map job_of js) c.args.beginning.now.number ≡ false =
     sym c.requires.used ∙ c.if-is_used.false in
     subst (λ s. FailsAs c.in-Err.why s)
-    (sym (join_declared (machine (map routine_of c.args.program.now) declared) c.args.number (map job_of js) _
-    (declared c.args.entry && is_job_number c.args.number)
-    (ap (λ d. d && is_job_number c.args.number) h ∙ sym c.may_begin.ensures ∙ c.if-not-may_begin.false) unused))
+    (sym (join_declared (machine (map routine_of c.args.program.now) declared) c.args.beginning.now.number (map job_of js) _
+    (declared c.args.beginning.now.entry && is_job_number c.args.beginning.now.number)
+    (ap (λ d. d && is_job_number c.args.beginning.now.number) h ∙ sym c.may_begin.ensures ∙ c.if-not-may_begin.false) unused))
     (fails_then (λ (j : Job). Ok (map job_of js ++ j ∷ [])) c.in-Err.why _ c.in-Err.ensures.job)
 
 pub returns-in_default-clause-covered : goal.returns-in_default-clause-covered
@@ -54,6 +54,6 @@ pub returns-in-Ok-push-clause-covered : goal.returns-in-Ok-push-clause-covered
 returns-in-Ok-push-clause-covered c =
     subst (StayCovered c.args.jobs.now.items) (sym c.in-Ok-push.ensures.items)
     (added_covered c.args.jobs.now.items c.in-Ok.job
-    (begun_holds (map routine_of c.args.program.now) c.args.entry c.args.number c.args.test (map Some c.args.values.now) c.in-Ok.job
-    (and_parts c.args.is_declared (is_job_number c.args.number) (sym c.may_begin.ensures ∙ c.if-not-may_begin.false)).1
+    (begun_holds (map routine_of c.args.program.now) c.args.beginning.now.entry c.args.beginning.now.number c.args.beginning.now.test (map Some c.args.beginning.now.values.now) c.in-Ok.job
+    (and_parts c.args.is_declared (is_job_number c.args.beginning.now.number) (sym c.may_begin.ensures ∙ c.if-not-may_begin.false)).1
     c.in-Ok.ensures.job))
