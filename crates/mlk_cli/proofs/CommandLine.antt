@@ -1,11 +1,9 @@
 -- What the words of a command line ask for.
 use Rattle.std.specs.Borrow.{Bor}
-use Rattle.std.proofs.Common.{◌≡◌, ◌∙◌, sym, ap, subst, ℕ, ◌<◌, ◌^◌, List, [], ◌∷◌, Bool, true, false, not, Option, Some, None, Result, Ok, Err, refl, codes, option_map, slice_index, arith}
+use Rattle.std.proofs.Common.{◌≡◌, ◌∙◌, sym, ap, subst, ℕ, ◌<◌, ◌^◌, List, [], ◌∷◌, Bool, true, false, Option, Some, None, Result, Ok, Err, refl, codes, option_map, slice_index, arith}
 use Rattle.std.specs.Str.Parse.{ParsesUnsigned, IsNumeral, digits_value, without_leading_plus}
 use Rattle.clap.specs.Matches.{ReadsOne}
-use Rattle.clap.specs.Words.{Text, Row, all_of, first_of, is_simple, one_of, subcommand_of}
-use Rattle.clap.specs.Takes.{takes}
-use Rattle.clap.proofs.OnLiterals.{clap_on_literals}
+use Rattle.clap.specs.Words.{Text, Row, all_of, first_of, one_of}
 use Rattle.mlk_cli.specs.declared.words.Asked.{Asked}
 use Rattle.mlk_cli.specs.declared.words.Asked.TheVariants as asked
 use Rattle.mlk_cli.specs.declared.words.Format.{Format}
@@ -17,218 +15,11 @@ use Rattle.mlk_cli.specs.declared.words.SurveyOutput.TheVariants as surveyed
 use Rattle.mlk_cli.specs.declared.words.ReportStyle.{ReportStyle}
 use Rattle.mlk_cli.specs.declared.words.SurveyRequest.{SurveyRequest}
 use Rattle.mlk_cli.specs.declared.words.SuggestRequest.{SuggestRequest}
+use Rattle.mlk_cli.specs.declared.words.StubsRequest.{StubsRequest}
 use Rattle.mlk_cli.specs.declared.words.Request.{Request}
 use Rattle.mlk_cli.specs.declared.words.Request.TheVariants as request
 use Rattle.mlk_cli.specs.declared.words.ProgramRequest.{ProgramRequest}
-use Rattle.mlk_cli.specs.CommandLine.{mlock_app, IsAsked, IsNumber, IsNumberOf, IsFormat, IsWalk, IsOutput, NamesOutput, GivesOutput, IsFlag, IsSurveyOutput, IsSurvey, IsSuggestion, IsConversion, IsProgramGiven, IsGiven, GivesNumber}
-
-pub not-true : (b : Bool) → not b ≡ true → b ≡ false
-not-true true h = cc h
-not-true false h = refl
-
--- the grammar is one whose matches `clap` states exactly
-pub is-exact : is_simple mlock_app ≡ true
-unfolding clap_on_literals
-is-exact = refl
-
--- examples: words, and what they give
-abbrev words : List Text
-words = codes "mlock" ∷ codes "check" ∷ codes "r" ∷ codes "c" ∷ codes "A.m" ∷ codes "B.m" ∷ []
-
-abbrev workers_words : List Text
-workers_words = codes "mlock" ∷ codes "verify" ∷ codes "r" ∷ codes "A.m" ∷ codes "--workers" ∷ codes "64" ∷ codes "B.m" ∷ []
-
-abbrev replay_words : List Text
-replay_words = codes "mlock" ∷ codes "replay" ∷ codes "r" ∷ codes "e" ∷ codes "A.m" ∷ []
-
-abbrev convert_words : List Text
-convert_words = codes "mlock" ∷ codes "convert" ∷ codes "c" ∷ []
-
-abbrev first_words : List Text
-first_words = codes "mlock" ∷ codes "convert" ∷ codes "--format=1" ∷ codes "c" ∷ []
-
-abbrev make_words : List Text
-make_words = codes "mlock" ∷ codes "make" ∷ codes "r" ∷ codes "A.m" ∷ []
-
-abbrev explain_words : List Text
-explain_words = codes "mlock" ∷ codes "verify" ∷ codes "--explain" ∷ codes "r" ∷ codes "A.m" ∷ []
-
-abbrev strict_words : List Text
-strict_words = codes "mlock" ∷ codes "verify" ∷ codes "--strict" ∷ codes "r" ∷ codes "A.m" ∷ codes "--output" ∷ codes "json" ∷ []
-
-abbrev survey_words : List Text
-survey_words = codes "mlock" ∷ codes "survey" ∷ codes "A.m" ∷ codes "B.m" ∷ []
-
-abbrev page_words : List Text
-page_words = codes "mlock" ∷ codes "explain" ∷ codes "702" ∷ []
-
-reads_code : option_map (λ p. first_of (codes "CODE") p.1) (subcommand_of mlock_app page_words) ≡ Some (Some (codes "702"))
-unfolding clap_on_literals
-reads_code = refl
-
-abbrev suggest_words : List Text
-suggest_words = codes "mlock" ∷ codes "suggest" ∷ codes "--beside" ∷ codes "r" ∷ codes "A.m" ∷ codes "B.m" ∷ []
-
-reads_rules : option_map (λ p. first_of (codes "RULES") p.1) (subcommand_of mlock_app words) ≡ Some (Some (codes "r"))
-unfolding clap_on_literals
-reads_rules = refl
-
-reads_certificate : option_map (λ p. first_of (codes "CERT") p.1) (subcommand_of mlock_app words) ≡ Some (Some (codes "c"))
-unfolding clap_on_literals
-reads_certificate = refl
-
-reads_routines : option_map (λ p. all_of (codes "ROUTINE") p.1) (subcommand_of mlock_app words) ≡ Some (Some (codes "A.m" ∷ codes "B.m" ∷ []))
-unfolding clap_on_literals
-reads_routines = refl
-
-reads_events : option_map (λ p. first_of (codes "EVENTS") p.1) (subcommand_of mlock_app replay_words) ≡ Some (Some (codes "e"))
-unfolding clap_on_literals
-reads_events = refl
-
-reads_workers : option_map (λ p. one_of (codes "workers") p.1) (subcommand_of mlock_app workers_words) ≡ Some (Some (codes "64"))
-unfolding clap_on_literals
-reads_workers = refl
-
-reads_routines_around : option_map (λ p. all_of (codes "ROUTINE") p.1) (subcommand_of mlock_app workers_words) ≡ Some (Some (codes "A.m" ∷ codes "B.m" ∷ []))
-unfolding clap_on_literals
-reads_routines_around = refl
-
-reads_four_workers : option_map (λ p. one_of (codes "workers") p.1) (subcommand_of mlock_app words) ≡ Some (Some (codes "4"))
-unfolding clap_on_literals
-reads_four_workers = refl
-
-reads_converted : option_map (λ p. first_of (codes "CERT") p.1) (subcommand_of mlock_app first_words) ≡ Some (Some (codes "c"))
-unfolding clap_on_literals
-reads_converted = refl
-
-reads_format : option_map (λ p. one_of (codes "format") p.1) (subcommand_of mlock_app first_words) ≡ Some (Some (codes "1"))
-unfolding clap_on_literals
-reads_format = refl
-
-converts_to_second : option_map (λ p. one_of (codes "format") p.1) (subcommand_of mlock_app convert_words) ≡ Some (Some (codes "2"))
-unfolding clap_on_literals
-converts_to_second = refl
-
-makes_first : option_map (λ p. one_of (codes "format") p.1) (subcommand_of mlock_app make_words) ≡ Some (Some (codes "1"))
-unfolding clap_on_literals
-makes_first = refl
-
-tells_strictly : option_map (λ p. first_of (codes "strict") p.1) (subcommand_of mlock_app strict_words) ≡ Some (Some (codes "true"))
-unfolding clap_on_literals
-tells_strictly = refl
-
-tells_json : option_map (λ p. first_of (codes "output") p.1) (subcommand_of mlock_app strict_words) ≡ Some (Some (codes "json"))
-unfolding clap_on_literals
-tells_json = refl
-
-tells_no_hazards : option_map (λ p. first_of (codes "strict") p.1) (subcommand_of mlock_app words) ≡ Some (Some (codes "false"))
-unfolding clap_on_literals
-tells_no_hazards = refl
-
-explains : option_map (λ p. first_of (codes "explain") p.1) (subcommand_of mlock_app explain_words) ≡ Some (Some (codes "true"))
-unfolding clap_on_literals
-explains = refl
-
-explains_nothing : option_map (λ p. first_of (codes "explain") p.1) (subcommand_of mlock_app words) ≡ Some (Some (codes "false"))
-unfolding clap_on_literals
-explains_nothing = refl
-
-tells_as_text : option_map (λ p. first_of (codes "output") p.1) (subcommand_of mlock_app words) ≡ Some (Some (codes "text"))
-unfolding clap_on_literals
-tells_as_text = refl
-
-surveys_as_text : option_map (λ p. first_of (codes "output") p.1) (subcommand_of mlock_app survey_words) ≡ Some (Some (codes "text"))
-unfolding clap_on_literals
-surveys_as_text = refl
-
-suggests_beside : option_map (λ p. first_of (codes "beside") p.1) (subcommand_of mlock_app suggest_words) ≡ Some (Some (codes "r"))
-unfolding clap_on_literals
-suggests_beside = refl
-
-suggests_for_routines : option_map (λ p. all_of (codes "ROUTINE") p.1) (subcommand_of mlock_app suggest_words) ≡ Some (Some (codes "A.m" ∷ codes "B.m" ∷ []))
-unfolding clap_on_literals
-suggests_for_routines = refl
-
-suggests_beside_nothing : option_map (λ p. first_of (codes "beside") p.1) (subcommand_of mlock_app (codes "mlock" ∷ codes "suggest" ∷ codes "A.m" ∷ [])) ≡ Some None
-unfolding clap_on_literals
-suggests_beside_nothing = refl
-
--- words that are taken, and words that are not
-takes_words : takes mlock_app words ≡ true
-unfolding clap_on_literals
-takes_words = refl
-
-takes_no_command : takes mlock_app (codes "mlock" ∷ []) ≡ false
-unfolding clap_on_literals
-takes_no_command = refl
-
-takes_no_routine : takes mlock_app (codes "mlock" ∷ codes "check" ∷ codes "r" ∷ codes "c" ∷ []) ≡ false
-unfolding clap_on_literals
-takes_no_routine = refl
-
-takes_no_events : takes mlock_app (codes "mlock" ∷ codes "replay" ∷ codes "r" ∷ []) ≡ false
-unfolding clap_on_literals
-takes_no_events = refl
-
-takes_workers : takes mlock_app workers_words ≡ true
-unfolding clap_on_literals
-takes_workers = refl
-
-takes_no_workers : takes mlock_app (codes "mlock" ∷ codes "verify" ∷ codes "r" ∷ codes "A.m" ∷ codes "--workers=0" ∷ []) ≡ true
-unfolding clap_on_literals
-takes_no_workers = refl
-
-takes_no_more_bits : takes mlock_app (codes "mlock" ∷ codes "verify" ∷ codes "r" ∷ codes "A.m" ∷ codes "--workers" ∷ codes "4294967296" ∷ []) ≡ false
-unfolding clap_on_literals
-takes_no_more_bits = refl
-
-takes_no_empty_number : takes mlock_app (codes "mlock" ∷ codes "verify" ∷ codes "r" ∷ codes "A.m" ∷ codes "--workers" ∷ [] ∷ []) ≡ false
-unfolding clap_on_literals
-takes_no_empty_number = refl
-
-takes_workers_once : takes mlock_app (codes "mlock" ∷ codes "verify" ∷ codes "r" ∷ codes "A.m" ∷ codes "--workers=1" ∷ codes "--workers=1" ∷ []) ≡ false
-unfolding clap_on_literals
-takes_workers_once = refl
-
-makes_without_workers : takes mlock_app (codes "mlock" ∷ codes "make" ∷ codes "r" ∷ codes "A.m" ∷ codes "--workers=1" ∷ []) ≡ false
-unfolding clap_on_literals
-makes_without_workers = refl
-
-replays_without_workers : takes mlock_app (codes "mlock" ∷ codes "replay" ∷ codes "r" ∷ codes "e" ∷ codes "A.m" ∷ codes "--workers=1" ∷ []) ≡ false
-unfolding clap_on_literals
-replays_without_workers = refl
-
-makes_without_output : takes mlock_app (codes "mlock" ∷ codes "make" ∷ codes "r" ∷ codes "A.m" ∷ codes "--output=json" ∷ []) ≡ false
-unfolding clap_on_literals
-makes_without_output = refl
-
-surveys_without_strictness : takes mlock_app (codes "mlock" ∷ codes "survey" ∷ codes "A.m" ∷ codes "--strict" ∷ []) ≡ false
-unfolding clap_on_literals
-surveys_without_strictness = refl
-
-takes_code : takes mlock_app page_words ≡ true
-unfolding clap_on_literals
-takes_code = refl
-
-takes_one_code : takes mlock_app (codes "mlock" ∷ codes "explain" ∷ codes "701" ∷ codes "702" ∷ []) ≡ false
-unfolding clap_on_literals
-takes_one_code = refl
-
-takes_format : takes mlock_app first_words ≡ true
-unfolding clap_on_literals
-takes_format = refl
-
-takes_no_third : takes mlock_app (codes "mlock" ∷ codes "convert" ∷ codes "--format" ∷ codes "3" ∷ codes "c" ∷ []) ≡ false
-unfolding clap_on_literals
-takes_no_third = refl
-
-takes_one_certificate : takes mlock_app (codes "mlock" ∷ codes "convert" ∷ codes "c" ∷ codes "d" ∷ []) ≡ false
-unfolding clap_on_literals
-takes_one_certificate = refl
-
-verifies_without_format : takes mlock_app (codes "mlock" ∷ codes "verify" ∷ codes "r" ∷ codes "A.m" ∷ codes "--format=2" ∷ []) ≡ false
-unfolding clap_on_literals
-verifies_without_format = refl
+use Rattle.mlk_cli.specs.CommandLine.{IsAsked, IsNumber, IsNumberOf, IsFormat, IsWalk, IsOutput, NamesOutput, GivesOutput, IsFlag, IsSurveyOutput, IsSurvey, IsSuggestion, IsStubs, IsConversion, IsProgramGiven, IsGiven, GivesNumber}
 
 -- a number of workers, after a plus and zeros
 plus_and_zeros : IsNumber (codes "+004") 4
@@ -300,6 +91,12 @@ suggest-not-convert e = let bad : ◌≡◌ {A = ℕ} 99 115 = starts_suggest (c
 suggest-not-explain : codes "suggest" ≡ codes "explain" → ⊥
 suggest-not-explain e = let bad : ◌≡◌ {A = ℕ} 101 115 = starts_suggest (codes "explain") (sym e) in omega arith
 
+starts_stubs : (text : Text) → text ≡ codes "stubs" → slice_index text 0 ≡ 115
+starts_stubs text is = rw is refl
+
+stubs-not-check : codes "stubs" ≡ codes "check" → ⊥
+stubs-not-check e = let bad : ◌≡◌ {A = ℕ} 99 115 = starts_stubs (codes "check") (sym e) in omega arith
+
 -- what a word of a command line names
 pub named-output : (rows : List Row) (text : Text) (r : Option Output) → first_of (codes "output") rows ≡ Some text → NamesOutput text r → GivesOutput rows r
 named-output rows text None is none = λ output h. none output (some_same (sym is ∙ h))
@@ -360,6 +157,7 @@ converts-nothing name rows is none (request.Program program) h = no-program name
 converts-nothing name rows is none (request.Convert certificate format) h = none certificate format h.1
 converts-nothing name rows is none (request.Survey survey) h = let bad = sym is ∙ h.0 in cc bad
 converts-nothing name rows is none (request.Suggest suggestion) h = suggest-not-convert (sym h.0 ∙ is)
+converts-nothing name rows is none (request.Stubs stubs) h = let bad = sym is ∙ h.0 in cc bad
 converts-nothing name rows is none (request.Explain code) h = explain-not-convert (sym h.0 ∙ is)
 
 no-survey-of-program : (name : Text) (rows : List Row) → name ≡ codes "survey" → (a : Asked) → IsAsked name rows a → ⊥
@@ -374,6 +172,7 @@ surveys-nothing name rows is none (request.Program program) h = no-survey-of-pro
 surveys-nothing name rows is none (request.Convert certificate format) h = let bad = sym is ∙ h.0 in cc bad
 surveys-nothing name rows is none (request.Survey survey) h = none survey h.1
 surveys-nothing name rows is none (request.Suggest suggestion) h = let bad = sym is ∙ h.0 in cc bad
+surveys-nothing name rows is none (request.Stubs stubs) h = let bad = sym is ∙ h.0 in cc bad
 surveys-nothing name rows is none (request.Explain code) h = let bad = sym is ∙ h.0 in cc bad
 
 no-suggestion-of-program : (name : Text) (rows : List Row) → name ≡ codes "suggest" → (a : Asked) → IsAsked name rows a → ⊥
@@ -388,7 +187,23 @@ suggests-nothing name rows is none (request.Program program) h = no-suggestion-o
 suggests-nothing name rows is none (request.Convert certificate format) h = suggest-not-convert (sym is ∙ h.0)
 suggests-nothing name rows is none (request.Survey survey) h = let bad = sym is ∙ h.0 in cc bad
 suggests-nothing name rows is none (request.Suggest suggestion) h = none suggestion h.1
+suggests-nothing name rows is none (request.Stubs stubs) h = let bad = sym is ∙ h.0 in cc bad
 suggests-nothing name rows is none (request.Explain code) h = suggest-not-explain (sym is ∙ h.0)
+
+no-stubs-of-program : (name : Text) (rows : List Row) → name ≡ codes "stubs" → (a : Asked) → IsAsked name rows a → ⊥
+no-stubs-of-program name rows is (asked.Check path workers style) h = stubs-not-check (sym is ∙ h.0)
+no-stubs-of-program name rows is (asked.Make format) h = let bad = sym is ∙ h.0 in cc bad
+no-stubs-of-program name rows is (asked.Verify workers style) h = let bad = sym is ∙ h.0 in cc bad
+no-stubs-of-program name rows is (asked.Replay path) h = let bad = sym is ∙ h.0 in cc bad
+
+pub stubs-nothing : (name : Text) (rows : List Row) → name ≡ codes "stubs" → ((stubs : StubsRequest) → IsStubs rows stubs → ⊥)
+    → (r : Request) → IsGiven name rows r → ⊥
+stubs-nothing name rows is none (request.Program program) h = no-stubs-of-program name rows is program.asked h.asked
+stubs-nothing name rows is none (request.Convert certificate format) h = let bad = sym is ∙ h.0 in cc bad
+stubs-nothing name rows is none (request.Survey survey) h = let bad = sym is ∙ h.0 in cc bad
+stubs-nothing name rows is none (request.Suggest suggestion) h = let bad = sym is ∙ h.0 in cc bad
+stubs-nothing name rows is none (request.Stubs stubs) h = none stubs h.1
+stubs-nothing name rows is none (request.Explain code) h = let bad = sym is ∙ h.0 in cc bad
 
 -- `explain` asks for nothing but a page, and without a code for nothing.
 no-explained-program : (name : Text) (rows : List Row) → name ≡ codes "explain" → (a : Asked) → IsAsked name rows a → ⊥
@@ -402,12 +217,14 @@ explains-nothing name rows is none (request.Program program) h = no-explained-pr
 explains-nothing name rows is none (request.Convert certificate format) h = explain-not-convert (sym is ∙ h.0)
 explains-nothing name rows is none (request.Survey survey) h = let bad = sym is ∙ h.0 in cc bad
 explains-nothing name rows is none (request.Suggest suggestion) h = suggest-not-explain (sym h.0 ∙ is)
+explains-nothing name rows is none (request.Stubs stubs) h = let bad = sym is ∙ h.0 in cc bad
 explains-nothing name rows is none (request.Explain code) h = let bad = none ∙ h.1 in cc bad
 
 pub no-request : (name : Text) (rows : List Row) → (name ≡ codes "convert" → ⊥) → (name ≡ codes "survey" → ⊥) → (name ≡ codes "explain" → ⊥) → (name ≡ codes "suggest" → ⊥)
-    → ((program : ProgramRequest) → IsProgramGiven name rows program → ⊥) → (r : Request) → IsGiven name rows r → ⊥
-no-request name rows no-convert no-survey no-explain no-suggest none (request.Program program) h = none program h
-no-request name rows no-convert no-survey no-explain no-suggest none (request.Convert certificate format) h = no-convert h.0
-no-request name rows no-convert no-survey no-explain no-suggest none (request.Survey survey) h = no-survey h.0
-no-request name rows no-convert no-survey no-explain no-suggest none (request.Suggest suggestion) h = no-suggest h.0
-no-request name rows no-convert no-survey no-explain no-suggest none (request.Explain code) h = no-explain h.0
+    → (name ≡ codes "stubs" → ⊥) → ((program : ProgramRequest) → IsProgramGiven name rows program → ⊥) → (r : Request) → IsGiven name rows r → ⊥
+no-request name rows no-convert no-survey no-explain no-suggest no-stubs none (request.Program program) h = none program h
+no-request name rows no-convert no-survey no-explain no-suggest no-stubs none (request.Convert certificate format) h = no-convert h.0
+no-request name rows no-convert no-survey no-explain no-suggest no-stubs none (request.Survey survey) h = no-survey h.0
+no-request name rows no-convert no-survey no-explain no-suggest no-stubs none (request.Suggest suggestion) h = no-suggest h.0
+no-request name rows no-convert no-survey no-explain no-suggest no-stubs none (request.Stubs stubs) h = no-stubs h.0
+no-request name rows no-convert no-survey no-explain no-suggest no-stubs none (request.Explain code) h = no-explain h.0

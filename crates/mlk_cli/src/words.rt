@@ -1,17 +1,23 @@
 // The command line, as `clap` reads it.
 
-ghost use Rattle.std.specs.Prelude.{◌≡◌, IfOk, IfErr, true};
-ghost use Rattle.clap.specs.Words.{found_of, rows_of, kind_of};
+ghost use Rattle.std.specs.Prelude.{◌≡◌, ◌≢◌, [], codes, IfOk, IfErr, true, unwrap_or};
+ghost use Rattle.clap.specs.Words.{all_of, found_of, rows_of, kind_of};
 ghost use Rattle.clap.specs.Takes.{takes};
 ghost use Rattle.clap.specs.declared.error.kind.ErrorKind.TheVariants.{OutOfMemory};
 ghost use Rattle.clap.specs.Simple.{subcommand_rows_of};
-ghost use Rattle.mlk_cli.specs.CommandLine.{mlock_app, GivesNumber, GivesFormat, NamesOutput, GivesOutput, GivesFlag, GivesStyle, GivesWalk, GivesSurveyOutput, GivesAsked, GivesProgram, GivesSurvey, GivesSuggestion, GivesConversion, GivesPaths, GivesRequest, texts_of, Asks, IsRequest, LacksRequest};
+ghost use Rattle.mlk_cli_grammar.specs.Grammar.{mlock_app};
+ghost use Rattle.mlk_cli.specs.CommandLine.{GivesNumber, GivesFormat, NamesOutput, GivesOutput, GivesFlag, GivesStyle, GivesWalk, GivesSurveyOutput, GivesAsked, GivesProgram, GivesSurvey, GivesSuggestion, GivesStubs, GivesConversion, GivesPaths, GivesRequest, bytes_of, texts_of, Asks, IsRequest, LacksRequest};
 
-use crate::grammar::grammar;
-use crate::help::NO_REQUEST;
 use clap::error::ErrorKind;
 use clap::{ArgMatches, Error};
+use mlk_cli_grammar::grammar;
 use std::alloc::{AllocError, Global};
+
+// What is said if `clap` takes the words and they are those of no request.
+const NO_REQUEST: &str = "error: these values don't go together, or there is no such value: '--output' of 'check' and 'verify' is text, json or sarif, that of 'survey' is text or json; '--explain' goes with text; '--stubs' goes without '--beside'
+
+For more information, try '--help'.
+";
 
 /// The format of a certificate's text.
 #[derive(Clone, Copy, Debug, PartialEq, Eq)]
@@ -84,6 +90,16 @@ pub struct SurveyRequest<'a> {
 #[derive(Drop, Debug)]
 pub struct SuggestRequest<'a> {
     pub beside: Option<&'a str>,
+    /// whether the stubs that the routines need are wanted in place of rules
+    pub stubs: bool,
+    pub routines: Vec<&'a str>,
+}
+
+/// The paths of the routines whose calls need stubs, and the names of the routines that get one: if there is none, those that are
+/// called and not given.
+#[derive(Drop, Debug)]
+pub struct StubsRequest<'a> {
+    pub names: Vec<&'a str>,
     pub routines: Vec<&'a str>,
 }
 
@@ -98,6 +114,7 @@ pub enum Request<'a> {
     },
     Survey(SurveyRequest<'a>),
     Suggest(SuggestRequest<'a>),
+    Stubs(StubsRequest<'a>),
     /// the page of the code that this word names
     Explain(&'a str),
 }
@@ -320,9 +337,82 @@ fn suggestion_of<'a>(
     let Some(paths) = matches.get_strs("ROUTINE") else {
         return Ok(None);
     };
+    let Some(stubs) = flag_of(matches, "stubs") else {
+        return Ok(None);
+    };
     let beside = matches.get_str("beside");
+    if stubs && beside.is_some() {
+        return Ok(None);
+    }
     let routines = Vec::from_slice(alloc, paths)?;
-    Ok(Some(SuggestRequest { beside, routines }))
+    Ok(Some(SuggestRequest {
+        beside,
+        stubs,
+        routines,
+    }))
+}
+
+// The words that a command was given by the option of this name; none if it was not given.
+fn words_of<'a>(
+    alloc: Global,
+    matches: &ArgMatches<'a>,
+    option: &str,
+) -> Result<Vec<&'a str>, AllocError>
+    ensures { IfOk result (λ words. unwrap_or (all_of option.now (rows_of (found_of matches.now))) [] ≡ bytes_of words.items) }
+{
+    match matches.get_strs(option) {
+        None => Ok(Vec::new(alloc)),
+        Some(words) => Vec::from_slice(alloc, words),
+    }
+}
+
+// The stubs that are asked for.
+fn stubs_of<'a>(
+    alloc: Global,
+    matches: &ArgMatches<'a>,
+) -> Result<Option<StubsRequest<'a>>, AllocError>
+    ensures { IfOk result (GivesStubs (rows_of (found_of matches.now))) }
+{
+    let Some(paths) = matches.get_strs("ROUTINE") else {
+        return Ok(None);
+    };
+    let names = words_of(alloc, matches, "for")?;
+    let routines = Vec::from_slice(alloc, paths)?;
+    Ok(Some(StubsRequest { names, routines }))
+}
+
+// What the command of this name, which reads routines, asks for, by what it was given.
+fn routines_request<'a>(
+    alloc: Global,
+    name: &str,
+    matches: &ArgMatches<'a>,
+) -> Result<Option<Request<'a>>, AllocError>
+    requires no_conversion { name.now ≢ codes "convert" }
+    requires no_page { name.now ≢ codes "explain" }
+    ensures { IfOk result (GivesPaths name.now (rows_of (found_of matches.now))) }
+{
+    if name == "survey" {
+        let Some(survey) = survey_of(alloc, matches)? else {
+            return Ok(None);
+        };
+        return Ok(Some(Request::Survey(survey)));
+    }
+    if name == "suggest" {
+        let Some(suggestion) = suggestion_of(alloc, matches)? else {
+            return Ok(None);
+        };
+        return Ok(Some(Request::Suggest(suggestion)));
+    }
+    if name == "stubs" {
+        let Some(stubs) = stubs_of(alloc, matches)? else {
+            return Ok(None);
+        };
+        return Ok(Some(Request::Stubs(stubs)));
+    }
+    let Some(program) = program_of(alloc, name, matches)? else {
+        return Ok(None);
+    };
+    Ok(Some(Request::Program(program)))
 }
 
 // What the command of this name asks for, by what it was given.
@@ -342,28 +432,13 @@ fn given<'a>(
             format,
         }));
     }
-    if name == "survey" {
-        let Some(survey) = survey_of(alloc, matches)? else {
-            return Ok(None);
-        };
-        return Ok(Some(Request::Survey(survey)));
-    }
     if name == "explain" {
         let Some(code) = matches.get_str("CODE") else {
             return Ok(None);
         };
         return Ok(Some(Request::Explain(code)));
     }
-    if name == "suggest" {
-        let Some(suggestion) = suggestion_of(alloc, matches)? else {
-            return Ok(None);
-        };
-        return Ok(Some(Request::Suggest(suggestion)));
-    }
-    let Some(program) = program_of(alloc, name, matches)? else {
-        return Ok(None);
-    };
-    Ok(Some(Request::Program(program)))
+    routines_request(alloc, name, matches)
 }
 
 fn request_of<'a>(
@@ -386,7 +461,6 @@ fn read_words<'a>(alloc: Global, words: &'a [String]) -> Result<Option<Request<'
     Ok(request_of(alloc, &matches)?)
 }
 
-// What is said where `clap` takes the words and they are those of no request.
 fn no_request(alloc: Global) -> UsageError {
     match String::from_str(alloc, NO_REQUEST) {
         Ok(text) => UsageError::Usage(text),
