@@ -106,6 +106,18 @@ pub not-flag : (option : Text) (rows : List Row) (text : Text) → first_of opti
 not-flag option rows text is no-true no-false true h = no-true (some_same (sym is ∙ h))
 not-flag option rows text is no-true no-false false h = no-false (some_same (sym is ∙ h))
 
+one-flag : (option : Text) (rows : List Row) (a b : Bool) → IsFlag option rows a → IsFlag option rows b → a ≡ b
+one-flag option rows true true g h = refl
+one-flag option rows false false g h = refl
+one-flag option rows true false g h = let bad = sym g ∙ h in cc bad
+one-flag option rows false true g h = let bad = sym g ∙ h in cc bad
+
+-- stubs are not suggested beside rules
+pub no-stubs-beside : (rows : List Row) (path : Text) → IsFlag (codes "stubs") rows true → first_of (codes "beside") rows ≡ Some path → (s : SuggestRequest) → IsSuggestion rows s → ⊥
+no-stubs-beside rows path stubs beside s given =
+    let wanted : s.stubs ≡ true = one-flag (codes "stubs") rows s.stubs true given.stubs stubs in
+    let bad = sym beside ∙ given.beside ∙ ap (option_map (λ p. p.now)) (given.may_stub wanted) in cc bad
+
 pub no-survey-output : (rows : List Row) → ((output : Output) → IsOutput rows output → ⊥) → (output : SurveyOutput) → IsSurveyOutput rows output → ⊥
 no-survey-output rows none surveyed.Text h = none output.Text h
 no-survey-output rows none surveyed.Json h = none output.Json h

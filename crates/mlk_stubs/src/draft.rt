@@ -8,9 +8,9 @@ use mlk_report_text::{push_all, text_of};
 use mlk_text::push_sparing;
 use std::alloc::{AllocError, Global};
 
-/// The comment on a stub's first line, and the line below it.
-const PREMISE: &str = " ; mlock stub: it touches no global and no lock, and changes nothing but $TEST and what is passed by reference
- ; If the routine that it stands for does more, write that down here: a `yes` rests on this text.
+/// The comment on the first line of a stub, and the line below it.
+const PREMISE: &str = " ; mlock stub: it touches no global and no lock, and changes only $TEST and what is passed by reference
+ ; If the real routine does more, add it here: a `yes` rests on this text.
 ";
 
 /// The text of a stub, before it is read back.
@@ -94,14 +94,15 @@ fn quit_of(used: &LabelUse<'_>) -> &'static str {
     }
 }
 
-// Appends a comment that counts the calls of a label, and the end of the line.
+// Appends a comment that says at how many places a label is called, and the end of the line.
 fn push_calls(text: &mut Vec<u8>, used: &LabelUse<'_>) -> Result<(), AllocError> {
-    push_all(text, &[Words(" ; calls "), Number(used.calls.len())])?;
-    if let Some(first) = used.first_call() {
-        let at = At(first.line, first.column);
-        push_all(text, &[Words(", first "), Bytes(first.routine), Words(" "), at])?;
-    }
-    push_all(text, &[Words("\n")])
+    let Some(first) = used.first_call() else {
+        return push_all(text, &[Words(" ; not called\n")]);
+    };
+    let count = Number(used.calls.len());
+    let at = At(first.line, first.column);
+    push_all(text, &[Words(" ; called at "), count, Words(", first ")])?;
+    push_all(text, &[Bytes(first.routine), Words(" "), at, Words("\n")])
 }
 
 // Appends what a label does, from the blank before its first command to the end of its last line.

@@ -9,10 +9,15 @@ pub returns-in_default : goal.returns-in_default
 returns-in_default c = λ suggestion given.
     let bad = c.in_default.ensures ∙ raw_values-rows (found_of c.args.matches.now) (codes "ROUTINE") ∙ given.routines in cc bad
 
+pub returns-in_default-flag_of : goal.returns-in_default-flag_of
+returns-in_default-flag_of c = λ suggestion given. c.in_default-flag_of.ensures suggestion.stubs given.stubs
+
 pub returns : goal.returns
 returns c =
     let found = found_of c.args.matches.now in
     record {
       routines = sym (raw_values-rows found (codes "ROUTINE")) ∙ sym c.get_strs.ensures ∙ ap (option_map (λ s. bytes_of s.now)) c.in-Some.is ∙ ap (λ l. Some (bytes_of l)) (sym c.in_ok-routines.ensures.items);
+      stubs = c.in-Some-flag_of.ensures;
+      may_stub = search rules;
       beside = sym (first_value-rows found (codes "beside")) ∙ sym c.get_str-beside.ensures;
     }
