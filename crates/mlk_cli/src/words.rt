@@ -14,7 +14,8 @@ use mlk_cli_grammar::grammar;
 use std::alloc::{AllocError, Global};
 
 // What is said if `clap` takes the words and they are those of no request.
-const NO_REQUEST: &str = "error: these values don't go together, or there is no such value: '--output' of 'check' and 'verify' is text, json or sarif, that of 'survey' is text or json; '--explain' goes with text; '--stubs' goes without '--beside'
+const NO_REQUEST: &str =
+    "error: these values don't go together, or there is no such value: '--output' of 'check' and 'verify' is text, json or sarif, that of 'survey' is text or json; '--explain' goes with text; '--stubs' goes without '--beside'
 
 For more information, try '--help'.
 ";

@@ -18,11 +18,7 @@ pub(crate) struct Collection<'a> {
 
 impl<'a> Collection<'a> {
     // Adds a label, unless it is there.
-    fn add_label(
-        &mut self,
-        label: StubLabel<'a>,
-        used: LabelUse<'a>,
-    ) -> Result<(), AllocError> {
+    fn add_label(&mut self, label: StubLabel<'a>, used: LabelUse<'a>) -> Result<(), AllocError> {
         if self.labels.contains_key(&label) {
             return Ok(());
         }

@@ -9,7 +9,8 @@ use mlk_text::push_sparing;
 use std::alloc::{AllocError, Global};
 
 /// The comment on the first line of a stub, and the line below it.
-const PREMISE: &str = " ; mlock stub: it touches no global and no lock, and changes only $TEST and what is passed by reference
+const PREMISE: &str =
+    " ; mlock stub: it touches no global and no lock, and changes only $TEST and what is passed by reference
  ; If the real routine does more, add it here: a `yes` rests on this text.
 ";
 
@@ -45,11 +46,7 @@ fn formal_name(
 }
 
 // The first `count` formals of a label.
-fn formals_of(
-    alloc: Global,
-    used: &LabelUse<'_>,
-    count: usize,
-) -> Result<Vec<Formal>, AllocError> {
+fn formals_of(alloc: Global, used: &LabelUse<'_>, count: usize) -> Result<Vec<Formal>, AllocError> {
     let mut formals = Vec::new(alloc);
     for index in 0..count {
         let formal = Formal {
@@ -76,7 +73,14 @@ fn push_changes(text: &mut Vec<u8>, formals: &[Formal]) -> Result<(), AllocError
     let mut before = " SET ";
     for formal in formals {
         if formal.is_by_reference {
-            push_all(text, &[Words(before), Bytes(formal.name.as_slice()), Words("=$RANDOM(100)")])?;
+            push_all(
+                text,
+                &[
+                    Words(before),
+                    Bytes(formal.name.as_slice()),
+                    Words("=$RANDOM(100)"),
+                ],
+            )?;
             before = ",";
         }
     }

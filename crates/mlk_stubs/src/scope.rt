@@ -27,10 +27,7 @@ pub(crate) struct Scope<'a> {
 }
 
 // The names of the routines that are given.
-fn given_names<'a>(
-    alloc: Global,
-    read: &'a PartlyRead,
-) -> Result<BTreeSet<&'a [u8]>, AllocError> {
+fn given_names<'a>(alloc: Global, read: &'a PartlyRead) -> Result<BTreeSet<&'a [u8]>, AllocError> {
     let mut names = BTreeSet::new(alloc);
     for routine in &read.routines {
         names.insert(routine.name.as_bytes())?;
@@ -42,10 +39,7 @@ fn given_names<'a>(
 }
 
 // The names of the routines that are given and can't be read.
-fn unread_names<'a>(
-    alloc: Global,
-    read: &'a PartlyRead,
-) -> Result<BTreeSet<&'a [u8]>, AllocError> {
+fn unread_names<'a>(alloc: Global, read: &'a PartlyRead) -> Result<BTreeSet<&'a [u8]>, AllocError> {
     let mut names = BTreeSet::new(alloc);
     for fault in read.cuts.iter().chain(read.unread.iter()) {
         let name = fault.place.routine.as_bytes();
