@@ -1,5 +1,5 @@
 -- How reports and refusals are printed. This project's own choice.
-use Rattle.std.specs.Prelude.{ℕ, ◌≡◌, ◌++◌, ◌==◌, ◌&&◌, length, List, [], ◌∷◌, Bool, true, false, Option, None, codes}
+use Rattle.std.specs.Prelude.{ℕ, ◌≡◌, ◌+◌, ◌++◌, ◌==◌, ◌&&◌, length, List, [], ◌∷◌, Bool, true, false, Option, None, codes}
 use Rattle.mlk_syntax.specs.Trees.{RoutineTree}
 use Rattle.mlk_walk.specs.declared.report.Row.{Row}
 use Rattle.mlk_hazards.specs.declared.hazard.HazardAt.{HazardAt}
@@ -8,6 +8,7 @@ use Rattle.mlk_cli.specs.declared.words.Output.{Output}
 use Rattle.mlk_cli.specs.declared.words.Output.TheVariants.{Text, Json, Sarif}
 use Rattle.mlk_cli.specs.declared.words.ReportStyle.{ReportStyle}
 use Rattle.mlk_pool.specs.Texts.{report_text, last_line, place_text, space, line_end}
+use Rattle.mlk_output.specs.Documents.{IsJsonReport, IsSarifReport}
 
 -- `hazard ROUTINE line:column NAME`
 abbrev pub hazard_line : HazardAt → List ℕ
@@ -26,11 +27,19 @@ AreReported false hazards = hazards ≡ []
 abbrev pub passes : List Row → List HazardAt → Bool
 passes rows hazards = (length rows == 0) && (length hazards == 0)
 
--- The text of a report, with a line for each hazard. What JSON and SARIF say is not said.
+-- The text is one JSON object on lines: its answer says whether there is a fault, and it lists as many as there are.
+abbrev pub IsJson : List Row → List ℕ → Type 0
+IsJson rows text = (document : List ℕ) × IsJsonReport (length rows) document × (text ≡ document ++ line_end)
+
+-- The text is one SARIF document on lines, with a result for each fault and each hazard.
+abbrev pub IsSarif : List Row → List HazardAt → List ℕ → Type 0
+IsSarif rows hazards text = (document : List ℕ) × IsSarifReport (length rows + length hazards) document × (text ≡ document ++ line_end)
+
+-- The text of a report, with a line for each hazard; or it as JSON or SARIF.
 abbrev pub IsReportIn : Output → List RoutineTree → List Row → List HazardAt → List ℕ → Type 0
 IsReportIn Text trees rows hazards text = text ≡ report_text trees rows ++ hazard_lines hazards
-IsReportIn Json trees rows hazards text = Unit {0}
-IsReportIn Sarif trees rows hazards text = Unit {0}
+IsReportIn Json trees rows hazards text = IsJson rows text
+IsReportIn Sarif trees rows hazards text = IsSarif rows hazards text
 
 -- The text of a report whose faults are explained. What it says of each fault is not said; then come the answer, perhaps a note,
 -- and a line for each hazard.

@@ -1,6 +1,7 @@
 // Refusals in the form that is asked for.
 
-ghost use Rattle.std.specs.Prelude.{IfOk};
+ghost use Rattle.std.specs.Prelude.{◌≡◌, ◌++◌, IfOk, string_bytes};
+ghost use Rattle.mlk_pool.specs.Texts.{line_end};
 ghost use Rattle.mlk_forms.specs.Rendering.{IsNoticed};
 
 use mlk_cli::Output;
@@ -24,7 +25,9 @@ pub fn render_notice(
 }
 
 /// A text of lines, with an end after the last.
-pub(crate) fn with_end(text: String) -> Result<ReportText, AllocError> {
+pub(crate) fn with_end(text: String) -> Result<ReportText, AllocError>
+    ensures { IfOk result (λ ended. ended ≡ string_bytes text ++ line_end) }
+{
     let mut bytes = text.into_bytes();
     bytes.push(b'\n')?;
     Ok(ReportText::of(bytes))

@@ -3,7 +3,7 @@
 ghost use Rattle.std.specs.Prelude.{◌≡◌, ◌++◌, IfOk, OnOk, map};
 ghost use Rattle.mlk_syntax.specs.Views.{routine_of};
 ghost use Rattle.mlk_pool.specs.Texts.{last_line, report_text};
-ghost use Rattle.mlk_forms.specs.Rendering.{AreReported, IsExplained, IsReportIn, IsReportAs, IsRendered, hazard_line, hazard_lines, passes};
+ghost use Rattle.mlk_forms.specs.Rendering.{AreReported, IsExplained, IsJson, IsSarif, IsReportIn, IsReportAs, IsRendered, hazard_line, hazard_lines, passes};
 
 use crate::notice::with_end;
 use mlk_cli::{Output, ReportStyle};
@@ -146,25 +146,44 @@ fn explained_text(
     Ok(text)
 }
 
-// The report as JSON, or as SARIF, each fault with what `grounds` know of it.
-fn machine_text(
+// The faults, each with what `grounds` know of it, and the hazards.
+fn findings_of<'a>(
+    alloc: Global,
+    grounds: &Grounds<'_>,
+    report: &'a Report,
+    hazards: &'a [HazardAt<'a>],
+    is_strict: bool,
+) -> Result<Findings<'a>, AllocError>
+    ensures { IfOk result (λ findings. (findings.report.now ≡ report.now) × (findings.hazards.now ≡ hazards.now)) }
+{
+    let stories = stories_in(alloc, grounds, report)?;
+    Ok(Findings {
+        report,
+        stories,
+        hazards,
+        is_strict,
+    })
+}
+
+fn json_text(
     alloc: Global,
     inputs: &Inputs<'_>,
-    report: &Report,
-    style: ReportStyle,
-    hazards: &[HazardAt<'_>],
-    grounds: &Grounds<'_>,
-) -> Result<ReportText, AllocError> {
-    let stories = stories_in(alloc, grounds, report)?;
-    let findings = Findings {
-        report,
-        stories: stories.as_slice(),
-        hazards: if style.is_strict { Some(hazards) } else { None },
-    };
-    let text = match style.output {
-        Output::Sarif => report_sarif(alloc, inputs, &findings)?,
-        Output::Json | Output::Text => report_json(alloc, inputs, &findings)?,
-    };
+    findings: &Findings<'_>,
+) -> Result<ReportText, AllocError>
+    ensures { IfOk result (IsJson findings.now.report.now) }
+{
+    let text = report_json(alloc, inputs, findings)?;
+    with_end(text)
+}
+
+fn sarif_text(
+    alloc: Global,
+    inputs: &Inputs<'_>,
+    findings: &Findings<'_>,
+) -> Result<ReportText, AllocError>
+    ensures { IfOk result (IsSarif findings.now.report.now findings.now.hazards.now) }
+{
+    let text = report_sarif(alloc, inputs, findings)?;
     with_end(text)
 }
 
@@ -181,9 +200,14 @@ fn text_in(
 {
     match style.output {
         Output::Text => plain_text(alloc, inputs.routines, report, hazards),
-        Output::Json | Output::Sarif => machine_text(
-            alloc, inputs, report, style, hazards, grounds,
-        ),
+        Output::Json => {
+            let findings = findings_of(alloc, grounds, report, hazards, style.is_strict)?;
+            json_text(alloc, inputs, &findings)
+        }
+        Output::Sarif => {
+            let findings = findings_of(alloc, grounds, report, hazards, style.is_strict)?;
+            sarif_text(alloc, inputs, &findings)
+        }
     }
 }
 

@@ -1,5 +1,9 @@
 // Reports and refusals as JSON.
 
+ghost use Rattle.std.specs.Prelude.{◌≡◌, IfOk, length, string_bytes};
+ghost use Rattle.mlk_output.specs.Documents.{IsJsonReport};
+
+use crate::document::{Members, json_document};
 use crate::notice::{Notice, Place};
 use crate::row::{Inputs, RoutineNumbers};
 use crate::story::{Findings, add_story, texts_value};
@@ -8,7 +12,7 @@ use mlk_explain::Story;
 use mlk_hazards::HazardAt;
 use mlk_report_text::{Field, object};
 use mlk_walk::Row;
-use serde_json::Value;
+use serde_json::{Map, Value, put};
 use std::alloc::{AllocError, Global};
 
 fn row_value(
@@ -35,17 +39,20 @@ fn row_value(
     object(alloc, members)
 }
 
-fn rows_value(
+fn row_values(
     alloc: Global,
     inputs: &Inputs<'_>,
     findings: &Findings<'_>,
-) -> Result<Value, AllocError> {
+) -> Result<Vec<Value>, AllocError>
+    ensures { IfOk result (λ values. length values.items ≡ length findings.now.report.now) }
+{
     let rows = findings.report.rows();
     let mut values = Vec::with_capacity(alloc, rows.len())?;
-    for (number, row) in rows.iter().enumerate() {
-        values.push(row_value(alloc, inputs, row, findings.story(number))?)?;
+    for row in rows {
+        let story = findings.story(values.len());
+        values.push(row_value(alloc, inputs, row, story)?)?;
     }
-    Ok(Value::Array(values))
+    Ok(values)
 }
 
 fn hazard_value(
@@ -81,35 +88,36 @@ fn hazards_value(
     Ok(Value::Array(values))
 }
 
+// The members of a report besides its answer and its faults.
+fn other_members(
+    alloc: Global,
+    inputs: &Inputs<'_>,
+    findings: &Findings<'_>,
+) -> Result<Members, AllocError> {
+    let mut members = Map::new(alloc);
+    if findings.is_strict {
+        let hazards = hazards_value(alloc, inputs, findings.hazards)?;
+        put(&mut members, alloc, "hazards", hazards)?;
+    }
+    if !inputs.free_reads.is_empty() {
+        let free_reads = texts_value(alloc, inputs.free_reads)?;
+        put(&mut members, alloc, "free_reads", free_reads)?;
+    }
+    Ok(members)
+}
+
 /// Writes `findings` as one JSON object, on lines with indents: `answer`, which is `yes` or `no`, `faults`, in their order, each
 /// with what is known of it, `hazards`, if these are reported, and `free_reads`, if rules free reads.
 pub fn report_json(
     alloc: Global,
     inputs: &Inputs<'_>,
     findings: &Findings<'_>,
-) -> Result<String, AllocError> {
-    let answer = if findings.report.is_yes() {
-        "yes"
-    } else {
-        "no"
-    };
-    let faults = rows_value(alloc, inputs, findings)?;
-    let hazards = match findings.hazards {
-        Some(hazards) => Field::Value(hazards_value(alloc, inputs, hazards)?),
-        None => Field::Absent,
-    };
-    let free_reads = if inputs.free_reads.is_empty() {
-        Field::Absent
-    } else {
-        Field::Value(texts_value(alloc, inputs.free_reads)?)
-    };
-    let members = vec![in alloc;
-        ("answer", Field::Text(answer)),
-        ("faults", Field::Value(faults)),
-        ("hazards", hazards),
-        ("free_reads", free_reads),
-    ]?;
-    object(alloc, members)?.to_string_pretty(alloc)
+) -> Result<String, AllocError>
+    ensures { IfOk result (λ text. IsJsonReport (length findings.now.report.now) (string_bytes text)) }
+{
+    let faults = row_values(alloc, inputs, findings)?;
+    let others = other_members(alloc, inputs, findings)?;
+    json_document(alloc, faults, others)
 }
 
 fn place_value(alloc: Global, place: &Place<'_>) -> Result<Value, AllocError> {

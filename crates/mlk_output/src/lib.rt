@@ -1,6 +1,7 @@
 //! Reports and refusals for other programs: as one JSON object, and as SARIF 2.1.0, which build servers read.
 #![tactic(auto)]
 
+mod document;
 mod finding;
 mod hash;
 mod hazard;

@@ -1,5 +1,9 @@
 // Reports and refusals as SARIF 2.1.0, the Static Analysis Results Interchange Format of OASIS.
 
+ghost use Rattle.std.specs.Prelude.{◌≡◌, ◌+◌, IfOk, OnOk, length, string_bytes};
+ghost use Rattle.mlk_output.specs.Documents.{IsSarifReport};
+
+use crate::document::{Members, put_text, sarif_document};
 use crate::finding::{Finding, WayStep, fingerprints_value, result_value};
 use crate::hash::{HashedLine, HashedLines, ProgramLines};
 use crate::hazard::hazard_is_what;
@@ -14,11 +18,10 @@ use mlk_hazards::HazardAt;
 use mlk_report_text::Piece::{Bytes, Number, Words};
 use mlk_report_text::{Field, escape_bytes, member, object, text_of};
 use mlk_text::Code;
-use serde_json::{Value, json};
+use mlk_walk::Row;
+use serde_json::{Map, Value, json, put};
 use std::alloc::{AllocError, Global};
 use std::collections::BTreeMap;
-
-const SCHEMA: &str = "https://json.schemastore.org/sarif-2.1.0.json";
 
 // The program's version, which `--version` begins with.
 const VERSION: &str = "0.1.0";
@@ -69,41 +72,91 @@ fn way_of<'a>(
     Ok(way)
 }
 
-// Adds a result for each fault.
-fn add_faults<'a>(
+// The result of a fault, a row of a report.
+fn fault_value<'a>(
+    alloc: Global,
+    inputs: &Inputs<'a>,
+    row: &Row,
+    story: Option<&Story>,
+    lines: &mut ProgramLines<'a>,
+    counts: &mut BTreeMap<Vec<u8>, usize>,
+) -> Result<Value, AllocError> {
+    let code = row.fault.code;
+    lines.look_up(row.entry.routine())?;
+    let rule = rule_id(alloc, code)?;
+    let within = inputs.entry(alloc, row.entry)?;
+    let message = fault_message(alloc, code, story)?;
+    let way = way_of(alloc, inputs, story)?;
+    let finding = Finding {
+        rule,
+        level: "error",
+        message,
+        place: Place {
+            path: inputs.path(row.entry),
+            line: row.fault.line,
+            column: Some(row.fault.column),
+        },
+        line: lines.line(row.fault.line),
+        within,
+        kind: "function",
+        fingerprint: "codeInEntry/v1",
+        way,
+    };
+    result_value(alloc, counts, &finding)
+}
+
+// A result for each fault.
+fn fault_values<'a>(
     alloc: Global,
     inputs: &Inputs<'a>,
     findings: &Findings<'_>,
     lines: &mut ProgramLines<'a>,
-    values: &mut Vec<Value>,
-) -> Result<(), AllocError> {
+) -> Result<Vec<Value>, AllocError>
+    ensures { IfOk result (λ values. length values.items ≡ length findings.now.report.now) }
+{
+    let rows = findings.report.rows();
     let mut counts = BTreeMap::new(alloc);
-    for (number, row) in findings.report.rows().iter().enumerate() {
-        let story = findings.story(number);
-        let code = row.fault.code;
-        lines.look_up(row.entry.routine())?;
-        let rule = rule_id(alloc, code)?;
-        let within = inputs.entry(alloc, row.entry)?;
-        let message = fault_message(alloc, code, story)?;
-        let way = way_of(alloc, inputs, story)?;
-        let finding = Finding {
-            rule,
-            level: "error",
-            message,
-            place: Place {
-                path: inputs.path(row.entry),
-                line: row.fault.line,
-                column: Some(row.fault.column),
-            },
-            line: lines.line(row.fault.line),
-            within,
-            kind: "function",
-            fingerprint: "codeInEntry/v1",
-            way,
-        };
-        values.push(result_value(alloc, &mut counts, &finding)?)?;
+    let mut values = Vec::with_capacity(alloc, rows.len())?;
+    for row in rows {
+        let story = findings.story(values.len());
+        let value = fault_value(alloc, inputs, row, story, lines, &mut counts)?;
+        values.push(value)?;
     }
-    Ok(())
+    Ok(values)
+}
+
+// The result of a hazard.
+fn hazard_value<'a>(
+    alloc: Global,
+    inputs: &Inputs<'a>,
+    numbers: &RoutineNumbers,
+    at: &HazardAt<'_>,
+    lines: &mut ProgramLines<'a>,
+    counts: &mut BTreeMap<Vec<u8>, usize>,
+) -> Result<Value, AllocError> {
+    let word = at.hazard.word().as_bytes();
+    let rule = Vec::from_slice(alloc, word)?;
+    let within = Vec::from_slice(alloc, at.position.routine)?;
+    let number = numbers.number(&within);
+    lines.look_up(number)?;
+    let meaning = hazard_is_what(at.hazard);
+    let message = text_of(alloc, &[Bytes(word), Words(": "), Words(meaning)])?;
+    let finding = Finding {
+        rule,
+        level: "warning",
+        message,
+        place: Place {
+            path: inputs.path_at(number),
+            line: at.position.line,
+            column: Some(at.position.column),
+        },
+        line: lines.line(at.position.line),
+        within,
+        kind: "module",
+        fingerprint: "hazardInRoutine/v1",
+        way: Vec::new(alloc),
+    };
+    result_value(alloc, counts, &finding)
 }
 
 // Adds a result for each hazard.
@@ -113,66 +166,48 @@ fn add_hazards<'a>(
     hazards: &[HazardAt<'_>],
     lines: &mut ProgramLines<'a>,
     values: &mut Vec<Value>,
-) -> Result<(), AllocError> {
+) -> Result<(), AllocError>
+    ensures { OnOk result (length values.new.items ≡ length values.old.items + length hazards.now) }
+{
     let numbers = RoutineNumbers::of(alloc, inputs.routines)?;
     let mut counts = BTreeMap::new(alloc);
     for at in hazards {
-        let word = at.hazard.word().as_bytes();
-        let rule = Vec::from_slice(alloc, word)?;
-        let within = Vec::from_slice(alloc, at.position.routine)?;
-        let number = numbers.number(&within);
-        lines.look_up(number)?;
-        let meaning = hazard_is_what(at.hazard);
-        let message = text_of(alloc, &[Bytes(word), Words(": "), Words(meaning)])?;
-        let finding = Finding {
-            rule,
-            level: "warning",
-            message,
-            place: Place {
-                path: inputs.path_at(number),
-                line: at.position.line,
-                column: Some(at.position.column),
-            },
-            line: lines.line(at.position.line),
-            within,
-            kind: "module",
-            fingerprint: "hazardInRoutine/v1",
-            way: Vec::new(alloc),
-        };
-        values.push(result_value(alloc, &mut counts, &finding)?)?;
+        let value = hazard_value(alloc, inputs, &numbers, at, lines, &mut counts)?;
+        values.push(value)?;
     }
     Ok(())
 }
 
-// The whole document of one run.
-fn document(
-    alloc: Global,
-    rules: Vec<Value>,
-    results: Vec<Value>,
-    invocation: Value,
-) -> Result<String, AllocError> {
+// The program, with its rules.
+fn tool_value(alloc: Global, rules: Vec<Value>) -> Result<Value, AllocError> {
     let rules = Value::Array(rules);
-    let results = Value::Array(results);
-    let driver = json!(in alloc; {
-        "name": "mlock",
-        "version": VERSION,
-        "semanticVersion": VERSION,
-        "rules": rules,
-    })?;
-    let root = json!(in alloc; {"description": {"text": "the folder in which mlock was run"}})?;
-    let roots = member(alloc, ROOT, Field::Value(root))?;
     json!(in alloc; {
-        "$schema": SCHEMA,
-        "version": "2.1.0",
-        "runs": [{
-            "tool": {"driver": driver},
-            "columnKind": "unicodeCodePoints",
-            "originalUriBaseIds": roots,
-            "invocations": [invocation],
-            "results": results,
-        }],
-    })?
-    .to_string_pretty(alloc)
+        "driver": {
+            "name": "mlock",
+            "version": VERSION,
+            "semanticVersion": VERSION,
+            "rules": rules,
+        },
+    })
+}
+
+// The folder that the paths of files begin at.
+fn roots_value(alloc: Global) -> Result<Value, AllocError> {
+    let root = json!(in alloc; {"description": {"text": "the folder in which mlock was run"}})?;
+    member(alloc, ROOT, Field::Value(root))
+}
+
+// The members of a run besides its results.
+fn run_members(alloc: Global, rules: Vec<Value>, invocation: Value) -> Result<Members, AllocError> {
+    let tool = tool_value(alloc, rules)?;
+    let roots = roots_value(alloc)?;
+    let invocations = json!(in alloc; [invocation])?;
+    let mut members = Map::new(alloc);
+    put(&mut members, alloc, "tool", tool)?;
+    put_text(alloc, &mut members, "columnKind", "unicodeCodePoints")?;
+    put(&mut members, alloc, "originalUriBaseIds", roots)?;
+    put(&mut members, alloc, "invocations", invocations)?;
+    Ok(members)
 }
 
 // How a run ended that came to a report with this number of results.
@@ -190,19 +225,20 @@ pub fn report_sarif(
     alloc: Global,
     inputs: &Inputs<'_>,
     findings: &Findings<'_>,
-) -> Result<String, AllocError> {
-    let mut results = Vec::with_capacity(alloc, findings.report.rows().len())?;
+) -> Result<String, AllocError>
+    ensures { IfOk result (λ text. IsSarifReport (length findings.now.report.now + length findings.now.hazards.now) (string_bytes text)) }
+{
     let mut lines = ProgramLines::new(alloc, inputs.texts);
-    add_faults(alloc, inputs, findings, &mut lines, &mut results)?;
-    let rules = match findings.hazards {
-        None => rules_values(alloc)?,
-        Some(hazards) => {
-            add_hazards(alloc, inputs, hazards, &mut lines, &mut results)?;
-            all_rules_values(alloc)?
-        }
+    let mut results = fault_values(alloc, inputs, findings, &mut lines)?;
+    add_hazards(alloc, inputs, findings.hazards, &mut lines, &mut results)?;
+    let rules = if findings.is_strict {
+        all_rules_values(alloc)?
+    } else {
+        rules_values(alloc)?
     };
     let invocation = invocation_value(alloc, results.len())?;
-    document(alloc, rules, results, invocation)
+    let run = run_members(alloc, rules, invocation)?;
+    sarif_document(alloc, results, run)
 }
 
 // The line at the place of a refusal, if the text of its file was kept and has it.
@@ -296,5 +332,6 @@ pub fn notice_sarif(alloc: Global, notice: &Notice<'_>) -> Result<String, AllocE
     let mut results = Vec::new(alloc);
     results.push(refusal_value(alloc, notice, line)?)?;
     let invocation = refused_invocation(alloc, notice, line)?;
-    document(alloc, rules_values(alloc)?, results, invocation)
+    let run = run_members(alloc, rules_values(alloc)?, invocation)?;
+    sarif_document(alloc, results, run)
 }

@@ -9,18 +9,20 @@ use mlk_walk::Report;
 use serde_json::Value;
 use std::alloc::{AllocError, Global};
 
-/// What is reported: the faults, what is known of each, in their order and as far as anything is, and hazards, if these are
-/// reported.
-#[derive(Clone, Copy, Drop)]
+/// What is reported: the faults, what is known of each, in their order and as far as anything is, and hazards.
+#[derive(Drop)]
 pub struct Findings<'a> {
     pub report: &'a Report,
-    pub stories: &'a [Option<Story>],
-    pub hazards: Option<&'a [HazardAt<'a>]>,
+    pub stories: Vec<Option<Story>>,
+    /// empty unless hazards are reported
+    pub hazards: &'a [HazardAt<'a>],
+    /// whether hazards are reported, even if there is none
+    pub is_strict: bool,
 }
 
 impl<'a> Findings<'a> {
     /// What is known of the fault with this number.
-    pub(crate) fn story(&self, number: usize) -> Option<&'a Story> {
+    pub(crate) fn story(&self, number: usize) -> Option<&Story> {
         match self.stories.get(number) {
             Some(story) => story.as_ref(),
             None => None,
@@ -28,8 +30,8 @@ impl<'a> Findings<'a> {
     }
 }
 
-/// The members of an object.
-type Members<'a> = Vec<(&'static str, Field<'a>)>;
+/// The fields of an object.
+type Fields<'a> = Vec<(&'static str, Field<'a>)>;
 
 /// These texts as a list.
 pub(crate) fn texts_value(alloc: Global, texts: &[Vec<u8>]) -> Result<Value, AllocError> {
@@ -77,7 +79,7 @@ fn add_origin(
     alloc: Global,
     inputs: &Inputs<'_>,
     origin: &OriginStory,
-    members: &mut Members<'_>,
+    members: &mut Fields<'_>,
 ) -> Result<(), AllocError> {
     let point = point_value(alloc, inputs, &origin.point)?;
     let calls = calls_value(alloc, inputs, origin.calls.as_slice())?;
@@ -90,7 +92,7 @@ fn add_text(
     alloc: Global,
     name: &'static str,
     text: &Option<Vec<u8>>,
-    members: &mut Members<'_>,
+    members: &mut Fields<'_>,
 ) -> Result<(), AllocError> {
     if let Some(text) = text {
         members.push((name, copied(alloc, text.as_slice())?))?;
@@ -104,7 +106,7 @@ pub(crate) fn add_story(
     alloc: Global,
     inputs: &Inputs<'_>,
     story: &Story,
-    members: &mut Members<'_>,
+    members: &mut Fields<'_>,
 ) -> Result<(), AllocError> {
     members.push(("act", copied(alloc, story.act.as_slice())?))?;
     add_text(alloc, "held", &story.held, members)?;
