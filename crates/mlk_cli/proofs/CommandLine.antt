@@ -15,11 +15,13 @@ use Rattle.mlk_cli.specs.declared.words.SurveyOutput.TheVariants as surveyed
 use Rattle.mlk_cli.specs.declared.words.ReportStyle.{ReportStyle}
 use Rattle.mlk_cli.specs.declared.words.SurveyRequest.{SurveyRequest}
 use Rattle.mlk_cli.specs.declared.words.SuggestRequest.{SuggestRequest}
+use Rattle.mlk_cli.specs.declared.words.WantedStubs.{WantedStubs}
+use Rattle.mlk_cli.specs.declared.words.WantedStubs.TheVariants as wanted
 use Rattle.mlk_cli.specs.declared.words.StubsRequest.{StubsRequest}
 use Rattle.mlk_cli.specs.declared.words.Request.{Request}
 use Rattle.mlk_cli.specs.declared.words.Request.TheVariants as request
 use Rattle.mlk_cli.specs.declared.words.ProgramRequest.{ProgramRequest}
-use Rattle.mlk_cli.specs.CommandLine.{IsAsked, IsNumber, IsNumberOf, IsFormat, IsWalk, IsOutput, NamesOutput, GivesOutput, IsFlag, IsSurveyOutput, IsSurvey, IsSuggestion, IsStubs, IsConversion, IsProgramGiven, IsGiven, GivesNumber}
+use Rattle.mlk_cli.specs.CommandLine.{IsAsked, IsNumber, IsNumberOf, IsFormat, IsWalk, IsOutput, NamesOutput, GivesOutput, IsFlag, GivesFlag, IsSurveyOutput, IsSurvey, IsSuggestion, IsWanted, IsStubs, IsConversion, IsProgramGiven, IsGiven, GivesNumber}
 
 -- a number of workers, after a plus and zeros
 plus_and_zeros : IsNumber (codes "+004") 4
@@ -91,12 +93,6 @@ suggest-not-convert e = let bad : ◌≡◌ {A = ℕ} 99 115 = starts_suggest (c
 suggest-not-explain : codes "suggest" ≡ codes "explain" → ⊥
 suggest-not-explain e = let bad : ◌≡◌ {A = ℕ} 101 115 = starts_suggest (codes "explain") (sym e) in omega arith
 
-starts_stubs : (text : Text) → text ≡ codes "stubs" → slice_index text 0 ≡ 115
-starts_stubs text is = rw is refl
-
-stubs-not-check : codes "stubs" ≡ codes "check" → ⊥
-stubs-not-check e = let bad : ◌≡◌ {A = ℕ} 99 115 = starts_stubs (codes "check") (sym e) in omega arith
-
 -- what a word of a command line names
 pub named-output : (rows : List Row) (text : Text) (r : Option Output) → first_of (codes "output") rows ≡ Some text → NamesOutput text r → GivesOutput rows r
 named-output rows text None is none = λ output h. none output (some_same (sym is ∙ h))
@@ -106,17 +102,19 @@ pub not-flag : (option : Text) (rows : List Row) (text : Text) → first_of opti
 not-flag option rows text is no-true no-false true h = no-true (some_same (sym is ∙ h))
 not-flag option rows text is no-true no-false false h = no-false (some_same (sym is ∙ h))
 
-one-flag : (option : Text) (rows : List Row) (a b : Bool) → IsFlag option rows a → IsFlag option rows b → a ≡ b
-one-flag option rows true true g h = refl
-one-flag option rows false false g h = refl
-one-flag option rows true false g h = let bad = sym g ∙ h in cc bad
-one-flag option rows false true g h = let bad = sym g ∙ h in cc bad
+-- An option is given or not.
+true-not-false : (option : Text) (rows : List Row) → IsFlag option rows true → IsFlag option rows false → ⊥
+true-not-false option rows given not-given = let bad = sym given ∙ not-given in cc bad
 
--- stubs are not suggested beside rules
-pub no-stubs-beside : (rows : List Row) (path : Text) → IsFlag (codes "stubs") rows true → first_of (codes "beside") rows ≡ Some path → (s : SuggestRequest) → IsSuggestion rows s → ⊥
-no-stubs-beside rows path stubs beside s given =
-    let wanted : s.stubs ≡ true = one-flag (codes "stubs") rows s.stubs true given.stubs stubs in
-    let bad = sym beside ∙ given.beside ∙ ap (option_map (λ p. p.now)) (given.may_stub wanted) in cc bad
+pub only-true : (option : Text) (rows : List Row) (flag : Option Bool) → (flag ≡ Some true → ⊥) → GivesFlag option rows flag → IsFlag option rows true → ⊥
+only-true option rows None other none given = none true given
+only-true option rows (Some true) other is given = other refl
+only-true option rows (Some false) other is given = true-not-false option rows given is
+
+pub only-false : (option : Text) (rows : List Row) (flag : Option Bool) → (flag ≡ Some false → ⊥) → GivesFlag option rows flag → IsFlag option rows false → ⊥
+only-false option rows None other none not-given = none false not-given
+only-false option rows (Some true) other is not-given = true-not-false option rows is not-given
+only-false option rows (Some false) other is not-given = other refl
 
 pub no-survey-output : (rows : List Row) → ((output : Output) → IsOutput rows output → ⊥) → (output : SurveyOutput) → IsSurveyOutput rows output → ⊥
 no-survey-output rows none surveyed.Text h = none output.Text h
@@ -162,6 +160,11 @@ no-program name rows is (asked.Make format) h = let bad = sym is ∙ h.0 in cc b
 no-program name rows is (asked.Verify workers style) h = let bad = sym is ∙ h.0 in cc bad
 no-program name rows is (asked.Replay path) h = let bad = sym is ∙ h.0 in cc bad
 
+no-stubs-of-convert : (name : Text) (rows : List Row) → name ≡ codes "convert" → (w : WantedStubs) → IsWanted name rows w → ⊥
+no-stubs-of-convert name rows is wanted.Missing h = let bad = sym is ∙ h.0 in cc bad
+no-stubs-of-convert name rows is wanted.MissingAndUnread h = suggest-not-convert (sym h.0 ∙ is)
+no-stubs-of-convert name rows is (wanted.Named names) h = let bad = sym is ∙ h.0 in cc bad
+
 -- and without a path or a format for nothing; another command for no conversion. So it is with `survey`.
 pub converts-nothing : (name : Text) (rows : List Row) → name ≡ codes "convert" → ((certificate : Bor (List ℕ)) (format : Format) → IsConversion rows certificate format → ⊥)
     → (r : Request) → IsGiven name rows r → ⊥
@@ -169,7 +172,7 @@ converts-nothing name rows is none (request.Program program) h = no-program name
 converts-nothing name rows is none (request.Convert certificate format) h = none certificate format h.1
 converts-nothing name rows is none (request.Survey survey) h = let bad = sym is ∙ h.0 in cc bad
 converts-nothing name rows is none (request.Suggest suggestion) h = suggest-not-convert (sym h.0 ∙ is)
-converts-nothing name rows is none (request.Stubs stubs) h = let bad = sym is ∙ h.0 in cc bad
+converts-nothing name rows is none (request.Stubs stubs) h = no-stubs-of-convert name rows is stubs.wanted h.wanted
 converts-nothing name rows is none (request.Explain code) h = explain-not-convert (sym h.0 ∙ is)
 
 no-survey-of-program : (name : Text) (rows : List Row) → name ≡ codes "survey" → (a : Asked) → IsAsked name rows a → ⊥
@@ -178,14 +181,14 @@ no-survey-of-program name rows is (asked.Make format) h = let bad = sym is ∙ h
 no-survey-of-program name rows is (asked.Verify workers style) h = survey-not-verify (sym is ∙ h.0)
 no-survey-of-program name rows is (asked.Replay path) h = survey-not-replay (sym is ∙ h.0)
 
-pub surveys-nothing : (name : Text) (rows : List Row) → name ≡ codes "survey" → ((survey : SurveyRequest) → IsSurvey rows survey → ⊥)
+pub surveys-nothing : (name : Text) (rows : List Row) → ((stubs : StubsRequest) → IsStubs name rows stubs → ⊥) → name ≡ codes "survey" → ((survey : SurveyRequest) → IsSurvey rows survey → ⊥)
     → (r : Request) → IsGiven name rows r → ⊥
-surveys-nothing name rows is none (request.Program program) h = no-survey-of-program name rows is program.asked h.asked
-surveys-nothing name rows is none (request.Convert certificate format) h = let bad = sym is ∙ h.0 in cc bad
-surveys-nothing name rows is none (request.Survey survey) h = none survey h.1
-surveys-nothing name rows is none (request.Suggest suggestion) h = let bad = sym is ∙ h.0 in cc bad
-surveys-nothing name rows is none (request.Stubs stubs) h = let bad = sym is ∙ h.0 in cc bad
-surveys-nothing name rows is none (request.Explain code) h = let bad = sym is ∙ h.0 in cc bad
+surveys-nothing name rows no-stubs is none (request.Program program) h = no-survey-of-program name rows is program.asked h.asked
+surveys-nothing name rows no-stubs is none (request.Convert certificate format) h = let bad = sym is ∙ h.0 in cc bad
+surveys-nothing name rows no-stubs is none (request.Survey survey) h = none survey h.1
+surveys-nothing name rows no-stubs is none (request.Suggest suggestion) h = let bad = sym is ∙ h.0 in cc bad
+surveys-nothing name rows no-stubs is none (request.Stubs stubs) h = no-stubs stubs h
+surveys-nothing name rows no-stubs is none (request.Explain code) h = let bad = sym is ∙ h.0 in cc bad
 
 no-suggestion-of-program : (name : Text) (rows : List Row) → name ≡ codes "suggest" → (a : Asked) → IsAsked name rows a → ⊥
 no-suggestion-of-program name rows is (asked.Check path workers style) h = let bad = sym is ∙ h.0 in cc bad
@@ -193,29 +196,25 @@ no-suggestion-of-program name rows is (asked.Make format) h = let bad = sym is �
 no-suggestion-of-program name rows is (asked.Verify workers style) h = let bad = sym is ∙ h.0 in cc bad
 no-suggestion-of-program name rows is (asked.Replay path) h = let bad = sym is ∙ h.0 in cc bad
 
-pub suggests-nothing : (name : Text) (rows : List Row) → name ≡ codes "suggest" → ((suggestion : SuggestRequest) → IsSuggestion rows suggestion → ⊥)
+pub suggests-nothing : (name : Text) (rows : List Row) → ((stubs : StubsRequest) → IsStubs name rows stubs → ⊥) → name ≡ codes "suggest" → ((suggestion : SuggestRequest) → IsSuggestion rows suggestion → ⊥)
     → (r : Request) → IsGiven name rows r → ⊥
-suggests-nothing name rows is none (request.Program program) h = no-suggestion-of-program name rows is program.asked h.asked
-suggests-nothing name rows is none (request.Convert certificate format) h = suggest-not-convert (sym is ∙ h.0)
-suggests-nothing name rows is none (request.Survey survey) h = let bad = sym is ∙ h.0 in cc bad
-suggests-nothing name rows is none (request.Suggest suggestion) h = none suggestion h.1
-suggests-nothing name rows is none (request.Stubs stubs) h = let bad = sym is ∙ h.0 in cc bad
-suggests-nothing name rows is none (request.Explain code) h = suggest-not-explain (sym is ∙ h.0)
+suggests-nothing name rows no-stubs is none (request.Program program) h = no-suggestion-of-program name rows is program.asked h.asked
+suggests-nothing name rows no-stubs is none (request.Convert certificate format) h = suggest-not-convert (sym is ∙ h.0)
+suggests-nothing name rows no-stubs is none (request.Survey survey) h = let bad = sym is ∙ h.0 in cc bad
+suggests-nothing name rows no-stubs is none (request.Suggest suggestion) h = none suggestion h.1
+suggests-nothing name rows no-stubs is none (request.Stubs stubs) h = no-stubs stubs h
+suggests-nothing name rows no-stubs is none (request.Explain code) h = suggest-not-explain (sym is ∙ h.0)
 
-no-stubs-of-program : (name : Text) (rows : List Row) → name ≡ codes "stubs" → (a : Asked) → IsAsked name rows a → ⊥
-no-stubs-of-program name rows is (asked.Check path workers style) h = stubs-not-check (sym is ∙ h.0)
-no-stubs-of-program name rows is (asked.Make format) h = let bad = sym is ∙ h.0 in cc bad
-no-stubs-of-program name rows is (asked.Verify workers style) h = let bad = sym is ∙ h.0 in cc bad
-no-stubs-of-program name rows is (asked.Replay path) h = let bad = sym is ∙ h.0 in cc bad
+-- Other commands than `stubs` and `suggest` ask for no stubs, nor does `suggest` without `--stubs`, or beside rules.
+pub wants-nothing : (name : Text) (rows : List Row) → (name ≡ codes "stubs" → ⊥) → (name ≡ codes "suggest" → ⊥) → (w : WantedStubs) → IsWanted name rows w → ⊥
+wants-nothing name rows no-stubs no-suggest wanted.Missing h = no-stubs h.0
+wants-nothing name rows no-stubs no-suggest wanted.MissingAndUnread h = no-suggest h.0
+wants-nothing name rows no-stubs no-suggest (wanted.Named names) h = no-stubs h.0
 
-pub stubs-nothing : (name : Text) (rows : List Row) → name ≡ codes "stubs" → ((stubs : StubsRequest) → IsStubs rows stubs → ⊥)
-    → (r : Request) → IsGiven name rows r → ⊥
-stubs-nothing name rows is none (request.Program program) h = no-stubs-of-program name rows is program.asked h.asked
-stubs-nothing name rows is none (request.Convert certificate format) h = let bad = sym is ∙ h.0 in cc bad
-stubs-nothing name rows is none (request.Survey survey) h = let bad = sym is ∙ h.0 in cc bad
-stubs-nothing name rows is none (request.Suggest suggestion) h = let bad = sym is ∙ h.0 in cc bad
-stubs-nothing name rows is none (request.Stubs stubs) h = none stubs h.1
-stubs-nothing name rows is none (request.Explain code) h = let bad = sym is ∙ h.0 in cc bad
+pub wants-no-stubs : (name : Text) (rows : List Row) → (name ≡ codes "stubs" → ⊥) → (IsFlag (codes "stubs") rows true → first_of (codes "beside") rows ≡ None → ⊥) → (w : WantedStubs) → IsWanted name rows w → ⊥
+wants-no-stubs name rows no-stubs none wanted.Missing h = no-stubs h.0
+wants-no-stubs name rows no-stubs none wanted.MissingAndUnread h = none h.1 h.2
+wants-no-stubs name rows no-stubs none (wanted.Named names) h = no-stubs h.0
 
 -- `explain` asks for nothing but a page, and without a code for nothing.
 no-explained-program : (name : Text) (rows : List Row) → name ≡ codes "explain" → (a : Asked) → IsAsked name rows a → ⊥
@@ -224,19 +223,24 @@ no-explained-program name rows is (asked.Make format) h = let bad = sym is ∙ h
 no-explained-program name rows is (asked.Verify workers style) h = let bad = sym is ∙ h.0 in cc bad
 no-explained-program name rows is (asked.Replay path) h = let bad = sym is ∙ h.0 in cc bad
 
+no-stubs-of-explain : (name : Text) (rows : List Row) → name ≡ codes "explain" → (w : WantedStubs) → IsWanted name rows w → ⊥
+no-stubs-of-explain name rows is wanted.Missing h = let bad = sym is ∙ h.0 in cc bad
+no-stubs-of-explain name rows is wanted.MissingAndUnread h = suggest-not-explain (sym h.0 ∙ is)
+no-stubs-of-explain name rows is (wanted.Named names) h = let bad = sym is ∙ h.0 in cc bad
+
 pub explains-nothing : (name : Text) (rows : List Row) → name ≡ codes "explain" → None ≡ first_of (codes "CODE") rows → (r : Request) → IsGiven name rows r → ⊥
 explains-nothing name rows is none (request.Program program) h = no-explained-program name rows is program.asked h.asked
 explains-nothing name rows is none (request.Convert certificate format) h = explain-not-convert (sym is ∙ h.0)
 explains-nothing name rows is none (request.Survey survey) h = let bad = sym is ∙ h.0 in cc bad
 explains-nothing name rows is none (request.Suggest suggestion) h = suggest-not-explain (sym h.0 ∙ is)
-explains-nothing name rows is none (request.Stubs stubs) h = let bad = sym is ∙ h.0 in cc bad
+explains-nothing name rows is none (request.Stubs stubs) h = no-stubs-of-explain name rows is stubs.wanted h.wanted
 explains-nothing name rows is none (request.Explain code) h = let bad = none ∙ h.1 in cc bad
 
 pub no-request : (name : Text) (rows : List Row) → (name ≡ codes "convert" → ⊥) → (name ≡ codes "survey" → ⊥) → (name ≡ codes "explain" → ⊥) → (name ≡ codes "suggest" → ⊥)
-    → (name ≡ codes "stubs" → ⊥) → ((program : ProgramRequest) → IsProgramGiven name rows program → ⊥) → (r : Request) → IsGiven name rows r → ⊥
+    → ((stubs : StubsRequest) → IsStubs name rows stubs → ⊥) → ((program : ProgramRequest) → IsProgramGiven name rows program → ⊥) → (r : Request) → IsGiven name rows r → ⊥
 no-request name rows no-convert no-survey no-explain no-suggest no-stubs none (request.Program program) h = none program h
 no-request name rows no-convert no-survey no-explain no-suggest no-stubs none (request.Convert certificate format) h = no-convert h.0
 no-request name rows no-convert no-survey no-explain no-suggest no-stubs none (request.Survey survey) h = no-survey h.0
 no-request name rows no-convert no-survey no-explain no-suggest no-stubs none (request.Suggest suggestion) h = no-suggest h.0
-no-request name rows no-convert no-survey no-explain no-suggest no-stubs none (request.Stubs stubs) h = no-stubs h.0
+no-request name rows no-convert no-survey no-explain no-suggest no-stubs none (request.Stubs stubs) h = no-stubs stubs h
 no-request name rows no-convert no-survey no-explain no-suggest no-stubs none (request.Explain code) h = no-explain h.0

@@ -1,6 +1,6 @@
 -- What the words of a command line ask for, by what `clap` makes of them. This project's own choice.
 use Rattle.std.specs.Borrow.{Bor}
-use Rattle.std.specs.Prelude.{option_map, unwrap_or, ℕ, ◌≡◌, ◌<◌, ◌^◌, List, [], Option, Some, None, Bool, if◌then◌else◌, codes, true, map, string_bytes, String}
+use Rattle.std.specs.Prelude.{option_map, ℕ, ◌≡◌, ◌<◌, ◌^◌, List, Option, Some, None, Bool, if◌then◌else◌, codes, true, false, map, string_bytes, String}
 use Rattle.std.specs.Str.Parse.{IsNumeral, digits_value, without_leading_plus}
 use Rattle.clap.specs.Words.{Row, Text, all_of, first_of, one_of, subcommand_of}
 use Rattle.clap.specs.Takes.{takes}
@@ -17,6 +17,8 @@ use Rattle.mlk_cli.specs.declared.words.ReportStyle.{ReportStyle}
 use Rattle.mlk_cli.specs.declared.words.ProgramRequest.{ProgramRequest}
 use Rattle.mlk_cli.specs.declared.words.SurveyRequest.{SurveyRequest}
 use Rattle.mlk_cli.specs.declared.words.SuggestRequest.{SuggestRequest}
+use Rattle.mlk_cli.specs.declared.words.WantedStubs.{WantedStubs}
+use Rattle.mlk_cli.specs.declared.words.WantedStubs.TheVariants as wanted
 use Rattle.mlk_cli.specs.declared.words.StubsRequest.{StubsRequest}
 use Rattle.mlk_cli.specs.declared.words.Request.{Request}
 use Rattle.mlk_cli.specs.declared.words.Request.TheVariants as request
@@ -152,30 +154,35 @@ abbrev pub GivesSurvey : List Row → Option SurveyRequest → Type 0
 GivesSurvey rows None = (survey : SurveyRequest) → IsSurvey rows survey → ⊥
 GivesSurvey rows (Some survey) = IsSurvey rows survey
 
--- Stubs are not printed beside rules.
-abbrev pub MayStub : Option (Bor (List ℕ)) → Bool → Type 0
-MayStub beside stubs = stubs ≡ true → beside ≡ None
-
--- the routines for which rules are suggested, the path of the rules that are there already, if it is given, and whether stubs are
--- wanted in place of rules
+-- the routines for which rules are suggested, not stubs, and the path of the rules that are there already, if it is given
 pub record IsSuggestion (rows : List Row) (suggestion : SuggestRequest) : Type 0 where
   pub routines : all_of (codes "ROUTINE") rows ≡ Some (bytes_of suggestion.routines.items)
+  pub of_rules : IsFlag (codes "stubs") rows false
   pub beside : first_of (codes "beside") rows ≡ option_map (λ path. path.now) suggestion.beside
-  pub stubs : IsFlag (codes "stubs") rows suggestion.stubs
-  pub may_stub : MayStub suggestion.beside suggestion.stubs
 
 abbrev pub GivesSuggestion : List Row → Option SuggestRequest → Type 0
 GivesSuggestion rows None = (suggestion : SuggestRequest) → IsSuggestion rows suggestion → ⊥
 GivesSuggestion rows (Some suggestion) = IsSuggestion rows suggestion
 
--- the routines that call, and the names of the routines that get a stub, if any are given
-pub record IsStubs (rows : List Row) (stubs : StubsRequest) : Type 0 where
-  pub routines : all_of (codes "ROUTINE") rows ≡ Some (bytes_of stubs.routines.items)
-  pub names : unwrap_or (all_of (codes "for") rows) [] ≡ bytes_of stubs.names.items
+-- Which routines get a stub, by the command of a name and what it was given: `stubs`, with names or without, or `suggest --stubs`,
+-- which has no rules beside it.
+abbrev pub IsWanted : Text → List Row → WantedStubs → Type 0
+IsWanted name rows wanted.Missing = (name ≡ codes "stubs") × (all_of (codes "for") rows ≡ None)
+IsWanted name rows wanted.MissingAndUnread = (name ≡ codes "suggest") × IsFlag (codes "stubs") rows true × (first_of (codes "beside") rows ≡ None)
+IsWanted name rows (wanted.Named names) = (name ≡ codes "stubs") × (all_of (codes "for") rows ≡ Some (bytes_of names.items))
 
-abbrev pub GivesStubs : List Row → Option StubsRequest → Type 0
-GivesStubs rows None = (stubs : StubsRequest) → IsStubs rows stubs → ⊥
-GivesStubs rows (Some stubs) = IsStubs rows stubs
+abbrev pub GivesWanted : Text → List Row → Option WantedStubs → Type 0
+GivesWanted name rows None = (wanted : WantedStubs) → IsWanted name rows wanted → ⊥
+GivesWanted name rows (Some wanted) = IsWanted name rows wanted
+
+-- which routines get a stub, and the routines that call them
+pub record IsStubs (name : Text) (rows : List Row) (stubs : StubsRequest) : Type 0 where
+  pub wanted : IsWanted name rows stubs.wanted
+  pub routines : all_of (codes "ROUTINE") rows ≡ Some (bytes_of stubs.routines.items)
+
+abbrev pub GivesStubs : Text → List Row → Option StubsRequest → Type 0
+GivesStubs name rows None = (stubs : StubsRequest) → IsStubs name rows stubs → ⊥
+GivesStubs name rows (Some stubs) = IsStubs name rows stubs
 
 -- the request is what the command of a name was given
 abbrev pub IsGiven : Text → List Row → Request → Type 0
@@ -183,7 +190,7 @@ IsGiven name rows (request.Program program) = IsProgramGiven name rows program
 IsGiven name rows (request.Convert certificate format) = (name ≡ codes "convert") × IsConversion rows certificate format
 IsGiven name rows (request.Survey survey) = (name ≡ codes "survey") × IsSurvey rows survey
 IsGiven name rows (request.Suggest suggestion) = (name ≡ codes "suggest") × IsSuggestion rows suggestion
-IsGiven name rows (request.Stubs stubs) = (name ≡ codes "stubs") × IsStubs rows stubs
+IsGiven name rows (request.Stubs stubs) = IsStubs name rows stubs
 IsGiven name rows (request.Explain code) = (name ≡ codes "explain") × (first_of (codes "CODE") rows ≡ Some code.now)
 
 -- what a command's own matches give: nothing where they are those of no request

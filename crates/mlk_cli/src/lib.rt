@@ -5,5 +5,5 @@ mod words;
 
 pub use words::{
     Asked, Format, Output, ProgramRequest, ReportStyle, Request, StubsRequest, SuggestRequest,
-    SurveyOutput, SurveyRequest, UsageError, read_request,
+    SurveyOutput, SurveyRequest, UsageError, WantedStubs, read_request,
 };

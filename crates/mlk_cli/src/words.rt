@@ -1,12 +1,12 @@
 // The command line, as `clap` reads it.
 
-ghost use Rattle.std.specs.Prelude.{◌≡◌, ◌≢◌, [], codes, IfOk, IfErr, true, unwrap_or};
-ghost use Rattle.clap.specs.Words.{all_of, found_of, rows_of, kind_of};
+ghost use Rattle.std.specs.Prelude.{◌≡◌, ◌≢◌, codes, IfOk, IfErr, true};
+ghost use Rattle.clap.specs.Words.{found_of, rows_of, kind_of};
 ghost use Rattle.clap.specs.Takes.{takes};
 ghost use Rattle.clap.specs.declared.error.kind.ErrorKind.TheVariants.{OutOfMemory};
 ghost use Rattle.clap.specs.Simple.{subcommand_rows_of};
 ghost use Rattle.mlk_cli_grammar.specs.Grammar.{mlock_app};
-ghost use Rattle.mlk_cli.specs.CommandLine.{GivesNumber, GivesFormat, NamesOutput, GivesOutput, GivesFlag, GivesStyle, GivesWalk, GivesSurveyOutput, GivesAsked, GivesProgram, GivesSurvey, GivesSuggestion, GivesStubs, GivesConversion, GivesPaths, GivesRequest, bytes_of, texts_of, Asks, IsRequest, LacksRequest};
+ghost use Rattle.mlk_cli.specs.CommandLine.{GivesNumber, GivesFormat, NamesOutput, GivesOutput, GivesFlag, GivesStyle, GivesWalk, GivesSurveyOutput, GivesAsked, GivesProgram, GivesSurvey, GivesSuggestion, IsWanted, GivesWanted, GivesStubs, GivesConversion, GivesPaths, GivesRequest, texts_of, Asks, IsRequest, LacksRequest};
 
 use clap::error::ErrorKind;
 use clap::{ArgMatches, Error};
@@ -91,16 +91,24 @@ pub struct SurveyRequest<'a> {
 #[derive(Drop, Debug)]
 pub struct SuggestRequest<'a> {
     pub beside: Option<&'a str>,
-    /// whether the stubs that the routines need are wanted in place of rules
-    pub stubs: bool,
     pub routines: Vec<&'a str>,
 }
 
-/// The paths of the routines whose calls need stubs, and the names of the routines that get one: if there is none, those that are
-/// called and not given.
+/// Which routines get a stub.
+#[derive(Drop, Debug)]
+pub enum WantedStubs<'a> {
+    /// those that are called and not given
+    Missing,
+    /// those that are called and not given, and those that can't be read
+    MissingAndUnread,
+    /// those of these names, given or not
+    Named(Vec<&'a str>),
+}
+
+/// Which routines get a stub, and the paths of the routines that call them.
 #[derive(Drop, Debug)]
 pub struct StubsRequest<'a> {
-    pub names: Vec<&'a str>,
+    pub wanted: WantedStubs<'a>,
     pub routines: Vec<&'a str>,
 }
 
@@ -338,48 +346,63 @@ fn suggestion_of<'a>(
     let Some(paths) = matches.get_strs("ROUTINE") else {
         return Ok(None);
     };
-    let Some(stubs) = flag_of(matches, "stubs") else {
+    let Some(false) = flag_of(matches, "stubs") else {
         return Ok(None);
     };
     let beside = matches.get_str("beside");
-    if stubs && beside.is_some() {
+    let routines = Vec::from_slice(alloc, paths)?;
+    Ok(Some(SuggestRequest { beside, routines }))
+}
+
+// Which routines get a stub by `stubs`.
+fn named_by<'a>(alloc: Global, matches: &ArgMatches<'a>) -> Result<WantedStubs<'a>, AllocError>
+    ensures { IfOk result (IsWanted (codes "stubs") (rows_of (found_of matches.now))) }
+{
+    match matches.get_strs("for") {
+        None => Ok(WantedStubs::Missing),
+        Some(names) => Ok(WantedStubs::Named(Vec::from_slice(alloc, names)?)),
+    }
+}
+
+// Which routines get a stub by the command of this name, by what it was given.
+fn wanted_by<'a>(
+    alloc: Global,
+    name: &str,
+    matches: &ArgMatches<'a>,
+) -> Result<Option<WantedStubs<'a>>, AllocError>
+    ensures { IfOk result (GivesWanted name.now (rows_of (found_of matches.now))) }
+{
+    if name == "stubs" {
+        return Ok(Some(named_by(alloc, matches)?));
+    }
+    if name != "suggest" {
         return Ok(None);
     }
-    let routines = Vec::from_slice(alloc, paths)?;
-    Ok(Some(SuggestRequest {
-        beside,
-        stubs,
-        routines,
-    }))
-}
-
-// The words that a command was given by the option of this name; none if it was not given.
-fn words_of<'a>(
-    alloc: Global,
-    matches: &ArgMatches<'a>,
-    option: &str,
-) -> Result<Vec<&'a str>, AllocError>
-    ensures { IfOk result (λ words. unwrap_or (all_of option.now (rows_of (found_of matches.now))) [] ≡ bytes_of words.items) }
-{
-    match matches.get_strs(option) {
-        None => Ok(Vec::new(alloc)),
-        Some(words) => Vec::from_slice(alloc, words),
+    let Some(true) = flag_of(matches, "stubs") else {
+        return Ok(None);
+    };
+    if matches.get_str("beside").is_some() {
+        return Ok(None);
     }
+    Ok(Some(WantedStubs::MissingAndUnread))
 }
 
-// The stubs that are asked for.
+// The stubs that the command of this name asks for, by what it was given.
 fn stubs_of<'a>(
     alloc: Global,
+    name: &str,
     matches: &ArgMatches<'a>,
 ) -> Result<Option<StubsRequest<'a>>, AllocError>
-    ensures { IfOk result (GivesStubs (rows_of (found_of matches.now))) }
+    ensures { IfOk result (GivesStubs name.now (rows_of (found_of matches.now))) }
 {
+    let Some(wanted) = wanted_by(alloc, name, matches)? else {
+        return Ok(None);
+    };
     let Some(paths) = matches.get_strs("ROUTINE") else {
         return Ok(None);
     };
-    let names = words_of(alloc, matches, "for")?;
     let routines = Vec::from_slice(alloc, paths)?;
-    Ok(Some(StubsRequest { names, routines }))
+    Ok(Some(StubsRequest { wanted, routines }))
 }
 
 // What the command of this name, which reads routines, asks for, by what it was given.
@@ -392,6 +415,9 @@ fn routines_request<'a>(
     requires no_page { name.now ≢ codes "explain" }
     ensures { IfOk result (GivesPaths name.now (rows_of (found_of matches.now))) }
 {
+    if let Some(stubs) = stubs_of(alloc, name, matches)? {
+        return Ok(Some(Request::Stubs(stubs)));
+    }
     if name == "survey" {
         let Some(survey) = survey_of(alloc, matches)? else {
             return Ok(None);
@@ -403,12 +429,6 @@ fn routines_request<'a>(
             return Ok(None);
         };
         return Ok(Some(Request::Suggest(suggestion)));
-    }
-    if name == "stubs" {
-        let Some(stubs) = stubs_of(alloc, matches)? else {
-            return Ok(None);
-        };
-        return Ok(Some(Request::Stubs(stubs)));
     }
     let Some(program) = program_of(alloc, name, matches)? else {
         return Ok(None);
