@@ -1,7 +1,7 @@
 //! The grammar of `mlock`'s command line, and what `--help` says.
 #![tactic(auto)]
 
-mod grammar;
+mod commands;
 mod help;
 
-pub use grammar::grammar;
+pub use commands::grammar;

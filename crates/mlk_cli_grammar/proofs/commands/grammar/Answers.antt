@@ -1,7 +1,7 @@
 use Rattle.std.proofs.Common.{◌∙◌, ap, ap₂}
 use Rattle.std.proofs.lemmas.Result.{IfOk-weaker}
 use Rattle.clap.specs.Words.{with_subcommand}
-use Rattle.mlk_cli_grammar.proofs.grammar.grammar.Goals as goal
+use Rattle.mlk_cli_grammar.proofs.commands.grammar.Goals as goal
 
 pub returns : goal.returns
 returns c =
