@@ -104,9 +104,10 @@ fn push_calls(text: &mut Vec<u8>, used: &LabelUse<'_>) -> Result<(), AllocError>
         return push_all(text, &[Words(" ; not called\n")]);
     };
     let count = Number(used.calls.len());
-    let at = At(first.line, first.column);
+    let routine = Bytes(first.position.routine);
+    let at = At(first.position.line, first.position.column);
     push_all(text, &[Words(" ; called at "), count, Words(", first ")])?;
-    push_all(text, &[Bytes(first.routine), Words(" "), at, Words("\n")])
+    push_all(text, &[routine, Words(" "), at, Words("\n")])
 }
 
 // Appends what a label does, from the blank before its first command to the end of its last line.

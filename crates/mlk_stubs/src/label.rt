@@ -1,7 +1,6 @@
 // The labels of stubs, and what calls ask of each.
 
 use crate::call::{Call, CallKind};
-use mlk_survey_trees::Position;
 use mlk_text::Name;
 use std::alloc::Global;
 
@@ -69,8 +68,10 @@ impl<'a> LabelUse<'a> {
     }
 
     /// The first of the calls in the order of routines, lines and columns.
-    pub(crate) fn first_call(&self) -> Option<Position<'a>> {
-        self.calls.iter().map(|call| call.position).min()
+    pub(crate) fn first_call(&self) -> Option<&Call<'a>> {
+        self.calls
+            .iter()
+            .min_by(|call, other| call.position.cmp(&other.position))
     }
 
     // The greatest number of actuals that a call passes, or `None` if no call has a list.

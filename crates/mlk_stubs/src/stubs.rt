@@ -46,6 +46,36 @@ fn names_of(alloc: Global, stems: &[&str]) -> Result<Vec<Name>, Failure<Fault>> 
     Ok(names)
 }
 
+// The stubs of the routines in files with these names, without their endings.
+fn named_stubs(alloc: Global, read: &PartlyRead, stems: &[&str]) -> Result<StubText, Failure<Fault>>
+    ensures { IfOk result (λ text. AreStubs text) }
+{
+    let names = names_of(alloc, stems)?;
+    let scope = Scope::named(alloc, names.as_slice())?;
+    stubs_in(alloc, read, &scope)
+}
+
+// The stubs of the routines that `wanted` asks for, for the routines that were read.
+fn wanted_stubs(
+    alloc: Global,
+    read: &PartlyRead,
+    wanted: Wanted<'_>,
+) -> Result<StubText, Failure<Fault>>
+    ensures { IfOk result (λ text. AreStubs text) }
+{
+    match wanted {
+        Wanted::Missing => {
+            let scope = Scope::missing(alloc, read)?;
+            stubs_in(alloc, read, &scope)
+        }
+        Wanted::MissingAndUnread => {
+            let scope = Scope::missing_and_unread(alloc, read)?;
+            stubs_in(alloc, read, &scope)
+        }
+        Wanted::Named(stems) => named_stubs(alloc, read, stems),
+    }
+}
+
 /// The stubs of the routines that `wanted` asks for, for the calls in the routines of `sources`. Lines are cut before the first
 /// part that can't be read. Refuses a name of `wanted` that is no routine's name, and a stub that is past the limits of a routine.
 pub fn stubs_for(
@@ -56,14 +86,5 @@ pub fn stubs_for(
     ensures { IfOk result (λ text. AreStubs text) }
 {
     let read = read_partly(alloc, sources)?;
-    match wanted {
-        Wanted::Missing => stubs_in(alloc, &read, &Scope::missing(alloc, &read)?),
-        Wanted::MissingAndUnread => {
-            stubs_in(alloc, &read, &Scope::missing_and_unread(alloc, &read)?)
-        }
-        Wanted::Named(stems) => {
-            let names = names_of(alloc, stems)?;
-            stubs_in(alloc, &read, &Scope::named(alloc, names.as_slice())?)
-        }
-    }
+    wanted_stubs(alloc, &read, wanted)
 }
