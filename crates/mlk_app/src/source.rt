@@ -10,6 +10,7 @@ use mlk_cli::{Asked, Format, ProgramRequest};
 use mlk_pool::Source;
 use std::alloc::{AllocError, Global};
 use std::io::{self, ErrorKind};
+use thiserror::Error;
 
 /// Where the texts of files come from.
 pub trait Files {
@@ -47,10 +48,12 @@ pub(crate) struct Sources<'a> {
 }
 
 /// Why a file was not read.
-#[derive(Drop)]
+#[derive(Debug, Drop, Error)]
 pub(crate) enum FileError<'a> {
+    #[error("out of memory")]
     OutOfMemory,
     /// The path of the file.
+    #[error("{0} can't be read")]
     Unread(&'a str),
 }
 
