@@ -12,6 +12,7 @@ use mlk_suggest_read::RoutineText;
 use mlk_text::push_sparing;
 use std::alloc::{AllocError, Global};
 use std::io::{self, ErrorKind};
+use thiserror::Error;
 
 /// Where the texts of files come from.
 pub trait Files {
@@ -49,10 +50,12 @@ pub(crate) struct Sources<'a> {
 }
 
 /// Why a file was not read.
-#[derive(Drop)]
+#[derive(Debug, Drop, Error)]
 pub(crate) enum FileError<'a> {
+    #[error("out of memory")]
     OutOfMemory,
     /// The path of the file.
+    #[error("{0} can't be read")]
     Unread(&'a str),
 }
 

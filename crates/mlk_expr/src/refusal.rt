@@ -10,21 +10,28 @@ use mlk_expr_tokens::words::{function_of, is_select, special_of};
 use mlk_syntax::{Actual, Expr};
 use mlk_text::lexeme::{byte_of, is_digit, word_at};
 use mlk_text::{Failure, LeftOut};
+use thiserror::Error;
 
 /// What is wrong.
-#[derive(Drop, Debug)]
+#[derive(Debug, Drop, Error)]
 pub enum Wrong {
     /// a byte that is not allowed here
+    #[error("a byte that is not allowed here")]
     Form,
+    #[error("a part of M that is not read")]
     LeftOut(LeftOut),
+    #[error("too deep")]
     Deep,
+    #[error("the name is too long")]
     NameLong,
     /// a name by reference where only values may be passed
+    #[error("a name by reference where only values may be passed")]
     Lent,
 }
 
 /// What is wrong, and how many bytes of the line are left there.
-#[derive(Drop, Debug)]
+#[derive(Debug, Drop, Error)]
+#[error("{wrong}, {left} bytes before the end of the line")]
 pub struct Offence {
     pub wrong: Wrong,
     pub left: usize,

@@ -12,9 +12,11 @@ use mlk_machine_locks::Refusal;
 use mlk_program::{EntryId, Program};
 use mlk_text::Failure;
 use std::alloc::Global;
+use thiserror::Error;
 
 /// An event that can't happen: its index, and why.
-#[derive(Clone, Copy, Debug, Drop, PartialEq, Eq)]
+#[derive(Clone, Copy, Debug, Drop, PartialEq, Eq, Error)]
+#[error("event {index}: {why}")]
 pub struct Refused {
     pub index: usize,
     pub why: Refusal,

@@ -11,14 +11,18 @@ use mlk_pool::CheckError;
 use mlk_rules_file::RulesFault;
 use mlk_text::{Failure, Fault, Value};
 use std::alloc::AllocError;
+use thiserror::Error;
 
 /// Why there is no report, no certificate, or nothing to show of jobs.
-#[derive(Drop, Debug)]
+#[derive(Debug, Drop, Error)]
 pub enum NoReport {
     /// What the check itself answers, at a gate that is always open.
+    #[error("{0}")]
     Check(CheckError),
     /// No certificate was made: the text of the entry, and the fault at which the maker gave up.
+    #[error("no certificate was made: {}, at line {}, column {}", .1.code, .1.line, .1.column)]
     GaveUp(Value, mlk_walk_exprs::Fault),
+    #[error("{0}")]
     Events(EventsFault),
 }
 

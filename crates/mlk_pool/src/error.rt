@@ -9,20 +9,28 @@ use mlk_cert::CertFault;
 use mlk_rules_file::RulesFault;
 use mlk_text::{Failure, Fault, Value};
 use std::alloc::{AllocError, Global};
+use thiserror::Error;
 
 /// Why the texts of a program have no report.
-#[derive(Drop, Debug)]
+#[derive(Debug, Drop, Error)]
 pub enum CheckError {
+    #[error("out of memory")]
     OutOfMemory,
     /// a routine that is refused, or the linking of all
+    #[error("{0}")]
     Routine(Fault),
+    #[error("{0}")]
     Rules(RulesFault),
+    #[error("{0}")]
     Certificate(CertFault),
     /// an entry of the rules, or of the certificate, that is not in the program: its text
+    #[error("an entry of the rules or of the certificate is not in the program")]
     Entry(Value),
     /// There are no workers, or more than 64.
+    #[error("the number of workers must be 1 to 64")]
     Workers,
     /// The gate let nobody pass to this one of the tasks, counted from 0.
+    #[error("the gate lets nobody pass to task {0}")]
     GateShut(usize),
 }
 

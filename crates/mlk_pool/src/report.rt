@@ -30,13 +30,16 @@ use std::collections::VecDeque;
 use std::marker::Brand;
 use std::sync::Wait;
 use std::thread::Threads;
+use thiserror::Error;
 
 /// Why workers make no report.
-#[derive(Clone, Copy, Debug, Drop, PartialEq, Eq)]
+#[derive(Clone, Copy, Debug, Drop, PartialEq, Eq, Error)]
 pub enum PoolFault {
     /// There are no workers, or more than 64.
+    #[error("the number of workers must be 1 to 64")]
     Workers,
     /// The gate let nobody pass to this one of the tasks, counted from 0.
+    #[error("the gate lets nobody pass to task {0}")]
     GateShut(usize),
 }
 

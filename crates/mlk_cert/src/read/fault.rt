@@ -15,7 +15,8 @@ pub struct CertFault {
 }
 
 /// A fault after the head line, and how many bytes are left there.
-#[derive(Drop, Debug)]
+#[derive(Debug, Drop, Error)]
+#[error("{code}, {left} bytes before the end of the text")]
 pub(crate) struct BlockFault {
     pub code: Code,
     pub left: usize,
