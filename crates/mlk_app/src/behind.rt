@@ -11,7 +11,7 @@ use mlk_outcome::OpenGate;
 use mlk_pool::{Source, read_routines, report_by};
 use mlk_program::{Program, link};
 use mlk_walk::{Checks, Report};
-use mlk_watch::Watch;
+use mlk_watch::{Runner, Watch};
 use std::alloc::{AllocError, Global};
 use std::sync::Wait;
 use std::thread::Threads;
@@ -110,27 +110,17 @@ impl<'a> Search<'a> {
     // made of it.
     fn check<R: Threads + Wait + Sync, W: Watch>(
         &mut self,
-        rt: &R,
+        runner: &Runner<'_, R, W>,
         given: &Entries<'_>,
         program: &Program<'_>,
         texts: &[Vec<u8>],
-        watch: &W,
     ) -> Result<Vec<Patch>, AllocError> {
         let (alloc, rules) = (self.alloc, self.grounds.rules);
         let nothing = Vec::new(alloc);
-        let Some(certificate) = found(make_certificate(alloc, program, rules, watch))? else {
+        let Some(certificate) = found(make_certificate(alloc, program, rules, runner.watch))? else {
             return Ok(nothing);
         };
-        let report = report_by(
-            rt,
-            alloc,
-            program,
-            rules,
-            &certificate,
-            WORKERS,
-            &OpenGate,
-            watch,
-        );
+        let report = report_by(runner, program, rules, &certificate, WORKERS, &OpenGate);
         let Some(report) = found(report)? else {
             return Ok(nothing);
         };
@@ -148,34 +138,32 @@ impl<'a> Search<'a> {
     // Reads routines with these texts, and checks them.
     fn read<R: Threads + Wait + Sync, W: Watch>(
         &mut self,
-        rt: &R,
+        runner: &Runner<'_, R, W>,
         given: &Entries<'_>,
         texts: &[Vec<u8>],
-        watch: &W,
     ) -> Result<Vec<Patch>, AllocError> {
         let nothing = Vec::new(self.alloc);
         let sources = sources_with(self.alloc, self.sources, texts)?;
-        let read = read_routines(rt, self.alloc, sources.as_slice(), watch);
+        let read = read_routines(runner, sources.as_slice());
         let Some(routines) = found(read)? else {
             return Ok(nothing);
         };
         let Some(program) = found(link(self.alloc, routines.as_slice()))? else {
             return Ok(nothing);
         };
-        self.check(rt, given, &program, texts, watch)
+        self.check(runner, given, &program, texts)
     }
 
     // Looks behind the faults that these patches mend, and behind those that are found then.
     fn look_behind<R: Threads + Wait + Sync, W: Watch>(
         &mut self,
-        rt: &R,
+        runner: &Runner<'_, R, W>,
         given: &Entries<'_>,
         patches: &[Patch],
-        watch: &W,
     ) -> Result<(), AllocError> {
         let mut texts = mended_texts(self.alloc, self.grounds.texts, patches)?;
         for _ in 0..MOST_ROUNDS {
-            let patches = self.read(rt, given, texts.as_slice(), watch)?;
+            let patches = self.read(runner, given, texts.as_slice())?;
             if patches.is_empty() {
                 break;
             }
@@ -187,10 +175,9 @@ impl<'a> Search<'a> {
     /// Finds the faults behind those of `report`, if a report in this style explains its faults.
     pub(crate) fn run<R: Threads + Wait + Sync, W: Watch>(
         self,
-        rt: &R,
+        runner: &Runner<'_, R, W>,
         report: &Report,
         style: ReportStyle,
-        watch: &W,
     ) -> Result<FaultsBehind, AllocError> {
         let mut search = self;
         if !is_explained(style) || report.is_yes() {
@@ -202,7 +189,7 @@ impl<'a> Search<'a> {
         let patches = search.learn(&given, grounds, report, true)?;
         // The certificate that was given may be at fault itself.
         if !patches.is_empty() || !grounds.is_made {
-            search.look_behind(rt, &given, patches.as_slice(), watch)?;
+            search.look_behind(runner, &given, patches.as_slice())?;
         }
         Ok(search.behind)
     }

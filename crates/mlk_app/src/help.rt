@@ -13,7 +13,7 @@ use mlk_refusal_text::{
 };
 use mlk_rules_file::RulesFault;
 use mlk_text::{Code, Fault};
-use mlk_watch::Watch;
+use mlk_watch::{Runner, Watch};
 use std::alloc::{AllocError, Global};
 use std::sync::Wait;
 use std::thread::Threads;
@@ -55,14 +55,13 @@ fn explanation(
 /// unless an explanation is asked for. If no certificate can be made, the faults of the other entries follow, if the words ask for
 /// explanations.
 pub(crate) fn refusal_help<R: Threads + Wait + Sync, W: Watch>(
-    rt: &R,
-    alloc: Global,
+    runner: &Runner<'_, R, W>,
     refusal: &NoReport,
     program: &ProgramRequest<'_>,
     sources: &Sources<'_>,
     explaining: Explaining,
-    watch: &W,
 ) -> Result<Vec<u8>, AllocError> {
+    let alloc = runner.alloc;
     let code = match refusal_code(refusal) {
         Some(code) if is_refusal_explained(program, explaining) => code,
         _ => return Ok(Vec::new(alloc)),
@@ -72,7 +71,7 @@ pub(crate) fn refusal_help<R: Threads + Wait + Sync, W: Watch>(
         None => code_help(alloc, code)?,
     };
     if code == Code::GaveUp && style_in(&program.asked).is_explained {
-        push_faults(rt, alloc, &mut help, sources, watch)?;
+        push_faults(runner, &mut help, sources)?;
     }
     Ok(help)
 }

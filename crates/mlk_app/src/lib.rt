@@ -18,6 +18,6 @@ mod work;
 
 pub use file::{LONGEST_FILE, read_whole};
 pub use help::Explaining;
-pub use mlk_watch::{Stage, Unwatched, Watch};
+pub use mlk_watch::{Runner, Stage, Unwatched, Watch};
 pub use program::{run, wrong_words};
 pub use source::Files;

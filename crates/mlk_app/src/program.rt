@@ -26,7 +26,7 @@ use mlk_outcome::{NoReport, convert};
 use mlk_pool::{CheckError, ReportText};
 use mlk_refusal_text::{GivenFile, Spot};
 use mlk_text::Failure;
-use mlk_watch::Watch;
+use mlk_watch::{Runner, Watch};
 use std::alloc::{AllocError, Global};
 use std::io::{self, ErrorKind, Write};
 use std::sync::Wait;
@@ -97,24 +97,23 @@ fn notice(
 }
 
 fn refusal_answer<R: Threads + Wait + Sync, W: Watch>(
-    rt: &R,
-    alloc: Global,
+    runner: &Runner<'_, R, W>,
     refusal: &NoReport,
     program: &ProgramRequest<'_>,
     sources: &Sources<'_>,
     explaining: Explaining,
-    watch: &W,
 ) -> Answer
     requires { IsNotShut refusal.now }
     ensures { TellsRefusal (style_in program.now.asked).output refusal.now result }
 {
+    let alloc = runner.alloc;
     let Ok(line) = refusal_line(alloc, refusal) else {
         return Answer::OutOfMemory;
     };
     let Ok(beside) = notice(alloc, refusal, program, sources, &line) else {
         return Answer::OutOfMemory;
     };
-    match refusal_help(rt, alloc, refusal, program, sources, explaining, watch) {
+    match refusal_help(runner, refusal, program, sources, explaining) {
         Ok(help) => Answer::Refused(line, beside, help),
         Err(AllocError) => Answer::OutOfMemory,
     }
@@ -178,21 +177,18 @@ fn answer_page(alloc: Global, code: &str) -> Answer
 
 // What is answered to a request for a program, from the texts of its files.
 fn answer_program<R: Threads + Wait + Sync, F: Files, W: Watch>(
-    rt: &R,
-    alloc: Global,
+    runner: &Runner<'_, R, W>,
     program: &ProgramRequest<'_>,
     files: &F,
     explaining: Explaining,
-    watch: &W,
 ) -> Answer
     ensures { Answers (F.holds files.now) (F.lacks files.now) (wanted.Program program.now) result }
 {
+    let alloc = runner.alloc;
     match read_files(alloc, files, program) {
-        Ok(sources) => match print_sources(rt, alloc, &sources, program, watch) {
+        Ok(sources) => match print_sources(runner, &sources, program) {
             Ok(printed) => Answer::Report(printed.text, printed.status),
-            Err(refusal) => {
-                refusal_answer(rt, alloc, &refusal, program, &sources, explaining, watch)
-            }
+            Err(refusal) => refusal_answer(runner, &refusal, program, &sources, explaining),
         },
         Err(FileError::OutOfMemory) => Answer::OutOfMemory,
         Err(FileError::Unread(path)) => {
@@ -230,17 +226,16 @@ fn answer_conversion<F: Files, W: Watch>(
 
 // What is answered where a survey is asked for, from the texts of the routines.
 fn answer_survey<R: Threads + Wait + Sync, F: Files, W: Watch>(
-    rt: &R,
-    alloc: Global,
+    runner: &Runner<'_, R, W>,
     survey: &SurveyRequest<'_>,
     files: &F,
     explaining: Explaining,
-    watch: &W,
 ) -> Answer
     ensures { Answers (F.holds files.now) (F.lacks files.now) (wanted.Survey survey.now) result }
 {
+    let alloc = runner.alloc;
     match read_sources(alloc, files, survey.routines.as_slice()) {
-        Ok(sources) => match render_survey(rt, alloc, sources.as_slice(), survey.output, watch) {
+        Ok(sources) => match render_survey(runner, sources.as_slice(), survey.output) {
             Ok(printed) => Answer::Report(printed.text, YES),
             Err(AllocError) => Answer::OutOfMemory,
         },
@@ -253,22 +248,28 @@ fn answer_survey<R: Threads + Wait + Sync, F: Files, W: Watch>(
 
 // What is answered to a request, from the texts of the files.
 fn answer_request<R: Threads + Wait + Sync, F: Files, W: Watch>(
-    rt: &R,
-    alloc: Global,
+    runner: &Runner<'_, R, W>,
     request: &Request<'_>,
     files: &F,
     explaining: Explaining,
-    watch: &W,
 ) -> Answer
     ensures { Answers (F.holds files.now) (F.lacks files.now) request.now result }
 {
+    let alloc = runner.alloc;
     match request {
-        Request::Program(program) => answer_program(rt, alloc, program, files, explaining, watch),
+        Request::Program(program) => answer_program(runner, program, files, explaining),
         Request::Convert {
             certificate,
             format,
-        } => answer_conversion(alloc, *certificate, *format, files, explaining, watch),
-        Request::Survey(survey) => answer_survey(rt, alloc, survey, files, explaining, watch),
+        } => answer_conversion(
+            alloc,
+            *certificate,
+            *format,
+            files,
+            explaining,
+            runner.watch,
+        ),
+        Request::Survey(survey) => answer_survey(runner, survey, files, explaining),
         Request::Suggest(suggestion) => answer_suggestion(alloc, suggestion, files, explaining),
         Request::Stubs(stubs) => answer_stubs(alloc, stubs, files, explaining),
         Request::Explain(code) => answer_page(alloc, *code),
@@ -276,17 +277,16 @@ fn answer_request<R: Threads + Wait + Sync, F: Files, W: Watch>(
 }
 
 fn answer_words<R: Threads + Wait + Sync, F: Files, W: Watch>(
-    rt: &R,
-    alloc: Global,
+    runner: &Runner<'_, R, W>,
     words: &[String],
     files: &F,
     explaining: Explaining,
-    watch: &W,
 ) -> Answer
     ensures { AnswersWords (F.holds files.now) (F.lacks files.now) words.now result }
 {
+    let alloc = runner.alloc;
     match read_request(alloc, words) {
-        Ok(request) => answer_request(rt, alloc, &request, files, explaining, watch),
+        Ok(request) => answer_request(runner, &request, files, explaining),
         Err(UsageError::OutOfMemory) => Answer::OutOfMemory,
         Err(UsageError::Usage(text)) => Answer::Usage(text),
     }
@@ -313,18 +313,16 @@ pub fn wrong_words<E: Write>(error: &io::Error, err: &mut E) -> u8
 /// `err` changes nothing. Refusals are explained on `err` as much as `explaining` says. `watch` sees how far the work has come,
 /// and its end before anything is written.
 pub fn run<R: Threads + Wait + Sync, F: Files, W: Watch, O: Write, E: Write>(
-    rt: &R,
-    alloc: Global,
+    runner: &Runner<'_, R, W>,
     words: &[String],
     files: &F,
     explaining: Explaining,
-    watch: &W,
     out: &mut O,
     err: &mut E,
 ) -> u8
     ensures { Ran (F.holds files.now) (F.lacks files.now) words.now (O.contents out.old) (O.contents out.new) result }
 {
-    let answer = answer_words(rt, alloc, words, files, explaining, watch);
-    watch.end();
+    let answer = answer_words(runner, words, files, explaining);
+    runner.watch.end();
     say(&answer, out, err)
 }

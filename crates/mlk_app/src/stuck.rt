@@ -10,7 +10,7 @@ use mlk_rules::Rules;
 use mlk_rules_file::read_rules;
 use mlk_syntax::Routine;
 use mlk_text::Failure;
-use mlk_watch::Watch;
+use mlk_watch::{Runner, Watch};
 use std::alloc::{AllocError, Global};
 use std::sync::Wait;
 use std::thread::Threads;
@@ -33,28 +33,18 @@ pub(crate) fn found<T: Drop, E: Drop>(
 
 // Explains the faults of a program by a certificate that is made despite the entries that are given up.
 fn explain_program<R: Threads + Wait + Sync, W: Watch>(
-    rt: &R,
-    alloc: Global,
+    runner: &Runner<'_, R, W>,
     program: &Program<'_>,
     rules: &Rules,
     sources: &Sources<'_>,
-    watch: &W,
 ) -> Result<Vec<u8>, AllocError> {
+    let alloc = runner.alloc;
     let nothing = Vec::new(alloc);
-    let Some(made) = found(make_despite(alloc, program, rules, watch))? else {
+    let Some(made) = found(make_despite(alloc, program, rules, runner.watch))? else {
         return Ok(nothing);
     };
     let certificate = &made.certificate;
-    let report = report_by(
-        rt,
-        alloc,
-        program,
-        rules,
-        certificate,
-        WORKERS,
-        &OpenGate,
-        watch,
-    );
+    let report = report_by(runner, program, rules, certificate, WORKERS, &OpenGate);
     let Some(report) = found(report)? else {
         return Ok(nothing);
     };
@@ -71,12 +61,11 @@ fn explain_program<R: Threads + Wait + Sync, W: Watch>(
 }
 
 fn explain_routines<R: Threads + Wait + Sync, W: Watch>(
-    rt: &R,
-    alloc: Global,
+    runner: &Runner<'_, R, W>,
     routines: &[Routine],
     sources: &Sources<'_>,
-    watch: &W,
 ) -> Result<Vec<u8>, AllocError> {
+    let alloc = runner.alloc;
     let nothing = Vec::new(alloc);
     let Some(program) = found(link(alloc, routines))? else {
         return Ok(nothing);
@@ -84,23 +73,21 @@ fn explain_routines<R: Threads + Wait + Sync, W: Watch>(
     let Some(rules) = found(read_rules(alloc, sources.rules.as_slice()))? else {
         return Ok(nothing);
     };
-    explain_program(rt, alloc, &program, &rules, sources, watch)
+    explain_program(runner, &program, &rules, sources)
 }
 
 /// Adds to `text` the faults of a program of which no certificate can be made, with what explains them: those of the entries that
 /// were given up, by what was found until then, and those of all others. The texts are read once more.
 pub(crate) fn push_faults<R: Threads + Wait + Sync, W: Watch>(
-    rt: &R,
-    alloc: Global,
+    runner: &Runner<'_, R, W>,
     text: &mut Vec<u8>,
     sources: &Sources<'_>,
-    watch: &W,
 ) -> Result<(), AllocError> {
-    let read = read_routines(rt, alloc, sources.routines.as_slice(), watch);
+    let read = read_routines(runner, sources.routines.as_slice());
     let Some(routines) = found(read)? else {
         return Ok(());
     };
-    let faults = explain_routines(rt, alloc, routines.as_slice(), sources, watch)?;
+    let faults = explain_routines(runner, routines.as_slice(), sources)?;
     if !faults.is_empty() {
         text.extend_from_slice(NOTE)?;
         text.extend_from_slice(faults.as_slice())?;

@@ -26,7 +26,7 @@ use mlk_rules::Rules;
 use mlk_rules_file::read_rules;
 use mlk_syntax::Routine;
 use mlk_walk::Report;
-use mlk_watch::Watch;
+use mlk_watch::{Runner, Watch};
 use std::alloc::{AllocError, Global};
 use std::sync::Wait;
 use std::thread::Threads;
@@ -135,21 +135,20 @@ fn printed_report(
 
 // Prints the report of a program by `certificate`, which was made of it or given.
 fn print_report<R: Threads + Wait + Sync, W: Watch>(
-    rt: &R,
-    alloc: Global,
+    runner: &Runner<'_, R, W>,
     subject: &Subject<'_>,
     certificate: &Certificate,
     is_made: bool,
     workers: u32,
-    watch: &W,
 ) -> Result<Printed, NoReport>
     requires { AreFormed (map routine_of subject.now.program.now) }
     ensures ok { IfOk result (λ p. IsReportOfBlocks (style_in subject.now.request.now.asked) (map routine_of subject.now.program.now) subject.now.rules.now certificate.now p.text p.status) }
     ensures refused { IfErr result (RefusesReport refusal.Check (Unit {0}) workers (map routine_of subject.now.program.now) subject.now.rules.now certificate.now) }
 {
+    let alloc = runner.alloc;
     let program = subject.program;
     let rules = subject.rules;
-    let report = report_by_certificate(rt, alloc, program, rules, certificate, workers, watch)?;
+    let report = report_by_certificate(runner, program, rules, certificate, workers)?;
     let texts = shown_texts(alloc, subject.sources, subject.request)?;
     let grounds = Grounds {
         program,
@@ -161,7 +160,7 @@ fn print_report<R: Threads + Wait + Sync, W: Watch>(
     };
     let style = style_in(&subject.request.asked);
     let search = Search::new(alloc, subject.sources, &grounds, style);
-    let behind = search.run(rt, &report, style, watch)?;
+    let behind = search.run(runner, &report, style)?;
     let coverage = reported_coverage(alloc, program, rules, style)?;
     let explanations = Explanations {
         grounds: &grounds,
@@ -174,35 +173,33 @@ fn print_report<R: Threads + Wait + Sync, W: Watch>(
 
 // Prints the report of a program by the certificate with this text.
 fn print_check<R: Threads + Wait + Sync, W: Watch>(
-    rt: &R,
-    alloc: Global,
+    runner: &Runner<'_, R, W>,
     subject: &Subject<'_>,
     text: &[u8],
     workers: u32,
-    watch: &W,
 ) -> Result<Printed, NoReport>
     requires { AreFormed (map routine_of subject.now.program.now) }
     ensures ok { IfOk result (λ p. IsReportByText (style_in subject.now.request.now.asked) (map routine_of subject.now.program.now) subject.now.rules.now text.now p.text p.status) }
     ensures refused { IfErr result (RefusesByText refusal.Check (Unit {0}) workers text.now (map routine_of subject.now.program.now) subject.now.rules.now) }
 {
+    let alloc = runner.alloc;
     let certificate = read_cert(alloc, text)?;
-    print_report(rt, alloc, subject, &certificate, false, workers, watch)
+    print_report(runner, subject, &certificate, false, workers)
 }
 
 // Makes a certificate of a program, and prints the report by it.
 fn print_verification<R: Threads + Wait + Sync, W: Watch>(
-    rt: &R,
-    alloc: Global,
+    runner: &Runner<'_, R, W>,
     subject: &Subject<'_>,
     workers: u32,
-    watch: &W,
 ) -> Result<Printed, NoReport>
     requires { AreFormed (map routine_of subject.now.program.now) }
     ensures ok { IfOk result (λ p. IsReportOfMade (style_in subject.now.request.now.asked) (map routine_of subject.now.program.now) subject.now.rules.now p.text p.status) }
     ensures refused { IfErr result (RefusesMade workers (map routine_of subject.now.program.now) subject.now.rules.now) }
 {
-    let certificate = certificate_for(alloc, subject.program, subject.rules, watch)?;
-    print_report(rt, alloc, subject, &certificate, true, workers, watch)
+    let alloc = runner.alloc;
+    let certificate = certificate_for(alloc, subject.program, subject.rules, runner.watch)?;
+    print_report(runner, subject, &certificate, true, workers)
 }
 
 // Prints a certificate that is made of a program.
@@ -236,40 +233,38 @@ fn print_jobs(alloc: Global, subject: &Subject<'_>, events: &[u8]) -> Result<Pri
 
 // Prints what is asked of a program and its rules.
 fn print_work<R: Threads + Wait + Sync, W: Watch>(
-    rt: &R,
-    alloc: Global,
+    runner: &Runner<'_, R, W>,
     subject: &Subject<'_>,
     work: &Work,
-    watch: &W,
 ) -> Result<Printed, NoReport>
     requires { AreFormed (map routine_of subject.now.program.now) }
     ensures ok { IfOk result (λ p. IsPrinted (style_in subject.now.request.now.asked) (map routine_of subject.now.program.now) subject.now.rules.now work.now p.text p.status) }
     ensures refused { IfErr result (IsRefusedFor work.now (map routine_of subject.now.program.now) subject.now.rules.now) }
 {
+    let alloc = runner.alloc;
     match work {
         Work::Check {
             certificate,
             workers,
-        } => print_check(rt, alloc, subject, certificate.as_slice(), *workers, watch),
-        Work::Verify { workers } => print_verification(rt, alloc, subject, *workers, watch),
-        Work::Make { format } => print_certificate(alloc, subject, *format, watch),
+        } => print_check(runner, subject, certificate.as_slice(), *workers),
+        Work::Verify { workers } => print_verification(runner, subject, *workers),
+        Work::Make { format } => print_certificate(alloc, subject, *format, runner.watch),
         Work::Replay(events) => print_jobs(alloc, subject, events.as_slice()),
     }
 }
 
 // Links `routines`, reads their rules, and prints what is asked of both.
 fn print_routines<R: Threads + Wait + Sync, W: Watch>(
-    rt: &R,
-    alloc: Global,
+    runner: &Runner<'_, R, W>,
     routines: &[Routine],
     sources: &Sources<'_>,
     request: &ProgramRequest<'_>,
-    watch: &W,
 ) -> Result<Printed, NoReport>
     requires { AreFormed (map routine_of routines.now) }
     ensures ok { IfOk result (λ p. IsPrintedOfTrees (style_in request.now.asked) (map routine_of routines.now) sources.now p.text p.status) }
     ensures refused { IfErr result (RefusesTrees refusal.Check (map routine_of routines.now) sources.now.rules.items (IsRefusedFor sources.now.work)) }
 {
+    let alloc = runner.alloc;
     let program = link(alloc, routines)?;
     let rules = read_rules(alloc, sources.rules.as_slice())?;
     let subject = Subject {
@@ -278,8 +273,8 @@ fn print_routines<R: Threads + Wait + Sync, W: Watch>(
         sources,
         request,
     };
-    let printed = print_work(rt, alloc, &subject, &sources.work, watch);
-    watch.discard(program);
+    let printed = print_work(runner, &subject, &sources.work);
+    runner.watch.discard(program);
     printed
 }
 
@@ -287,17 +282,15 @@ fn print_routines<R: Threads + Wait + Sync, W: Watch>(
 ///
 /// Refuses, in this order: the first routine that can't be read, their linking, the rules, and what `print_work` refuses.
 pub(crate) fn print_sources<R: Threads + Wait + Sync, W: Watch>(
-    rt: &R,
-    alloc: Global,
+    runner: &Runner<'_, R, W>,
     sources: &Sources<'_>,
     request: &ProgramRequest<'_>,
-    watch: &W,
 ) -> Result<Printed, NoReport>
     ensures ok { IfOk result (λ p. IsPrintedOfTexts (style_in request.now.asked) sources.now p.text p.status) }
     ensures refused { IfErr result (IsRefusedSources sources.now) }
 {
-    let routines = read_routines(rt, alloc, sources.routines.as_slice(), watch)?;
-    let printed = print_routines(rt, alloc, routines.as_slice(), sources, request, watch);
-    watch.discard(routines);
+    let routines = read_routines(runner, sources.routines.as_slice())?;
+    let printed = print_routines(runner, routines.as_slice(), sources, request);
+    runner.watch.discard(routines);
     printed
 }

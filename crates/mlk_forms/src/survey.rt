@@ -10,7 +10,7 @@ use mlk_survey_reading::read_all_lines;
 use mlk_survey_text::{survey_json, survey_text};
 use mlk_syntax::Routine;
 use mlk_text::{Failure, Fault};
-use mlk_watch::Watch;
+use mlk_watch::{Runner, Watch};
 use std::alloc::{AllocError, Global};
 use std::thread::Threads;
 
@@ -61,17 +61,15 @@ fn render_answers(
 /// Writes what is found in the texts of routines. They are read side by side, each by itself: one that is refused is counted and
 /// reported, with its lines that can't be read, and hides nothing of the others.
 pub fn render_survey<R: Threads + Sync, W: Watch>(
-    rt: &R,
-    alloc: Global,
+    runner: &Runner<'_, R, W>,
     sources: &[Source<'_>],
     output: SurveyOutput,
-    watch: &W,
 ) -> Result<PrintedSurvey, AllocError>
     ensures { IfOk result (λ printed. printed.read + printed.refused ≡ length sources.now) }
 {
-    let readings = read_all_lines(rt, alloc, sources, watch)?;
+    let readings = read_all_lines(runner, sources)?;
     let answers = readings.answers.as_slice();
-    let printed = render_answers(alloc, answers, readings.further.as_slice(), output);
-    watch.discard(readings);
+    let printed = render_answers(runner.alloc, answers, readings.further.as_slice(), output);
+    runner.watch.discard(readings);
     printed
 }

@@ -13,35 +13,24 @@ use mlk_pool::verify_program;
 use mlk_program::Program;
 use mlk_rules::Rules;
 use mlk_walk::Report;
-use mlk_watch::Watch;
-use std::alloc::Global;
+use mlk_watch::{Runner, Watch};
 use std::sync::Wait;
 use std::thread::Threads;
 
 /// Reports on `program` by its rules and `certificate`, as `verify_program` does at a gate that is always open.
 pub fn report_by_certificate<R: Threads + Wait + Sync, W: Watch>(
-    rt: &R,
-    alloc: Global,
+    runner: &Runner<'_, R, W>,
     program: &Program<'_>,
     rules: &Rules,
     certificate: &Certificate,
     workers: u32,
-    watch: &W,
 ) -> Result<Report, NoReport>
     requires { AreFormed (map routine_of program.now) }
     ensures ok { IfOk result (IsReportBy (map routine_of program.now) rules.now certificate.now) }
     ensures refused { IfErr result (RefusesReport refusal.Check (Unit {0}) workers (map routine_of program.now) rules.now certificate.now) }
 {
-    match verify_program(
-        rt,
-        alloc,
-        program,
-        rules,
-        certificate,
-        workers as usize,
-        &OpenGate,
-        watch,
-    ) {
+    let workers = workers as usize;
+    match verify_program(runner, program, rules, certificate, workers, &OpenGate) {
         Ok(report) => Ok(report),
         Err(error) => Err(NoReport::Check(error)),
     }

@@ -11,8 +11,8 @@ use crate::readers::{answers, read_all};
 use crate::source::Source;
 use mlk_syntax::Routine;
 use mlk_text::{Failure, Fault};
-use mlk_watch::{Stage, Watch};
-use std::alloc::{AllocError, Global};
+use mlk_watch::{Runner, Stage, Watch};
+use std::alloc::AllocError;
 use std::thread::Threads;
 
 // How many texts are read at once, so that it is seen how far the reading has come, and that it ends where one is refused.
@@ -31,24 +31,22 @@ fn next_texts<'s, 'a>(sources: &'s [Source<'a>], done: usize) -> &'s [Source<'a>
 
 /// The routines of the texts `sources`, in their order, or the first refusal.
 pub fn read_routines<R: Threads + Sync, W: Watch>(
-    rt: &R,
-    alloc: Global,
+    runner: &Runner<'_, R, W>,
     sources: &[Source<'_>],
-    watch: &W,
 ) -> Result<Vec<Routine>, Failure<Fault>>
     ensures ok { IfOk result (λ r. AreRead sources.now (map routine_of r.items)) }
     ensures refused { IfErr result (RefusesFirst sources.now) }
 {
     let count = sources.len();
-    let mut routines = Vec::new(alloc);
+    let mut routines = Vec::new(runner.alloc);
     let mut done = 0;
     while done < count {
-        watch.see(Stage::Reading, done, count);
+        runner.watch.see(Stage::Reading, done, count);
         let next = next_texts(sources, done);
-        match read_all(rt, alloc, next) {
+        match read_all(runner.rt, runner.alloc, next) {
             Ok(mut read) => routines.append(&mut read)?,
             Err(failure) => {
-                watch.discard(routines);
+                runner.watch.discard(routines);
                 return Err(failure);
             }
         }
@@ -60,20 +58,18 @@ pub fn read_routines<R: Threads + Sync, W: Watch>(
 /// For each of the texts `sources` its routine, or why it is none, in their order: each is read by itself, and one that is
 /// refused stops nothing.
 pub fn read_each<R: Threads + Sync, W: Watch>(
-    rt: &R,
-    alloc: Global,
+    runner: &Runner<'_, R, W>,
     sources: &[Source<'_>],
-    watch: &W,
 ) -> Result<Vec<Result<Routine, Failure<Fault>>>, AllocError>
     ensures { IfOk result (λ found. AllZip IsAnswer sources.now found.items) }
 {
     let count = sources.len();
-    let mut found = Vec::new(alloc);
+    let mut found = Vec::new(runner.alloc);
     let mut done = 0;
     while done < count {
-        watch.see(Stage::Reading, done, count);
+        runner.watch.see(Stage::Reading, done, count);
         let next = next_texts(sources, done);
-        let mut read = answers(rt, alloc, next)?;
+        let mut read = answers(runner.rt, runner.alloc, next)?;
         found.append(&mut read)?;
         done += next.len();
     }

@@ -24,7 +24,7 @@ use mlk_program::{EntryId, Program};
 use mlk_rules::Rules;
 use mlk_text::Failure;
 use mlk_walk::{Checks, DEEPEST_CUT, Report, verdict_of};
-use mlk_watch::Watch;
+use mlk_watch::{Runner, Watch};
 use std::alloc::{AllocError, Global};
 use std::collections::VecDeque;
 use std::marker::Brand;
@@ -135,12 +135,10 @@ fn depth_for(tasks: usize, workers: usize) -> u32
 
 // The report of a run whose checks look into these.
 fn report_with<N: Inputs + Send + Sync, G: Gate + Sync, W: Watch, R: Threads + Wait + Sync>(
-    rt: &R,
-    alloc: Global,
+    runner: &Runner<'_, R, W>,
     checks: &Checks<'_>,
     workers: usize,
     gate: &G,
-    watch: &W,
 ) -> Result<Report, Failure<PoolFault>>
     requires inputs { AreKnown N.given (map routine_of checks.now.program.now) checks.now.rules.now checks.now.entries.now }
     requires workers { workers ≡ N.given.workers }
@@ -150,10 +148,12 @@ fn report_with<N: Inputs + Send + Sync, G: Gate + Sync, W: Watch, R: Threads + W
         (entries_from 0 (map routine_of checks.now.program.now))) }
     ensures refused { IfErr result (IsShut (G.is_open gate.now)) }
 {
+    let alloc = runner.alloc;
     let entries = entries_of(alloc, checks.program)?;
     let tasks = certified(alloc, checks.entries, entries.as_slice())?;
     let depth = depth_for(tasks.len(), workers);
     let board: SharedBoard<N> = SharedBoard::new(Board::of(alloc, tasks)?);
+    let (rt, watch) = (runner.rt, runner.watch);
     run_workers(rt, alloc, checks, &board, gate, watch, workers, depth);
     let slots = board.into_board().into_slots();
     finished::<N, G>(alloc, checks, entries.as_slice(), slots, gate)
@@ -162,14 +162,12 @@ fn report_with<N: Inputs + Send + Sync, G: Gate + Sync, W: Watch, R: Threads + W
 // The report of a run that is given these.
 #[tactic(auto, unfolding(mlk_walk::specs::Reports::report), using(crate::proofs::Runs::known_inputs))]
 fn report_on<N: Inputs + Send + Sync, G: Gate + Sync, W: Watch, R: Threads + Wait + Sync>(
-    rt: &R,
-    alloc: Global,
+    runner: &Runner<'_, R, W>,
     program: &Program<'_>,
     rules: &Rules,
     certificate: &Certificate,
     workers: usize,
     gate: &G,
-    watch: &W,
 ) -> Result<Report, Failure<PoolFault>>
     requires inputs { AreInputs N.given (map routine_of program.now) rules.now certificate.now }
     requires workers { workers ≡ N.given.workers }
@@ -177,13 +175,13 @@ fn report_on<N: Inputs + Send + Sync, G: Gate + Sync, W: Watch, R: Threads + Wai
     ensures ok { IfOk result (λ r. r ≡ report (map routine_of program.now) rules.now certificate.now) }
     ensures refused { IfErr result (IsShut (G.is_open gate.now)) }
 {
-    let entries = Entries::of(alloc, program, rules, certificate.blocks())?;
+    let entries = Entries::of(runner.alloc, program, rules, certificate.blocks())?;
     let checks = Checks {
         program,
         rules,
         entries: &entries,
     };
-    report_with::<N, G, W, R>(rt, alloc, &checks, workers, gate, watch)
+    report_with::<N, G, W, R>(runner, &checks, workers, gate)
 }
 
 /// The faults of a program by its rules and a certificate, found by 1 to 64 workers side by side: for each entry that is
@@ -196,14 +194,12 @@ fn report_on<N: Inputs + Send + Sync, G: Gate + Sync, W: Watch, R: Threads + Wai
 /// The caller's thread is one of the workers. What no worker has done in the end it does, and where the gate was shut it asks
 /// once more: so the refusal is that of the first task that is still not done. `watch` sees how far the work has come.
 pub fn report_by<G: Gate + Sync, W: Watch, R: Threads + Wait + Sync>(
-    rt: &R,
-    alloc: Global,
+    runner: &Runner<'_, R, W>,
     program: &Program<'_>,
     rules: &Rules,
     certificate: &Certificate,
     workers: usize,
     gate: &G,
-    watch: &W,
 ) -> Result<Report, Failure<PoolFault>>
     ensures exact { IfOk result (λ r. r ≡ report (map routine_of program.now) rules.now certificate.now) }
     ensures safe { IfOk result (λ r. r ≡ [] → AreFormed (map routine_of program.now)
@@ -217,5 +213,5 @@ pub fn report_by<G: Gate + Sync, W: Watch, R: Threads + Wait + Sync>(
     if workers == 0 || workers > MOST_WORKERS {
         return Err(Failure::Refused(PoolFault::Workers));
     }
-    report_on::<Brand, G, W, R>(rt, alloc, program, rules, certificate, workers, gate, watch)
+    report_on::<Brand, G, W, R>(runner, program, rules, certificate, workers, gate)
 }

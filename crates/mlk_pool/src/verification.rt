@@ -18,7 +18,7 @@ use mlk_rules::Rules;
 use mlk_rules_file::read_rules;
 use mlk_syntax::Routine;
 use mlk_walk::missing_entry;
-use mlk_watch::Watch;
+use mlk_watch::{Runner, Watch};
 use std::alloc::Global;
 use std::sync::Wait;
 use std::thread::Threads;
@@ -35,14 +35,12 @@ pub struct Report {
 /// Refuses, in this order: the first entry of the rules, then of the certificate, that is not in the program (901); a number of
 /// workers that is not 1 to 64 (902); and the first task to which `gate` lets nobody pass (903).
 pub fn verify_program<G: Gate + Sync, W: Watch, R: Threads + Wait + Sync>(
-    rt: &R,
-    alloc: Global,
+    runner: &Runner<'_, R, W>,
     program: &Program<'_>,
     rules: &Rules,
     certificate: &Certificate,
     workers: usize,
     gate: &G,
-    watch: &W,
 ) -> Result<mlk_walk::Report, CheckError>
     requires { AreFormed (map routine_of program.now) }
     ensures ok { IfOk result (IsReportBy (map routine_of program.now) rules.now certificate.now) }
@@ -50,41 +48,30 @@ pub fn verify_program<G: Gate + Sync, W: Watch, R: Threads + Wait + Sync>(
     ensures refused { IfErr result (IsUnreportedBy (G.is_open gate.now) workers (map routine_of program.now) rules.now certificate.now) }
 {
     if let Some(entry) = missing_entry(program, rules, certificate) {
-        return Err(missing(alloc, entry));
+        return Err(missing(runner.alloc, entry));
     }
-    let rows = report_by(rt, alloc, program, rules, certificate, workers, gate, watch)?;
+    let rows = report_by(runner, program, rules, certificate, workers, gate)?;
     Ok(rows)
 }
 
 // The report of the program that these routines make, by the texts of rules and of a certificate.
 fn rows_of_routines<G: Gate + Sync, W: Watch, R: Threads + Wait + Sync>(
-    rt: &R,
-    alloc: Global,
+    runner: &Runner<'_, R, W>,
     routines: &[Routine],
     rules_text: &[u8],
     cert_text: &[u8],
     workers: usize,
     gate: &G,
-    watch: &W,
 ) -> Result<mlk_walk::Report, CheckError>
     requires { AreFormed (map routine_of routines.now) }
     ensures ok { IfOk result (IsReportOfTrees (map routine_of routines.now) rules_text.now cert_text.now) }
     ensures allowed { IfOk result (λ _. AreAllowed workers) }
     ensures refused { IfErr result (IsUnreportedOfTrees (G.is_open gate.now) workers (map routine_of routines.now) rules_text.now cert_text.now) }
 {
-    let program = link(alloc, routines)?;
-    let rules = read_rules(alloc, rules_text)?;
-    let certificate = read_cert(alloc, cert_text)?;
-    verify_program(
-        rt,
-        alloc,
-        &program,
-        &rules,
-        &certificate,
-        workers,
-        gate,
-        watch,
-    )
+    let program = link(runner.alloc, routines)?;
+    let rules = read_rules(runner.alloc, rules_text)?;
+    let certificate = read_cert(runner.alloc, cert_text)?;
+    verify_program(runner, &program, &rules, &certificate, workers, gate)
 }
 
 /// Reports on the texts of a program: of its routines, each with the stem of its file's name, of its `rules` and of a
@@ -112,16 +99,9 @@ pub fn verify<G: Gate + Sync, W: Watch, R: Threads + Wait + Sync>(
     ensures allowed { IfOk result (λ _. AreAllowed workers) }
     ensures refused { IfErr result (IsUnverified (G.is_open gate.now) workers sources.now rules.now certificate.now) }
 {
-    let routines = read_routines(rt, alloc, sources, watch)?;
-    let rows = rows_of_routines(
-        rt,
-        alloc,
-        routines.as_slice(),
-        rules,
-        certificate,
-        workers,
-        gate,
-        watch,
-    )?;
+    let runner = Runner { rt, alloc, watch };
+    let routines = read_routines(&runner, sources)?;
+    let trees = routines.as_slice();
+    let rows = rows_of_routines(&runner, trees, rules, certificate, workers, gate)?;
     Ok(Report { routines, rows })
 }

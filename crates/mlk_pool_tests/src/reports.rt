@@ -7,7 +7,7 @@ use mlk_pool::{CheckError, Report, Source, read_routines, render, report_by, ver
 use mlk_program::Program;
 use mlk_rules::Rules;
 use mlk_text::Failure;
-use mlk_watch::Unwatched;
+use mlk_watch::{Runner, Unwatched};
 use std::alloc::Global;
 use std::io::Cursor;
 use std::sync::Wait;
@@ -159,7 +159,9 @@ pub(crate) fn is_reported<R: Threads + Wait + Sync>(
     certificate: &Certificate,
 ) -> Option<bool> {
     let gate = Turnstile::new(Holds::FirstTwo);
-    let report = report_by(rt, alloc, program, rules, certificate, 2, &gate, &Unwatched).ok()?;
+    let watch = &Unwatched;
+    let runner = Runner { rt, alloc, watch };
+    let report = report_by(&runner, program, rules, certificate, 2, &gate).ok()?;
     Some(report.rows().len() == 5 && gate.passed() == EACH_ONCE && gate.posted() == EACH_ONCE)
 }
 
@@ -173,6 +175,11 @@ fn two_workers_are_at_work_at_once(rt: HostRuntime) {
 #[test]
 fn no_texts_are_no_routines(rt: HostRuntime) {
     let alloc = rt.alloc();
-    let read = read_routines(&rt, alloc, &[], &Unwatched);
+    let runner = Runner {
+        rt: &rt,
+        alloc,
+        watch: &Unwatched,
+    };
+    let read = read_routines(&runner, &[]);
     assert!(&rt; matches!(&read, Ok(routines) if routines.is_empty()));
 }

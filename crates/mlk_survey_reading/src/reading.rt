@@ -8,7 +8,7 @@ use crate::rest::Rest;
 use mlk_pool::{Source, read_each};
 use mlk_syntax::Routine;
 use mlk_text::{Failure, Fault};
-use mlk_watch::Watch;
+use mlk_watch::{Runner, Watch};
 use std::alloc::{AllocError, Global};
 use std::thread::Threads;
 
@@ -73,33 +73,29 @@ fn add_faults(
 
 // Reads what is left of the texts, appends the faults that are found, and returns what is left behind these.
 fn read_on<R: Threads + Sync, W: Watch>(
-    rt: &R,
-    alloc: Global,
+    runner: &Runner<'_, R, W>,
     rests: &[Rest],
     further: &mut Vec<Fault>,
-    watch: &W,
 ) -> Result<Vec<Rest>, AllocError> {
-    let sources = sources_of(alloc, rests)?;
-    let answers = read_each(rt, alloc, sources.as_slice(), watch)?;
-    let behind = rests_behind(alloc, rests, answers.as_slice())?;
+    let sources = sources_of(runner.alloc, rests)?;
+    let answers = read_each(runner, sources.as_slice())?;
+    let behind = rests_behind(runner.alloc, rests, answers.as_slice())?;
     add_faults(further, rests, answers)?;
     Ok(behind)
 }
 
 // The faults behind the first ones, round by round.
 fn further_faults<R: Threads + Sync, W: Watch>(
-    rt: &R,
-    alloc: Global,
+    runner: &Runner<'_, R, W>,
     rests: Vec<Rest>,
-    watch: &W,
 ) -> Result<Vec<Fault>, AllocError> {
-    let mut further = Vec::new(alloc);
+    let mut further = Vec::new(runner.alloc);
     let mut left = rests;
     for _ in 1..MOST_LINES {
         if left.is_empty() {
             break;
         }
-        let behind = read_on(rt, alloc, left.as_slice(), &mut further, watch)?;
+        let behind = read_on(runner, left.as_slice(), &mut further)?;
         left = behind;
     }
     Ok(further)
@@ -127,15 +123,13 @@ fn first_rests(
 /// Reads each of the texts `sources` by itself. One that is refused is then read behind the line of its fault, as if a routine began
 /// there, in a block if the next line is in one.
 pub fn read_all_lines<R: Threads + Sync, W: Watch>(
-    rt: &R,
-    alloc: Global,
+    runner: &Runner<'_, R, W>,
     sources: &[Source<'_>],
-    watch: &W,
 ) -> Result<Readings, AllocError>
     ensures { IfOk result (λ r. AllZip IsAnswer sources.now r.answers.items) }
 {
-    let answers = read_each(rt, alloc, sources, watch)?;
-    let left = first_rests(alloc, sources, answers.as_slice())?;
-    let further = further_faults(rt, alloc, left, watch)?;
+    let answers = read_each(runner, sources)?;
+    let left = first_rests(runner.alloc, sources, answers.as_slice())?;
+    let further = further_faults(runner, left)?;
     Ok(Readings { answers, further })
 }

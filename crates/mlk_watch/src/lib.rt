@@ -1,6 +1,8 @@
 //! Progress reporting for long-running work.
 #![tactic(auto)]
 
+use std::alloc::Global;
+
 /// A stage of the work.
 #[derive(Clone, Copy, Debug, Drop, PartialEq, Eq)]
 pub enum Stage {
@@ -23,6 +25,14 @@ pub trait Watch {
     /// Takes a value that is not needed any more. If the process ends soon, it may be leaked: the system then frees all memory at
     /// once.
     fn discard<T: Drop>(&self, value: T);
+}
+
+/// Who runs: what starts threads, the allocator, and who watches.
+#[derive(Drop)]
+pub struct Runner<'x, R, W> {
+    pub rt: &'x R,
+    pub alloc: Global,
+    pub watch: &'x W,
 }
 
 /// A `Watch` that ignores everything.

@@ -4,7 +4,7 @@
 mod progress;
 
 use crate::progress::Progress;
-use mlk_app::{Explaining, Files, read_whole, run, wrong_words};
+use mlk_app::{Explaining, Files, Runner, read_whole, run, wrong_words};
 use std::alloc::Global;
 use std::fs::File;
 use std::io::{self, IsTerminal};
@@ -44,13 +44,16 @@ fn main(rt: HostRuntime) -> ExitCode {
         Ok(words) => {
             let disk = Disk { rt: &rt };
             let progress = Progress::new(&rt);
+            let runner = Runner {
+                rt: &rt,
+                alloc: rt.alloc(),
+                watch: &progress,
+            };
             run(
-                &rt,
-                rt.alloc(),
+                &runner,
                 words.as_slice(),
                 &disk,
                 explaining(&rt),
-                &progress,
                 &mut out,
                 &mut err,
             )

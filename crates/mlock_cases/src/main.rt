@@ -4,7 +4,7 @@
 //! then what it prints, then what it writes to the error stream, then `= ` and its status.
 #![tactic(auto)]
 
-use mlk_app::{Explaining, Files, Unwatched, run};
+use mlk_app::{Explaining, Files, Runner, Unwatched, run};
 use mlk_case_text::{Case, cases_of};
 use std::alloc::Global;
 use std::io::{self, Read, Write};
@@ -34,13 +34,16 @@ fn push_answer<R: Threads + Wait + Sync>(
     let mut errors: Vec<u8> = Vec::new(alloc);
     case.push_heading(out)?;
     let files = CaseFiles { case };
-    let status = run(
+    let runner = Runner {
         rt,
         alloc,
+        watch: &Unwatched,
+    };
+    let status = run(
+        &runner,
         words.as_slice(),
         &files,
         Explaining::AsAsked,
-        &Unwatched,
         out,
         &mut errors,
     );

@@ -1,7 +1,7 @@
 // Faults of the command line, of files, of streams and of memory.
 
 use super::{CERT, CHECK, Memory, RULES, TAKE, texts};
-use mlk_app::{Explaining, Files, Unwatched, run};
+use mlk_app::{Explaining, Files, Runner, Unwatched, run};
 use std::alloc::{AllocError, Global};
 use std::io::{self, ErrorKind, Write};
 use std::sync::Wait;
@@ -57,13 +57,16 @@ fn is_usage<R: Threads + Wait + Sync>(
     let files = Memory {
         files: &[("rules.toml", RULES), ("cert", CERT), ("ONE.m", TAKE)],
     };
-    let status = run(
+    let runner = Runner {
         rt,
         alloc,
+        watch: &Unwatched,
+    };
+    let status = run(
+        &runner,
         words.as_slice(),
         &files,
         Explaining::AsAsked,
-        &Unwatched,
         &mut out,
         &mut err,
     );
@@ -101,15 +104,18 @@ fn files_that_are_too_large(rt: HostRuntime) -> Result<(), Fail> {
         let kind = ErrorKind::FileTooLarge;
         let files = Broken { path, kind };
         assert_eq!(&rt;
-            run(
-                &rt,
+            let runner = Runner {
+                rt: &rt,
                 alloc,
+                watch: &Unwatched,
+            };
+            run(
+                &runner,
                 words.as_slice(),
                 &files,
                 Explaining::AsAsked,
-                &Unwatched,
                 &mut out,
-                &mut err
+                &mut err,
             ),
             3
         );
@@ -130,15 +136,18 @@ fn want_of_memory(rt: HostRuntime) -> Result<(), Fail> {
         kind: ErrorKind::OutOfMemory,
     };
     assert_eq!(&rt;
-        run(
-            &rt,
+        let runner = Runner {
+            rt: &rt,
             alloc,
+            watch: &Unwatched,
+        };
+        run(
+            &runner,
             words.as_slice(),
             &files,
             Explaining::AsAsked,
-            &Unwatched,
             &mut out,
-            &mut err
+            &mut err,
         ),
         3
     );
@@ -159,13 +168,16 @@ fn output_that_fails(rt: HostRuntime) -> Result<(), Fail> {
         for room in 0..length {
             let mut out = Short { room };
             let mut err: Vec<u8> = Vec::new(alloc);
-            let status = run(
-                &rt,
+            let runner = Runner {
+                rt: &rt,
                 alloc,
+                watch: &Unwatched,
+            };
+            let status = run(
+                &runner,
                 words.as_slice(),
                 &files,
                 Explaining::AsAsked,
-                &Unwatched,
                 &mut out,
                 &mut err,
             );
@@ -187,13 +199,16 @@ fn errors_that_fail(rt: HostRuntime) -> Result<(), Fail> {
         let words = texts(alloc, &["mlock", "check", "rules.toml", "cert", path])?;
         let mut out: Vec<u8> = Vec::new(alloc);
         let mut err = Short { room: 3 };
-        let status = run(
-            &rt,
+        let runner = Runner {
+            rt: &rt,
             alloc,
+            watch: &Unwatched,
+        };
+        let status = run(
+            &runner,
             words.as_slice(),
             &files,
             Explaining::AsAsked,
-            &Unwatched,
             &mut out,
             &mut err,
         );
