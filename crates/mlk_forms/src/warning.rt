@@ -42,14 +42,10 @@ pub(crate) fn reported_gaps<'a>(
 ) -> Result<Vec<Gap<'a>>, AllocError>
     ensures { IfOk result (λ gaps. AreGaps is_strict gaps.items) }
 {
-    if !is_strict {
-        return Ok(Vec::new(alloc));
+    match coverage {
+        Some(coverage) if is_strict => gaps_of(alloc, coverage),
+        _ => Ok(Vec::new(alloc)),
     }
-    let Some(coverage) = coverage else {
-        return Ok(Vec::new(alloc));
-    };
-    let gaps = gaps_of(alloc, coverage)?;
-    Ok(gaps)
 }
 
 // `hazard ROUTINE line:column NAME`
