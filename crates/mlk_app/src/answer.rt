@@ -74,7 +74,7 @@ fn print_beside<O: Write, E: Write>(notice: &Option<ReportText>, out: &mut O, er
 }
 
 /// Says `answer`, and answers the status.
-pub(crate) fn say<O: Write, E: Write>(answer: &Answer, out: &mut O, err: &mut E) -> u8
+pub(crate) fn print_answer<O: Write, E: Write>(answer: &Answer, out: &mut O, err: &mut E) -> u8
     ensures { IsSaid answer.now (O.contents out.old) (O.contents out.new) result }
 {
     match answer {

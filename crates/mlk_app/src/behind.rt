@@ -1,7 +1,7 @@
 // What is found behind the faults of a report.
 
 use crate::source::Sources;
-use crate::stuck::{WORKERS, found};
+use crate::stuck::{WORKERS, none_if_refused};
 use mlk_behind::{KnownFaults, Patch, mended_texts, next_round};
 use mlk_calls::Entries;
 use mlk_cli::{Output, ReportStyle};
@@ -117,11 +117,17 @@ impl<'a> Search<'a> {
     ) -> Result<Vec<Patch>, AllocError> {
         let (alloc, rules) = (self.alloc, self.grounds.rules);
         let nothing = Vec::new(alloc);
-        let Some(certificate) = found(make_certificate(alloc, program, rules, runner.watch))? else {
+        let Some(certificate) = none_if_refused(make_certificate(
+            alloc,
+            program,
+            rules,
+            runner.watch,
+        ))?
+        else {
             return Ok(nothing);
         };
         let report = report_by(runner, program, rules, &certificate, WORKERS, &OpenGate);
-        let Some(report) = found(report)? else {
+        let Some(report) = none_if_refused(report)? else {
             return Ok(nothing);
         };
         let grounds = Grounds {
@@ -145,10 +151,10 @@ impl<'a> Search<'a> {
         let nothing = Vec::new(self.alloc);
         let sources = sources_with(self.alloc, self.sources, texts)?;
         let read = read_routines(runner, sources.as_slice());
-        let Some(routines) = found(read)? else {
+        let Some(routines) = none_if_refused(read)? else {
             return Ok(nothing);
         };
-        let Some(program) = found(link(self.alloc, routines.as_slice()))? else {
+        let Some(program) = none_if_refused(link(self.alloc, routines.as_slice()))? else {
             return Ok(nothing);
         };
         self.check(runner, given, &program, texts)

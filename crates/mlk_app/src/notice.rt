@@ -3,12 +3,12 @@
 use crate::refused::refusal_code;
 use mlk_cli::ProgramRequest;
 use mlk_outcome::NoReport;
-use mlk_output::{Notice, Place};
+use mlk_output::{Notice, NoticePlace};
 use mlk_refusal_text::{GivenFile, Spot};
 
 // A place in the file at a path.
-fn place_at(path: &str, spot: Spot) -> Place<'_> {
-    Place {
+fn place_at(path: &str, spot: Spot) -> NoticePlace<'_> {
+    NoticePlace {
         path,
         line: spot.line,
         column: spot.column,

@@ -7,7 +7,7 @@ ghost use Rattle.mlk_app.specs.Ran.{style_in, IsErrorLine, IsRefusalLine, TellsR
 ghost use Rattle.mlk_forms.specs.Rendering.{IsNoticed};
 ghost use Rattle.mlk_outcome.specs.Refusals.{IsOfOpenGate, IsNotShut};
 
-use crate::answer::{Answer, REFUSED, YES, say, write_error, write_memory_error};
+use crate::answer::{Answer, REFUSED, YES, print_answer, write_error, write_memory_error};
 use crate::help::{Explaining, certificate_help, is_refusal_explained, refusal_help, why_unread};
 use crate::notice::notice_of;
 use crate::printed::{
@@ -324,5 +324,5 @@ pub fn run<R: Threads + Wait + Sync, F: Files, W: Watch, O: Write, E: Write>(
 {
     let answer = answer_words(runner, words, files, explaining);
     runner.watch.end();
-    say(&answer, out, err)
+    print_answer(&answer, out, err)
 }

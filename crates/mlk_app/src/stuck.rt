@@ -21,7 +21,7 @@ pub(crate) const WORKERS: usize = 4;
 const NOTE: &[u8] = b"note: the faults of all entries, by the locks that were found until then:\n";
 
 /// What was found, or nothing if it was refused: what is refused was reported before, or is not reported.
-pub(crate) fn found<T: Drop, E: Drop>(
+pub(crate) fn none_if_refused<T: Drop, E: Drop>(
     answer: Result<T, Failure<E>>,
 ) -> Result<Option<T>, AllocError> {
     match answer {
@@ -40,12 +40,12 @@ fn explain_program<R: Threads + Wait + Sync, W: Watch>(
 ) -> Result<Vec<u8>, AllocError> {
     let alloc = runner.alloc;
     let nothing = Vec::new(alloc);
-    let Some(made) = found(make_despite(alloc, program, rules, runner.watch))? else {
+    let Some(made) = none_if_refused(make_despite(alloc, program, rules, runner.watch))? else {
         return Ok(nothing);
     };
     let certificate = &made.certificate;
     let report = report_by(runner, program, rules, certificate, WORKERS, &OpenGate);
-    let Some(report) = found(report)? else {
+    let Some(report) = none_if_refused(report)? else {
         return Ok(nothing);
     };
     let texts = copied_texts(alloc, sources.routines.as_slice())?;
@@ -67,10 +67,10 @@ fn explain_routines<R: Threads + Wait + Sync, W: Watch>(
 ) -> Result<Vec<u8>, AllocError> {
     let alloc = runner.alloc;
     let nothing = Vec::new(alloc);
-    let Some(program) = found(link(alloc, routines))? else {
+    let Some(program) = none_if_refused(link(alloc, routines))? else {
         return Ok(nothing);
     };
-    let Some(rules) = found(read_rules(alloc, sources.rules.as_slice()))? else {
+    let Some(rules) = none_if_refused(read_rules(alloc, sources.rules.as_slice()))? else {
         return Ok(nothing);
     };
     explain_program(runner, &program, &rules, sources)
@@ -84,7 +84,7 @@ pub(crate) fn push_faults<R: Threads + Wait + Sync, W: Watch>(
     sources: &Sources<'_>,
 ) -> Result<(), AllocError> {
     let read = read_routines(runner, sources.routines.as_slice());
-    let Some(routines) = found(read)? else {
+    let Some(routines) = none_if_refused(read)? else {
         return Ok(());
     };
     let faults = explain_routines(runner, routines.as_slice(), sources)?;

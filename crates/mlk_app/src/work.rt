@@ -19,7 +19,7 @@ use mlk_coverage::{Coverage, coverage_of};
 use mlk_explain::{Grounds, free_reads};
 use mlk_forms::{Explanations, render_report};
 use mlk_outcome::{NoReport, certificate_for, certificate_text, jobs_text, report_by_certificate};
-use mlk_output::Inputs;
+use mlk_output::ReportSources;
 use mlk_pool::{ReportText, read_routines};
 use mlk_program::{Program, link};
 use mlk_rules::Rules;
@@ -117,7 +117,7 @@ fn printed_report(
     let grounds = explanations.grounds;
     let style = style_in(&request.asked);
     let free_reads = listed_reads(alloc, grounds.rule_text, style.output)?;
-    let inputs = Inputs {
+    let inputs = ReportSources {
         routines: grounds.program.routines(),
         paths: request.routines.as_slice(),
         rules_path: request.rules,

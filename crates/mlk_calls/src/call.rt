@@ -24,7 +24,8 @@ use mlk_rules::Rules;
 use mlk_syntax::{Actual, Callee, Line};
 use mlk_text::{Code, Failure, List, Name, copy_of};
 use mlk_walk_state::{
-    RefusedState, Scope, State, before_last, copies, copy_case, last_of, put_all, rank, take_all,
+    RefusedState, Scope, State, before_last, copy_case, copy_terms, last_of, put_all, rank,
+    take_all,
 };
 use std::alloc::{AllocError, Global};
 
@@ -57,7 +58,7 @@ fn formals_of<'a>(line: Option<&'a Line>) -> &'a [Name]
 }
 
 // What is known of a callee, or `None` if it is not certified.
-pub(crate) fn called<'a>(scope: &Scope<'a>, callee: &Callee) -> Option<KnownCallee<'a>>
+pub(crate) fn known_callee<'a>(scope: &Scope<'a>, callee: &Callee) -> Option<KnownCallee<'a>>
     ensures { option_map called_of result ≡ called (scope_of scope.now) callee.now }
 {
     let entry = scope.program.target(scope.entry.routine(), callee)?;
@@ -80,7 +81,7 @@ fn add_lent(names: &mut Vec<NameSet>, actual: &Actual) -> Result<(), AllocError>
 }
 
 // The names that actuals pass by reference.
-pub(crate) fn lent(alloc: Global, given: &[Actual]) -> Result<Vec<NameSet>, AllocError>
+pub(crate) fn lent_names(alloc: Global, given: &[Actual]) -> Result<Vec<NameSet>, AllocError>
     ensures { IfOk result (λ v. v.items ≡ flat_map lent_set (actual_trees given.now)) }
 {
     let mut names = Vec::new(alloc);
@@ -103,7 +104,7 @@ pub(crate) fn changes(
     Ok(names)
 }
 
-pub(crate) fn passed(alloc: Global, actuals: &[Sym]) -> Result<Vec<Option<Sym>>, AllocError>
+pub(crate) fn all_given(alloc: Global, actuals: &[Sym]) -> Result<Vec<Option<Sym>>, AllocError>
     ensures { IfOk result (λ v. v.items ≡ map Some actuals.now) }
 {
     let mut given = Vec::new(alloc);
@@ -210,11 +211,11 @@ fn set_aside(
     if need.is_empty() {
         return Ok(held.clone()?);
     }
-    let given = passed(alloc, actuals)?;
+    let given = all_given(alloc, actuals)?;
     let Some(needs) = put_terms(alloc, target.formals, given.as_slice(), need)? else {
         return Err(Failure::Refused(Code::UnknownSubscript));
     };
-    let Some(aside) = take_all(copies(alloc, held.as_slice())?, needs.as_slice()) else {
+    let Some(aside) = take_all(copy_terms(alloc, held.as_slice())?, needs.as_slice()) else {
         return Err(Failure::Refused(Code::NeedMissing));
     };
     Ok(Shared::new(alloc, aside)?)
@@ -253,7 +254,7 @@ struct Ending<'a> {
 }
 
 // The state after an exit.
-fn leave(
+fn state_after_exit(
     alloc: Global,
     ending: &Ending<'_>,
     state: &State,
@@ -288,7 +289,7 @@ fn leave_all(
     let mut found = Vec::new(alloc);
     let mut left = exits;
     while let Some((exit, others)) = left.split_first() {
-        let Some(after) = leave(alloc, ending, state, exit)? else {
+        let Some(after) = state_after_exit(alloc, ending, state, exit)? else {
             return Ok(None);
         };
         found.push(after)?;
@@ -339,7 +340,7 @@ fn given_at_end(
         return Ok(Vec::new(alloc));
     }
     let marked = mark_all(alloc, names, actuals)?;
-    passed(alloc, marked.as_slice())
+    all_given(alloc, marked.as_slice())
 }
 
 // A call of a certified entry that may change `names`. Its `count` actuals were captured last.
@@ -411,7 +412,7 @@ fn call_target(
         (without_last (length (actual_trees given.now)) state.now)) }
 {
     let mods = target.summary.mods.as_slice();
-    let lent = lent(alloc, given)?;
+    let lent = lent_names(alloc, given)?;
     let count = given.len();
     if lent.is_empty() {
         let call = ChangingCall {
@@ -457,7 +458,7 @@ pub fn at_call(
     ensures { AnswersOf state (λ v. v.items) result
         (at_call (scope_of scope.now) how callee.now (actual_trees given.now) state) }
 {
-    let Some(target) = called(scope, callee) else {
+    let Some(target) = known_callee(scope, callee) else {
         return Err(Failure::Refused(RefusedState {
             code: Code::NoCertificate,
             state,

@@ -10,14 +10,14 @@ ghost use Rattle.mlk_walk_state.specs.Refusals.{AnswersOf};
 use mlk_cert_parts::{Case, NameSet};
 use mlk_names::Sym;
 use mlk_text::{Code, Failure, List, copy_of};
-use mlk_walk_state::{RefusedState, Scope, State, have, may_change, mention, take_out};
+use mlk_walk_state::{RefusedState, Scope, State, any_has_name, may_change, mention_any, take_out};
 use std::alloc::{AllocError, Global};
 
 fn mark(changed: &[NameSet], symbol: &Sym) -> Result<Sym, AllocError>
     ensures { IfOk result (λ s. s ≡ marked changed.now symbol.now) }
 {
     if let Sym::Local(name) = symbol {
-        if have(changed, name) {
+        if any_has_name(changed, name) {
             return Ok(Sym::Unknown);
         }
     }
@@ -55,7 +55,7 @@ pub(crate) fn changed_case(
 /// The state after a change of names: they are not kept, and captured symbols that mention them are unknown. It checks nothing:
 /// [`change`] does.
 #[inline(always)]
-pub fn changed(alloc: Global, names: &[NameSet], state: State) -> Result<State, AllocError>
+pub fn change_unchecked(alloc: Global, names: &[NameSet], state: State) -> Result<State, AllocError>
     ensures { IfOk result (λ s. s ≡ changed_state names.now state) }
 {
     let State { case, captured } = state;
@@ -77,7 +77,7 @@ fn all_may_change(scope: &Scope, state: &State, names: &[NameSet]) -> bool
 pub(crate) fn change_fault(scope: &Scope, names: &[NameSet], state: &State) -> Option<Code>
     ensures { result ≡ change_fault (scope_of scope.now) names.now state.now }
 {
-    if mention(names, state.case.held.as_slice()) {
+    if mention_any(names, state.case.held.as_slice()) {
         return Some(Code::Pinned);
     }
     if !all_may_change(scope, state, names) {
@@ -93,7 +93,7 @@ pub fn is_allowed(scope: &Scope, names: &[NameSet], state: &State) -> bool
     change_fault(scope, names, state).is_none()
 }
 
-/// [`changed`], in place.
+/// [`change_unchecked`], in place.
 pub fn change_in_place(
     alloc: Global,
     names: &[NameSet],
@@ -123,7 +123,7 @@ pub fn change(
     if let Some(code) = change_fault(scope, names, &state) {
         return Err(Failure::Refused(RefusedState { code, state }));
     }
-    Ok(changed(alloc, names, state)?)
+    Ok(change_unchecked(alloc, names, state)?)
 }
 
 /// Those of `names` that the walked entry's summary would have to list as changed, since they are neither listed there nor own:

@@ -10,7 +10,7 @@ use mlk_cert_parts::Shared;
 use mlk_names::LockTerm;
 use mlk_rules::Rules;
 use mlk_text::{Code, Failure};
-use mlk_walk_state::{RefusedState, Scope, State, copies, is_within, put_all, rank, take_one};
+use mlk_walk_state::{RefusedState, Scope, State, copy_terms, is_within, put_all, rank, take_one};
 use std::alloc::{AllocError, Global};
 
 /// Whether the least rank `other` is not below `low`; `None` is above every rank.
@@ -146,11 +146,11 @@ pub fn may_take(
 
 /// The state once `terms` are granted: they are held too. It checks nothing: [`may_take`] does. Its time grows with the number
 /// of pairs of terms, so a caller that limits the number of held terms compares the lengths first.
-pub fn claimed(alloc: Global, terms: &[LockTerm], state: State) -> Result<State, AllocError>
+pub fn claim_unchecked(alloc: Global, terms: &[LockTerm], state: State) -> Result<State, AllocError>
     ensures { IfOk result (λ s. s ≡ held_too terms.now state) }
 {
     let held = put_all(alloc, state.case.held.as_slice(), terms)?;
-    Ok(state.holding(Shared::new(alloc, held)?))
+    Ok(state.with_held(Shared::new(alloc, held)?))
 }
 
 /// Releases all locks. Refused if the walked entry's summary does not say that it may drop them (712).
@@ -167,7 +167,7 @@ pub fn release_all(
             state,
         }));
     }
-    Ok(state.holding(Shared::new(alloc, Vec::new(alloc))?))
+    Ok(state.with_held(Shared::new(alloc, Vec::new(alloc))?))
 }
 
 /// Releases `term` once. Refused if it is not held (706).
@@ -178,11 +178,11 @@ pub fn release_one(
 ) -> Result<State, Failure<RefusedState>>
     ensures { AnswersOf state (λ s. s) result (release_one term.now state) }
 {
-    let Some(held) = take_one(copies(alloc, state.case.held.as_slice())?, term) else {
+    let Some(held) = take_one(copy_terms(alloc, state.case.held.as_slice())?, term) else {
         return Err(Failure::Refused(RefusedState {
             code: Code::NotHeld,
             state,
         }));
     };
-    Ok(state.holding(Shared::new(alloc, held)?))
+    Ok(state.with_held(Shared::new(alloc, held)?))
 }

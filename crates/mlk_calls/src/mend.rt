@@ -5,11 +5,11 @@ ghost use Rattle.mlk_syntax.specs.ExprTrees.{actual_trees};
 ghost use Rattle.mlk_walk_state.specs.Scope.{scope_of};
 ghost use Rattle.mlk_calls.specs.Calls.{called_of, callee_summary, changes_by, missing_by, missing_need};
 
-use crate::call::{KnownCallee, called, changes, lent, passed, put_terms};
+use crate::call::{KnownCallee, all_given, changes, known_callee, lent_names, put_terms};
 use mlk_cert_parts::{NameSet, Summary};
 use mlk_names::{LockTerm, Sym};
 use mlk_syntax::{Actual, Callee};
-use mlk_walk_state::{Scope, State, copies, first_missing, last_of};
+use mlk_walk_state::{Scope, State, copy_terms, first_missing, last_of};
 use std::alloc::{AllocError, Global};
 
 /// The summary of the callee, or `None` without a certificate. Its least rank, and whether it may release all locks, are the
@@ -17,7 +17,7 @@ use std::alloc::{AllocError, Global};
 pub fn callee_summary<'a>(scope: &Scope<'a>, callee: &Callee) -> Option<&'a Summary>
     ensures { option_copied result ≡ callee_summary (scope_of scope.now) callee.now }
 {
-    let target = called(scope, callee)?;
+    let target = known_callee(scope, callee)?;
     Some(target.summary)
 }
 
@@ -34,7 +34,7 @@ pub fn call_changes(
 {
     match callee_summary(scope, callee) {
         None => Ok(Vec::new(alloc)),
-        Some(summary) => changes(alloc, summary.mods.as_slice(), lent(alloc, given)?),
+        Some(summary) => changes(alloc, summary.mods.as_slice(), lent_names(alloc, given)?),
     }
 }
 
@@ -46,11 +46,11 @@ fn missing_of(
 ) -> Result<Option<LockTerm>, AllocError>
     ensures { IfOk result (λ t. t ≡ missing_by (Some (called_of target.now)) actuals.now held.now) }
 {
-    let given = passed(alloc, actuals)?;
+    let given = all_given(alloc, actuals)?;
     let need = target.summary.need.as_slice();
     match put_terms(alloc, target.formals, given.as_slice(), need)? {
         None => Ok(None),
-        Some(needs) => first_missing(copies(alloc, held)?, needs.as_slice()),
+        Some(needs) => first_missing(copy_terms(alloc, held)?, needs.as_slice()),
     }
 }
 
@@ -67,7 +67,7 @@ pub fn missing_need(
         (λ t. t ≡ missing_need (scope_of scope.now) callee.now (actual_trees given.now) state.now) }
 {
     let actuals = last_of(state.captured.as_slice(), given.len());
-    match called(scope, callee) {
+    match known_callee(scope, callee) {
         None => Ok(None),
         Some(target) => missing_of(alloc, &target, actuals, state.case.held.as_slice()),
     }

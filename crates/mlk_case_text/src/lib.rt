@@ -30,7 +30,7 @@ fn front_of<'a>(text: &'a [u8], mark: &[u8]) -> &'a [u8] {
 }
 
 // The lines of a file; the last one is not ended yet.
-fn ended(alloc: Global, lines: &[u8]) -> Result<Vec<u8>, AllocError> {
+fn end_last_line(alloc: Global, lines: &[u8]) -> Result<Vec<u8>, AllocError> {
     let mut text = Vec::from_slice(alloc, lines)?;
     text.push(b'\n')?;
     Ok(text)
@@ -59,7 +59,7 @@ impl<'a> Case<'a> {
             match file.split_once_str(b"\n") {
                 None if file == name.as_bytes() => return Ok(Vec::new(alloc)),
                 Some((found, lines)) if found == name.as_bytes() => {
-                    return Ok(ended(alloc, lines)?);
+                    return Ok(end_last_line(alloc, lines)?);
                 }
                 _ => {}
             }

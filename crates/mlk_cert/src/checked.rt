@@ -9,8 +9,8 @@ use crate::read::case::case;
 use crate::read::memory::Memories;
 use crate::read::points::points;
 use crate::read::whole::first_body;
-use mlk_cert_lexemes::{WrittenText, both, is_below, push_flat};
-use mlk_cert_parts::{Case, Certificate, EntryCert, Point, same};
+use mlk_cert_lexemes::{WrittenText, are_both, is_below, push_flat};
+use mlk_cert_parts::{Case, Certificate, EntryCert, Point, are_same_lists};
 use mlk_text::{Failure, List};
 use std::alloc::{AllocError, Global};
 use std::slice;
@@ -22,8 +22,8 @@ fn is_case(alloc: Global, made: &Case) -> Result<bool, AllocError>
     let mut memories = Memories::new();
     match case(alloc, &mut memories, text.as_bytes()) {
         Ok((found, fit, _)) => {
-            let equal = same(slice::from_ref(made), slice::from_ref(&found));
-            Ok(both(fit.is_yes(), equal))
+            let equal = are_same_lists(slice::from_ref(made), slice::from_ref(&found));
+            Ok(are_both(fit.is_yes(), equal))
         }
         Err(Failure::OutOfMemory) => Err(AllocError),
         Err(Failure::Refused(_)) => Ok(false),
@@ -36,7 +36,7 @@ fn is_point(alloc: Global, made: &Point) -> Result<bool, AllocError>
     let mut text = WrittenText::new(alloc);
     push_flat(&mut text, slice::from_ref(made))?;
     match points(alloc, text.as_bytes()) {
-        Ok((found, _)) => Ok(same(slice::from_ref(made), found.as_slice())),
+        Ok((found, _)) => Ok(are_same_lists(slice::from_ref(made), found.as_slice())),
         Err(Failure::OutOfMemory) => Err(AllocError),
         Err(Failure::Refused(_)) => Ok(false),
     }
@@ -49,7 +49,7 @@ fn are_certificate(alloc: Global, made: &[EntryCert]) -> Result<bool, AllocError
     push_flat(&mut text, made)?;
     text.push(b"end\n")?;
     match first_body(alloc, text.as_bytes()) {
-        Ok(found) => Ok(same(made, found.as_slice())),
+        Ok(found) => Ok(are_same_lists(made, found.as_slice())),
         Err(Failure::OutOfMemory) => Err(AllocError),
         Err(Failure::Refused(_)) => Ok(false),
     }

@@ -15,8 +15,8 @@ pub use checked::{block_of, case_of, certificate_of, point_of, with_case};
 pub use format::CertFormat;
 pub use law::{one_certificate, one_reading, one_text, read_back};
 pub use mlk_cert_parts::{
-    Case, Certificate, EntryCert, ExitCase, NameSet, Own, Point, Shared, Summary, Test, included,
-    limit, place_of_term,
+    Case, Certificate, EntryCert, ExitCase, NameSet, Own, Point, Shared, Summary, Test,
+    is_included, limit, place_of_term,
 };
 pub use read::{CertFault, read_cert};
 pub use spelled::{Spelled, spell};

@@ -61,7 +61,10 @@ fn note_points(
 }
 
 /// The texts of the cases at the points of `blocks`, each once.
-pub(crate) fn named(alloc: Global, blocks: &[EntryCert]) -> Result<IndexSet<Vec<u8>>, AllocError>
+pub(crate) fn texts_at_points(
+    alloc: Global,
+    blocks: &[EntryCert],
+) -> Result<IndexSet<Vec<u8>>, AllocError>
     ensures { IfOk result (λ s. Has (texts_in s.keys) (cases_of_blocks blocks.now)) }
 {
     let mut texts: IndexSet<Vec<u8>> = IndexSet::new(alloc);

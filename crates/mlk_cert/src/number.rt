@@ -2,7 +2,7 @@
 
 ghost use Rattle.std.specs.Prelude.{◌≡◌, ◌-◌};
 
-use mlk_cert_lexemes::{Item, Written, WrittenText, counted};
+use mlk_cert_lexemes::{Item, Written, WrittenText, positive_number};
 use mlk_cert_parts::limit::GREATEST_CASE;
 use mlk_text::{Failure, NotThere};
 use std::alloc::{AllocError, Global};
@@ -67,7 +67,7 @@ impl Item for CaseNumber {
     ghost before = { nat_lt };
 
     fn read(_alloc: Global, bytes: &[u8]) -> Result<(CaseNumber, &[u8]), Failure<NotThere>> {
-        match counted(GREATEST_CASE, bytes) {
+        match positive_number(GREATEST_CASE, bytes) {
             Some((number, rest)) => Ok((CaseNumber { number }, rest)),
             None => Err(Failure::Refused(NotThere)),
         }

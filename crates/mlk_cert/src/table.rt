@@ -9,7 +9,7 @@ ghost use Rattle.mlk_cert_parts.specs.Texts.{block_with};
 ghost use Rattle.mlk_cert.specs.Named.{texts_in};
 ghost use Rattle.mlk_cert.specs.Second.{AreCases, number_of_text, numbers_of, point_line, numbered, numbered_text};
 
-use crate::named::{named, text_of};
+use crate::named::{text_of, texts_at_points};
 use crate::number::CaseNumber;
 use indexmap::IndexSet;
 use mlk_cert_lexemes::{WrittenText, push_joined};
@@ -23,7 +23,7 @@ pub(crate) fn case_texts(
 ) -> Result<IndexSet<Vec<u8>>, AllocError>
     ensures { IfOk result (λ s. AreCases blocks.now (texts_in s.keys)) }
 {
-    let mut texts = named(alloc, blocks)?;
+    let mut texts = texts_at_points(alloc, blocks)?;
     texts.sort_unstable()?;
     Ok(texts)
 }

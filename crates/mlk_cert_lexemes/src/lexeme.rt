@@ -12,7 +12,7 @@ use mlk_text::spelling::{label_text, name};
 use mlk_text::{Failure, NotThere, Value};
 use std::alloc::Global;
 
-fn stripped<'a>(word: &[u8], bytes: &'a [u8]) -> Option<&'a [u8]>
+fn strip_word<'a>(word: &[u8], bytes: &'a [u8]) -> Option<&'a [u8]>
     ensures { option_map (λ x. x.now) result ≡ strip word.now bytes.now }
 {
     bytes.strip_prefix(word)
@@ -23,7 +23,7 @@ fn stripped<'a>(word: &[u8], bytes: &'a [u8]) -> Option<&'a [u8]>
 pub fn word_of<'a>(word: &[u8], bytes: &'a [u8]) -> Option<&'a [u8]>
     ensures { option_map (λ x. (word.now, x.now)) result ≡ word_at word.now bytes.now }
 {
-    match stripped(word, bytes) {
+    match strip_word(word, bytes) {
         Some(rest) => Some(rest),
         None => None,
     }
@@ -93,7 +93,7 @@ pub fn number(limit: u32, bytes: &[u8]) -> Option<(u32, &[u8])>
 }
 
 /// `number`, from 1.
-pub fn counted(limit: u32, bytes: &[u8]) -> Option<(u32, &[u8])>
+pub fn positive_number(limit: u32, bytes: &[u8]) -> Option<(u32, &[u8])>
     ensures { option_map (λ x. (x.0, x.1.now)) result ≡ counted_at limit bytes.now }
 {
     let Some((value, rest)) = number(limit, bytes) else {
@@ -122,7 +122,7 @@ fn hex_value(b: u8) -> Option<u8>
     }
 }
 
-fn escaped(bytes: &[u8]) -> Option<(u8, &[u8])>
+fn escaped_byte(bytes: &[u8]) -> Option<(u8, &[u8])>
     ensures { option_map (λ x. (x.0, x.1.now)) result ≡ escaped_at bytes.now }
 {
     let Some((first, rest)) = bytes.split_first() else {
@@ -161,7 +161,7 @@ fn piece_of(bytes: &[u8]) -> Option<(u8, &[u8])>
         return Some((b'"', rest));
     }
     if *first == b'\\' {
-        return escaped(rest);
+        return escaped_byte(rest);
     }
     None
 }

@@ -32,7 +32,7 @@ pub trait Item: Written + Drop + Sized {
 }
 
 /// Whether both are true.
-pub fn both(first: bool, second: bool) -> bool
+pub fn are_both(first: bool, second: bool) -> bool
     ensures { result ≡ (first && second) }
 {
     first && second
@@ -64,7 +64,7 @@ fn more_items<'a, T: Item>(
     while let Some(next) = byte_of(between, rest) {
         let (item, after) = T::read(alloc, next)?;
         let item_text = front_of(next, after);
-        ordered = both(ordered, last.is_before(text, &item, item_text));
+        ordered = are_both(ordered, last.is_before(text, &item, item_text));
         found.push(last)?;
         last = item;
         text = item_text;
@@ -92,7 +92,7 @@ pub fn items<T: Item>(
 
 /// Reads the list of a line: empty for a dash, otherwise one or more items separated by `;`.
 #[tactic(auto, unfolding(crate::specs::Reading::listed_at))]
-pub fn listed<T: Item>(
+pub fn item_list<T: Item>(
     alloc: Global,
     bytes: &[u8],
 ) -> Result<(Vec<T>, bool, &[u8]), Failure<NotThere>>

@@ -75,7 +75,7 @@ fn are_among(names: &[Name], all: &[Name]) -> bool
 }
 
 /// Whether the two lists are equal.
-pub fn same<T: PartialEq>(first: &[T], second: &[T]) -> bool
+pub fn are_same_lists<T: PartialEq>(first: &[T], second: &[T]) -> bool
     requires { (x y : T) → Decides (T.eq x y) (x ≡ y) }
     ensures { IsTrue result ↔ (second.now ≡ first.now) }
 {
@@ -83,12 +83,12 @@ pub fn same<T: PartialEq>(first: &[T], second: &[T]) -> bool
 }
 
 /// Whether `second` includes `first`: it says no more than `first`, so it holds whenever `first` does. Allocates nothing.
-pub fn included(first: &Case, second: &Case) -> bool
+pub fn is_included(first: &Case, second: &Case) -> bool
     ensures { IsTrue result ↔ Included first.now second.now }
 {
     covers(first.test, second.test)
         && cover_all(first.saved.as_slice(), second.saved.as_slice())
-        && same(first.held.as_slice(), second.held.as_slice())
-        && same(first.own.as_slice(), second.own.as_slice())
+        && are_same_lists(first.held.as_slice(), second.held.as_slice())
+        && are_same_lists(first.own.as_slice(), second.own.as_slice())
         && are_among(second.kept.as_slice(), first.kept.as_slice())
 }

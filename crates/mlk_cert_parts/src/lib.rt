@@ -15,7 +15,7 @@ mod write;
 pub use block::{EntryCert, Point, Summary};
 pub use case::{Case, ExitCase, Test, copy_case};
 pub use certificate::Certificate;
-pub use inclusion::{included, same};
+pub use inclusion::{are_same_lists, is_included};
 pub use names::{NameSet, Own};
 pub use order::place_of_term;
 pub use read::{ascend_inside, ascend_inside_own};

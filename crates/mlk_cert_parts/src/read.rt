@@ -9,7 +9,7 @@ ghost use Rattle.mlk_cert_parts.specs.Reading.{inside_by, names_at, own_at};
 
 use crate::limit::DEEPEST_LEVEL;
 use crate::names::{NameSet, Own};
-use mlk_cert_lexemes::{Item, counted, is_below, items};
+use mlk_cert_lexemes::{Item, is_below, items, positive_number};
 use mlk_text::lexeme::byte_of;
 use mlk_text::spelling::name;
 use mlk_text::{Failure, List, Name, NotThere};
@@ -62,10 +62,10 @@ impl Item for NameSet {
 }
 
 #[tactic(auto, unfolding(crate::specs::Reading::own_at))]
-fn own(alloc: Global, bytes: &[u8]) -> Result<(Own, &[u8]), Failure<NotThere>>
+fn own_name(alloc: Global, bytes: &[u8]) -> Result<(Own, &[u8]), Failure<NotThere>>
     ensures { Reads (λ x. (x.0, x.1.now)) result (own_at bytes.now) }
 {
-    let Some((level, rest)) = counted(DEEPEST_LEVEL, bytes) else {
+    let Some((level, rest)) = positive_number(DEEPEST_LEVEL, bytes) else {
         return Err(Failure::Refused(NotThere));
     };
     let Some(rest) = byte_of(b':', rest) else {
@@ -84,7 +84,7 @@ impl Item for Own {
     ghost before = { own_below };
 
     fn read(alloc: Global, bytes: &[u8]) -> Result<(Own, &[u8]), Failure<NotThere>> {
-        own(alloc, bytes)
+        own_name(alloc, bytes)
     }
 
     fn is_before(&self, text: &[u8], next: &Own, next_text: &[u8]) -> bool {

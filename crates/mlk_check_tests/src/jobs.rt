@@ -106,7 +106,7 @@ fn events_of(alloc: Global, program: &Program<'_>, script: Script) -> Option<Vec
 fn state_of(system: &System<'_>, job: u32, other: u32) -> JobState {
     if system.job(job).is_none() {
         JobState::Nowhere
-    } else if system.ready(job).is_some() {
+    } else if system.ready_touch(job).is_some() {
         JobState::Ready
     } else if system.waits_for(job, other) {
         JobState::Waiting
@@ -116,7 +116,7 @@ fn state_of(system: &System<'_>, job: u32, other: u32) -> JobState {
 }
 
 fn names_held(system: &System<'_>, job: u32) -> Option<usize> {
-    Some(system.held(job)?.len())
+    Some(system.held_names(job)?.len())
 }
 
 fn is_so(system: &System<'_>, account: &LockName, job: u32, other: u32, asked: Asked) -> bool {
@@ -128,7 +128,7 @@ fn is_so(system: &System<'_>, account: &LockName, job: u32, other: u32, asked: A
         (JobState::Nowhere, JobState::Nowhere) => names_held(system, job) == None,
         _ => false,
     };
-    is_there && system.holds(job, account) == count
+    is_there && system.hold_count(job, account) == count
 }
 
 fn are_so(system: &mut System<'_>, account: &LockName, wanted: Wanted) -> Option<bool> {

@@ -437,7 +437,7 @@ fn routines_request<'a>(
 }
 
 // What the command of this name asks for, by what it was given.
-fn given<'a>(
+fn command_request<'a>(
     alloc: Global,
     name: &str,
     matches: &ArgMatches<'a>,
@@ -470,7 +470,7 @@ fn request_of<'a>(
 {
     match matches.subcommand() {
         None => Ok(None),
-        Some((name, inner)) => given(alloc, name, inner),
+        Some((name, inner)) => command_request(alloc, name, inner),
     }
 }
 

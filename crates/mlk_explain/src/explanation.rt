@@ -4,7 +4,7 @@ use crate::story::{OriginStory, Story, story_behind, story_of};
 use crate::trail::trail_behind;
 use mlk_excerpts::margin_of;
 use mlk_explain_origins::{Grounds, RoutineFacts, Trail};
-use mlk_explain_places::{Place, push_entry, push_line, push_source};
+use mlk_explain_places::{FaultPlace, push_entry, push_line, push_source};
 use mlk_explain_rules::RuleFile;
 use mlk_program::Program;
 use mlk_report_text::Piece::{At, Bytes, CodeName, Number, Words};
@@ -24,7 +24,7 @@ fn push_heading(text: &mut Vec<u8>, program: &Program<'_>, row: &Row) -> Result<
 }
 
 // Appends the line of M, what was about to happen there, and what was held.
-fn push_scene(text: &mut Vec<u8>, place: &Place<'_>, story: &Story) -> Result<(), AllocError> {
+fn push_scene(text: &mut Vec<u8>, place: &FaultPlace<'_>, story: &Story) -> Result<(), AllocError> {
     push_source(text, place, story.act.as_slice())?;
     if let Some(held) = &story.held {
         push_line(text, place.fault.line, "held", held.as_slice())?;
@@ -38,7 +38,7 @@ fn push_scene(text: &mut Vec<u8>, place: &Place<'_>, story: &Story) -> Result<()
 // Appends where the place behind a fault is, its line of M, and what happens there.
 fn push_origin(
     text: &mut Vec<u8>,
-    place: &Place<'_>,
+    place: &FaultPlace<'_>,
     origin: &OriginStory,
 ) -> Result<(), AllocError> {
     push_line(text, place.fault.line, "origin", origin.site.as_slice())?;
@@ -97,13 +97,13 @@ fn place_behind<'a>(
     checks: &'a Checks<'a>,
     facts: &'a RoutineFacts<'a>,
     trail: &'a Trail,
-) -> Place<'a> {
+) -> FaultPlace<'a> {
     let behind = &trail.origin;
     let row = Row {
         entry: behind.entry,
         fault: behind.fault,
     };
-    Place::of(grounds, checks, facts, &row, &behind.note)
+    FaultPlace::of(grounds, checks, facts, &row, &behind.note)
 }
 
 impl<'a> Explainer<'a> {
@@ -151,8 +151,8 @@ impl<'a> Explainer<'a> {
     fn push_scenes(
         &self,
         text: &mut Vec<u8>,
-        place: &Place<'_>,
-        origin: &Place<'_>,
+        place: &FaultPlace<'_>,
+        origin: &FaultPlace<'_>,
         story: &Story,
     ) -> Result<(), AllocError> {
         let Some(behind) = &story.origin else {
@@ -171,7 +171,7 @@ impl<'a> Explainer<'a> {
     fn explain_from(
         &self,
         row: &Row,
-        place: &Place<'_>,
+        place: &FaultPlace<'_>,
         trail: &Trail,
         facts: &RoutineFacts<'_>,
     ) -> Result<Explanation, AllocError> {
@@ -186,7 +186,7 @@ impl<'a> Explainer<'a> {
     fn explain_behind(
         &self,
         row: &Row,
-        place: &Place<'_>,
+        place: &FaultPlace<'_>,
         trail: &Trail,
     ) -> Result<Explanation, AllocError> {
         let routine = trail.origin.entry.routine();
@@ -194,7 +194,7 @@ impl<'a> Explainer<'a> {
         self.explain_from(row, place, trail, &facts)
     }
 
-    fn explain_alone(&self, row: &Row, place: &Place<'_>) -> Result<Explanation, AllocError> {
+    fn explain_alone(&self, row: &Row, place: &FaultPlace<'_>) -> Result<Explanation, AllocError> {
         let story = story_of(self.alloc, place, self.rule_file)?;
         let mut scene = Vec::new(self.alloc);
         push_scene(&mut scene, place, &story)?;
@@ -206,7 +206,7 @@ impl<'a> Explainer<'a> {
         let Some(facts) = self.routine.as_ref() else {
             return Ok(None);
         };
-        let place = Place::of(self.grounds, self.checks, facts, row, note);
+        let place = FaultPlace::of(self.grounds, self.checks, facts, row, note);
         match trail_behind(self.alloc, &place)? {
             Some(trail) => Ok(Some(self.explain_behind(row, &place, &trail)?)),
             None => Ok(Some(self.explain_alone(row, &place)?)),
@@ -216,7 +216,7 @@ impl<'a> Explainer<'a> {
     // The story of a fault behind which `trail` leads to a place in the routine of `facts`.
     fn story_from(
         &self,
-        place: &Place<'_>,
+        place: &FaultPlace<'_>,
         trail: &Trail,
         facts: &RoutineFacts<'_>,
     ) -> Result<Story, AllocError> {
@@ -225,7 +225,7 @@ impl<'a> Explainer<'a> {
     }
 
     // The story of a fault behind which `trail` leads to another place.
-    fn story_behind(&self, place: &Place<'_>, trail: &Trail) -> Result<Story, AllocError> {
+    fn story_behind(&self, place: &FaultPlace<'_>, trail: &Trail) -> Result<Story, AllocError> {
         let routine = trail.origin.entry.routine();
         let facts = RoutineFacts::of(self.alloc, self.grounds, routine)?;
         self.story_from(place, trail, &facts)
@@ -236,7 +236,7 @@ impl<'a> Explainer<'a> {
         let Some(facts) = self.routine.as_ref() else {
             return Ok(None);
         };
-        let place = Place::of(self.grounds, self.checks, facts, row, note);
+        let place = FaultPlace::of(self.grounds, self.checks, facts, row, note);
         match trail_behind(self.alloc, &place)? {
             Some(trail) => Ok(Some(self.story_behind(&place, &trail)?)),
             None => Ok(Some(story_of(self.alloc, &place, self.rule_file)?)),

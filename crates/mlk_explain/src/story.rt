@@ -3,7 +3,7 @@
 use crate::trail::{place_text, trail_text, trail_to_need};
 use mlk_explain_origins::{Origin, Trail};
 use mlk_explain_places::Part::{Locks, Test, Words};
-use mlk_explain_places::{LockSet, Phrase, Place, phrase_text, push_entry};
+use mlk_explain_places::{FaultPlace, LockSet, Phrase, phrase_text, push_entry};
 use mlk_explain_rules::{RuleFile, has_rules, rule_texts};
 use mlk_explain_words::{act_of, help_of, need_at_call_help, origin_act_of};
 use mlk_program::{EntryId, Program};
@@ -51,7 +51,7 @@ pub struct Story {
 }
 
 // What was held: what the entry acquired, and what its callers hold.
-fn held_phrase(place: &Place<'_>) -> Phrase {
+fn held_phrase(place: &FaultPlace<'_>) -> Phrase {
     match (
         place.has_locks(LockSet::Acquired),
         place.has_locks(LockSet::Required),
@@ -68,14 +68,14 @@ fn held_phrase(place: &Place<'_>) -> Phrase {
     }
 }
 
-fn held_text(alloc: Global, place: &Place<'_>) -> Result<Option<Vec<u8>>, AllocError> {
+fn held_text(alloc: Global, place: &FaultPlace<'_>) -> Result<Option<Vec<u8>>, AllocError> {
     if place.standing().is_none() {
         return Ok(None);
     }
     Ok(Some(phrase_text(alloc, place, held_phrase(place))?))
 }
 
-fn needed_text(alloc: Global, place: &Place<'_>) -> Result<Option<Vec<u8>>, AllocError> {
+fn needed_text(alloc: Global, place: &FaultPlace<'_>) -> Result<Option<Vec<u8>>, AllocError> {
     match trail_to_need(alloc, place)? {
         Some(trail) => Ok(Some(trail_text(alloc, place.grounds.program, &trail)?)),
         None => Ok(None),
@@ -83,7 +83,7 @@ fn needed_text(alloc: Global, place: &Place<'_>) -> Result<Option<Vec<u8>>, Allo
 }
 
 // Whether the fault is mended at the place behind it, and not at the call.
-fn is_mended_at(origin: &Place<'_>, place: &Place<'_>) -> bool {
+fn is_mended_at(origin: &FaultPlace<'_>, place: &FaultPlace<'_>) -> bool {
     matches!(origin.fault.code, Code::Uncovered | Code::NotHeld)
         && !place.has_locks(LockSet::Alike)
         && !place.has_locks(LockSet::Above)
@@ -92,7 +92,7 @@ fn is_mended_at(origin: &Place<'_>, place: &Place<'_>) -> bool {
 /// The story of the fault at `place`, as far as its own line shows it.
 pub(crate) fn story_of(
     alloc: Global,
-    place: &Place<'_>,
+    place: &FaultPlace<'_>,
     rule_file: &RuleFile,
 ) -> Result<Story, AllocError> {
     let help = help_of(place, has_rules(alloc, place)?);
@@ -143,7 +143,7 @@ fn calls_of(
 
 fn origin_story(
     alloc: Global,
-    origin: &Place<'_>,
+    origin: &FaultPlace<'_>,
     trail: &Trail,
 ) -> Result<OriginStory, AllocError> {
     let point = WayPoint {
@@ -161,8 +161,8 @@ fn origin_story(
 // What mends the fault at the place behind it.
 fn help_behind(
     alloc: Global,
-    place: &Place<'_>,
-    origin: &Place<'_>,
+    place: &FaultPlace<'_>,
+    origin: &FaultPlace<'_>,
 ) -> Result<Vec<Vec<u8>>, AllocError> {
     let mut help = vec![in alloc;
         phrase_text(alloc, origin, help_of(origin, has_rules(alloc, origin)?))?,
@@ -176,8 +176,8 @@ fn help_behind(
 /// The story of the fault at `place`, behind which `trail` leads to `origin`.
 pub(crate) fn story_behind(
     alloc: Global,
-    place: &Place<'_>,
-    origin: &Place<'_>,
+    place: &FaultPlace<'_>,
+    origin: &FaultPlace<'_>,
     trail: &Trail,
     rule_file: &RuleFile,
 ) -> Result<Story, AllocError> {

@@ -2,7 +2,7 @@
 
 use mlk_cert_parts::Summary;
 use mlk_explain_origins::{Ask, Trail, named_need, need_like, trail_of};
-use mlk_explain_places::{LockSet, Place, missing_in, push_entry};
+use mlk_explain_places::{FaultPlace, LockSet, missing_in, push_entry};
 use mlk_names::{KnownSym, LockTerm};
 use mlk_program::{EntryId, Program};
 use mlk_report_text::Piece::{At, Bytes, Made, Words};
@@ -38,7 +38,7 @@ fn need_question(entry: EntryId, need: Option<&LockTerm>) -> Result<Option<Quest
     }
 }
 
-fn change_question(place: &Place<'_>, entry: EntryId) -> Result<Option<Question>, AllocError> {
+fn change_question(place: &FaultPlace<'_>, entry: EntryId) -> Result<Option<Question>, AllocError> {
     let Some(term) = place.first_lock(LockSet::Changed) else {
         return Ok(None);
     };
@@ -52,7 +52,7 @@ fn change_question(place: &Place<'_>, entry: EntryId) -> Result<Option<Question>
 }
 
 // What of a callee's summary is behind a fault at its call.
-fn callee_question(place: &Place<'_>) -> Result<Option<Question>, AllocError> {
+fn callee_question(place: &FaultPlace<'_>) -> Result<Option<Question>, AllocError> {
     let (Some(entry), Some(summary)) = (place.target(), place.callee_summary()) else {
         return Ok(None);
     };
@@ -78,7 +78,10 @@ fn callee_question(place: &Place<'_>) -> Result<Option<Question>, AllocError> {
 }
 
 /// Finds what is behind the fault at `place`, if that is a call which the callee's summary refuses.
-pub(crate) fn trail_behind(alloc: Global, place: &Place<'_>) -> Result<Option<Trail>, AllocError> {
+pub(crate) fn trail_behind(
+    alloc: Global,
+    place: &FaultPlace<'_>,
+) -> Result<Option<Trail>, AllocError> {
     if !place.is_call() {
         return Ok(None);
     }
@@ -91,7 +94,10 @@ pub(crate) fn trail_behind(alloc: Global, place: &Place<'_>) -> Result<Option<Tr
 }
 
 /// Finds for what callers hold a lock that is in the way of what `place` acquires; `None` if none is.
-pub(crate) fn trail_to_need(alloc: Global, place: &Place<'_>) -> Result<Option<Trail>, AllocError> {
+pub(crate) fn trail_to_need(
+    alloc: Global,
+    place: &FaultPlace<'_>,
+) -> Result<Option<Trail>, AllocError> {
     if place.fault.code != Code::RankOrder {
         return Ok(None);
     }
@@ -117,7 +123,7 @@ fn site_text(
 }
 
 /// `ENTRY line:column` of a place.
-pub(crate) fn place_text(alloc: Global, place: &Place<'_>) -> Result<Vec<u8>, AllocError> {
+pub(crate) fn place_text(alloc: Global, place: &FaultPlace<'_>) -> Result<Vec<u8>, AllocError> {
     site_text(alloc, place.grounds.program, place.entry, place.fault)
 }
 

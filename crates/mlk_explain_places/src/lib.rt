@@ -11,5 +11,5 @@ mod reason;
 pub use line::{push_line, push_source};
 pub use names::{function_before, push_front, root_of};
 pub use phrase::{Part, Phrase, phrase_text, push_entry};
-pub use place::{LockSet, Place, missing_in};
+pub use place::{FaultPlace, LockSet, missing_in};
 pub use reason::Reason;

@@ -1,6 +1,6 @@
 // The lines of an explanation: a line of M with a caret below the column, and the lines below it.
 
-use crate::place::Place;
+use crate::place::FaultPlace;
 use mlk_excerpts::{Excerpt, margin_of, push_excerpt, push_labelled};
 use mlk_report_text::Piece::{Bytes, Words};
 use mlk_report_text::push_all;
@@ -18,7 +18,11 @@ pub fn push_line<'a>(
 }
 
 /// Appends a line of M with its number, and below it a caret at the column and `said`.
-pub fn push_source(text: &mut Vec<u8>, place: &Place<'_>, said: &[u8]) -> Result<(), AllocError> {
+pub fn push_source(
+    text: &mut Vec<u8>,
+    place: &FaultPlace<'_>,
+    said: &[u8],
+) -> Result<(), AllocError> {
     let excerpt = Excerpt {
         number: place.fault.line,
         line: place.line,

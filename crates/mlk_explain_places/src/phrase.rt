@@ -1,7 +1,7 @@
 // Phrases: what is said of a fault, as a list of parts.
 
 use crate::names::{expression_at, push_lock, push_name, push_sets, push_written, root_of};
-use crate::place::{LockSet, Place};
+use crate::place::{FaultPlace, LockSet};
 use mlk_cert_parts::Test;
 use mlk_program::{EntryId, Program};
 use mlk_report_text::Piece::{Number, Words};
@@ -42,7 +42,7 @@ pub enum Part {
 /// What is said of a fault.
 pub type Phrase = &'static [Part];
 
-fn test_words(place: &Place<'_>) -> &'static str {
+fn test_words(place: &FaultPlace<'_>) -> &'static str {
     match place.standing() {
         Some((Test::Zero, _)) => ", and $TEST is 0",
         Some((Test::One, _)) => ", and $TEST is 1",
@@ -87,7 +87,7 @@ fn push_mend_line(text: &mut Vec<u8>, mend: &Mend) -> Result<(), AllocError> {
 }
 
 // Appends the names of these locks, with commas between them.
-fn push_locks(text: &mut Vec<u8>, place: &Place<'_>, set: LockSet) -> Result<(), AllocError> {
+fn push_locks(text: &mut Vec<u8>, place: &FaultPlace<'_>, set: LockSet) -> Result<(), AllocError> {
     let mut before: &[u8] = b"";
     for (index, term) in place.locks(set).iter().enumerate() {
         if place.is_in(set, index, term) {
@@ -114,14 +114,14 @@ pub fn push_entry(
     }
 }
 
-fn push_reason_line(text: &mut Vec<u8>, place: &Place<'_>) -> Result<(), AllocError> {
+fn push_reason_line(text: &mut Vec<u8>, place: &FaultPlace<'_>) -> Result<(), AllocError> {
     match place.reason.line() {
         Some(line) => push_all(text, &[Words("line "), Number(line.number() as usize)]),
         None => Ok(()),
     }
 }
 
-fn push_part(text: &mut Vec<u8>, place: &Place<'_>, part: &Part) -> Result<(), AllocError> {
+fn push_part(text: &mut Vec<u8>, place: &FaultPlace<'_>, part: &Part) -> Result<(), AllocError> {
     let mend = &place.note.mend;
     let program = place.grounds.program;
     match part {
@@ -142,7 +142,11 @@ fn push_part(text: &mut Vec<u8>, place: &Place<'_>, part: &Part) -> Result<(), A
 }
 
 // Appends a phrase.
-fn push_phrase(text: &mut Vec<u8>, place: &Place<'_>, phrase: Phrase) -> Result<(), AllocError> {
+fn push_phrase(
+    text: &mut Vec<u8>,
+    place: &FaultPlace<'_>,
+    phrase: Phrase,
+) -> Result<(), AllocError> {
     for part in phrase {
         push_part(text, place, part)?;
     }
@@ -152,7 +156,7 @@ fn push_phrase(text: &mut Vec<u8>, place: &Place<'_>, phrase: Phrase) -> Result<
 /// The text of a phrase.
 pub fn phrase_text(
     alloc: Global,
-    place: &Place<'_>,
+    place: &FaultPlace<'_>,
     phrase: Phrase,
 ) -> Result<Vec<u8>, AllocError> {
     let mut text = Vec::new(alloc);

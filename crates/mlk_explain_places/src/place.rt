@@ -42,7 +42,7 @@ pub enum LockSet {
 
 /// A fault with its line of M, what is at its column, and the note of the walk.
 #[derive(Drop)]
-pub struct Place<'a> {
+pub struct FaultPlace<'a> {
     pub grounds: &'a Grounds<'a>,
     pub checks: &'a Checks<'a>,
     /// those of its routine
@@ -123,7 +123,7 @@ fn reason_of(checks: &Checks<'_>, facts: &RoutineFacts<'_>, row: &Row, note: &No
     reason_at(checks, facts, row.entry, &term.root, row.fault, test)
 }
 
-impl<'a> Place<'a> {
+impl<'a> FaultPlace<'a> {
     /// The place of a row's fault, in the routine of `facts`, with the note of the walk.
     pub fn of(
         grounds: &'a Grounds<'a>,
@@ -131,9 +131,9 @@ impl<'a> Place<'a> {
         facts: &'a RoutineFacts<'a>,
         row: &Row,
         note: &'a Note,
-    ) -> Place<'a> {
+    ) -> FaultPlace<'a> {
         let line = facts.line(row.fault.line);
-        Place {
+        FaultPlace {
             grounds,
             checks,
             facts,

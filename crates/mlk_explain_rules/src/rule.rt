@@ -1,7 +1,7 @@
 // The rules that apply to a fault, and their texts.
 
 use mlk_coverage::{RuleId, RuleKind};
-use mlk_explain_places::{Part, Phrase, Place, phrase_text, push_front, root_of};
+use mlk_explain_places::{FaultPlace, Part, Phrase, phrase_text, push_front, root_of};
 use mlk_report_text::Piece::{Number, Words};
 use mlk_report_text::{push_all, text_of};
 use mlk_rules::{Cover, Family, Pattern};
@@ -126,7 +126,7 @@ pub fn free_reads(alloc: Global, text: &[u8]) -> Result<Vec<Vec<u8>>, AllocError
 }
 
 // Whether a rule of `section` with this pattern applies to the fault at `place`.
-fn applies(section: Section, pattern: &Pattern, place: &Place<'_>) -> bool {
+fn applies(section: Section, pattern: &Pattern, place: &FaultPlace<'_>) -> bool {
     let root = root_of(place.name);
     let global = root.strip_prefix(b"^").unwrap_or(root);
     section.applies_to(place.fault.code) && pattern.global.as_bytes() == global
@@ -136,7 +136,7 @@ fn add_patterns(
     found: &mut Vec<RuleAt>,
     section: Section,
     patterns: &List<Pattern>,
-    place: &Place<'_>,
+    place: &FaultPlace<'_>,
 ) -> Result<(), AllocError> {
     for (number, pattern) in patterns.as_slice().iter().enumerate() {
         if applies(section, pattern, place) {
@@ -147,7 +147,7 @@ fn add_patterns(
 }
 
 // Whether a cover asks for one of the locks that are missing at `place`, as far as their roots show.
-fn asks_for(cover: &Cover, place: &Place<'_>) -> bool {
+fn asks_for(cover: &Cover, place: &FaultPlace<'_>) -> bool {
     let Mend::Locks(terms) = &place.note.mend else {
         return true;
     };
@@ -160,7 +160,7 @@ fn asks_for(cover: &Cover, place: &Place<'_>) -> bool {
 fn add_covers(
     found: &mut Vec<RuleAt>,
     covers: &List<Cover>,
-    place: &Place<'_>,
+    place: &FaultPlace<'_>,
 ) -> Result<(), AllocError> {
     let section = Section::Cover;
     for (number, cover) in covers.as_slice().iter().enumerate() {
@@ -175,7 +175,7 @@ fn add_covers(
 fn add_families(
     found: &mut Vec<RuleAt>,
     families: &[Family],
-    place: &Place<'_>,
+    place: &FaultPlace<'_>,
 ) -> Result<(), AllocError> {
     let section = Section::Lock;
     if !section.applies_to(place.fault.code) {
@@ -192,7 +192,7 @@ fn add_families(
 }
 
 // The rules that apply to the fault at `place`.
-fn rules_for(alloc: Global, place: &Place<'_>) -> Result<Vec<RuleAt>, AllocError> {
+fn rules_for(alloc: Global, place: &FaultPlace<'_>) -> Result<Vec<RuleAt>, AllocError> {
     let mut found = Vec::new(alloc);
     let rules = place.grounds.rules;
     let lists = rules.lists();
@@ -204,14 +204,14 @@ fn rules_for(alloc: Global, place: &Place<'_>) -> Result<Vec<RuleAt>, AllocError
 }
 
 /// Whether rules apply to the fault at `place`.
-pub fn has_rules(alloc: Global, place: &Place<'_>) -> Result<bool, AllocError> {
+pub fn has_rules(alloc: Global, place: &FaultPlace<'_>) -> Result<bool, AllocError> {
     Ok(!rules_for(alloc, place)?.is_empty())
 }
 
 // `SECTION NUMBER`, the texts of the rule's keys, and the rank of a lock.
 fn rule_text(
     alloc: Global,
-    place: &Place<'_>,
+    place: &FaultPlace<'_>,
     rule_file: &RuleFile,
     rule: RuleAt,
 ) -> Result<Vec<u8>, AllocError> {
@@ -237,7 +237,7 @@ fn rule_text(
 }
 
 // What is said after the rules that apply, or if there is none though one should.
-fn last_phrase(place: &Place<'_>, has_rule: bool) -> Phrase {
+fn last_phrase(place: &FaultPlace<'_>, has_rule: bool) -> Phrase {
     match (place.fault.code, has_rule) {
         (Code::Unranked, false) if place.is_ranked_by_constants() => {
             &[
@@ -258,7 +258,7 @@ fn last_phrase(place: &Place<'_>, has_rule: bool) -> Phrase {
 /// The texts of the first few rules that apply to the fault at `place`, and what is said after them.
 pub fn rule_texts(
     alloc: Global,
-    place: &Place<'_>,
+    place: &FaultPlace<'_>,
     rule_file: &RuleFile,
 ) -> Result<Vec<Vec<u8>>, AllocError> {
     let rules = rules_for(alloc, place)?;

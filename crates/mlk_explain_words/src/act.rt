@@ -2,13 +2,13 @@
 
 use mlk_explain_origins::Mark;
 use mlk_explain_places::Part::{Locks, MendLocals, MendRank, Name, OfRank, Root, Subscript, Words};
-use mlk_explain_places::{LockSet, Phrase, Place, function_before};
+use mlk_explain_places::{FaultPlace, LockSet, Phrase, function_before};
 use mlk_survey_trees::Usage;
 use mlk_text::Code;
 use mlk_walk_exprs::Mend;
 
 // A read of a global, by the function whose argument it is.
-fn read_act(place: &Place<'_>) -> Phrase {
+fn read_act(place: &FaultPlace<'_>) -> Phrase {
     match function_before(place.line, place.fault.column) {
         b"$O" | b"$ORDER" | b"$o" | b"$order" => &[Words("looks for what is beside "), Name],
         b"$D" | b"$DATA" | b"$d" | b"$data" => &[Words("asks what is at and below "), Name],
@@ -17,7 +17,7 @@ fn read_act(place: &Place<'_>) -> Phrase {
     }
 }
 
-fn touch_act(place: &Place<'_>) -> Phrase {
+fn touch_act(place: &FaultPlace<'_>) -> Phrase {
     match place.mark() {
         Some(Mark::Global(Usage::Read)) => read_act(place),
         Some(Mark::Global(Usage::Write)) => &[Words("writes "), Name],
@@ -27,7 +27,7 @@ fn touch_act(place: &Place<'_>) -> Phrase {
 }
 
 // A change of locals while one of them names a held lock.
-fn change_act(place: &Place<'_>) -> Phrase {
+fn change_act(place: &FaultPlace<'_>) -> Phrase {
     if place.is_call() && place.has_locks(LockSet::Changed) {
         return &[
             Words("calls "),
@@ -55,7 +55,7 @@ fn change_act(place: &Place<'_>) -> Phrase {
     ]
 }
 
-fn claim_act(place: &Place<'_>) -> Phrase {
+fn claim_act(place: &FaultPlace<'_>) -> Phrase {
     if place.is_call() {
         return &[
             Words("calls "),
@@ -72,7 +72,7 @@ fn claim_act(place: &Place<'_>) -> Phrase {
     ]
 }
 
-fn end_act(place: &Place<'_>) -> Phrase {
+fn end_act(place: &FaultPlace<'_>) -> Phrase {
     if place.is_of_entry() {
         return &[Words("has an exit in the certificate that leaves a lock held")];
     }
@@ -82,7 +82,7 @@ fn end_act(place: &Place<'_>) -> Phrase {
     }
 }
 
-fn unlisted_act(place: &Place<'_>) -> Phrase {
+fn unlisted_act(place: &FaultPlace<'_>) -> Phrase {
     match &place.note.mend {
         Mend::Exit(_) => &[Words("ends the entry in a case that no exit of its summary lists")],
         Mend::Listed(_, round, _) if *round > 0 => &[Words(
@@ -92,7 +92,7 @@ fn unlisted_act(place: &Place<'_>) -> Phrase {
     }
 }
 
-fn need_act(place: &Place<'_>) -> Phrase {
+fn need_act(place: &FaultPlace<'_>) -> Phrase {
     if !place.is_call() {
         return &[Words("is a declared entry whose summary needs a lock")];
     }
@@ -108,7 +108,7 @@ fn need_act(place: &Place<'_>) -> Phrase {
 }
 
 // What the entry does, or may do by a call, that its summary leaves out.
-fn summary_act(place: &Place<'_>) -> Phrase {
+fn summary_act(place: &FaultPlace<'_>) -> Phrase {
     match &place.note.mend {
         Mend::Changes(_) if place.is_call() => &[
             Words("calls "),
@@ -145,7 +145,7 @@ fn summary_act(place: &Place<'_>) -> Phrase {
     }
 }
 
-fn uncertified_act(place: &Place<'_>) -> Phrase {
+fn uncertified_act(place: &FaultPlace<'_>) -> Phrase {
     match place.mark() {
         Some(Mark::Job(_)) => &[
             Words("begins a job at "),
@@ -161,7 +161,7 @@ fn uncertified_act(place: &Place<'_>) -> Phrase {
     }
 }
 
-fn unknown_act(place: &Place<'_>) -> Phrase {
+fn unknown_act(place: &FaultPlace<'_>) -> Phrase {
     if place.is_call() {
         return &[
             Words("calls "),
@@ -177,7 +177,7 @@ fn unknown_act(place: &Place<'_>) -> Phrase {
 }
 
 // What the entry's summary asks of callers for.
-fn summary_origin_act(place: &Place<'_>) -> Phrase {
+fn summary_origin_act(place: &FaultPlace<'_>) -> Phrase {
     match &place.note.mend {
         Mend::Rank(_) => &[Words("acquires "), Name, Words(" of rank "), MendRank],
         Mend::Changes(_) if place.is_call() => {
@@ -195,7 +195,7 @@ fn summary_origin_act(place: &Place<'_>) -> Phrase {
 }
 
 /// What happens at `place`, for which the entry asks something of its callers.
-pub fn origin_act_of(place: &Place<'_>) -> Phrase {
+pub fn origin_act_of(place: &FaultPlace<'_>) -> Phrase {
     match place.fault.code {
         Code::Uncovered => touch_act(place),
         Code::NotHeld => &[Words("releases "), Name],
@@ -205,7 +205,7 @@ pub fn origin_act_of(place: &Place<'_>) -> Phrase {
 }
 
 /// What was about to happen at `place`.
-pub fn act_of(place: &Place<'_>) -> Phrase {
+pub fn act_of(place: &FaultPlace<'_>) -> Phrase {
     match place.fault.code {
         Code::Unruled | Code::Uncovered | Code::ReadOnly | Code::NotPrivate => touch_act(place),
         Code::Pinned => change_act(place),

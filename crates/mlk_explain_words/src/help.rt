@@ -5,7 +5,7 @@ use mlk_explain_origins::Mark;
 use mlk_explain_places::Part::{
     Callee, Entry, Locks, MendLine, MendLocals, MendRank, Name, ReasonLine, Root, Subscript, Words,
 };
-use mlk_explain_places::{LockSet, Phrase, Place, Reason, function_before};
+use mlk_explain_places::{FaultPlace, LockSet, Phrase, Reason, function_before};
 use mlk_text::Code;
 use mlk_walk_exprs::Mend;
 
@@ -19,7 +19,7 @@ fn unruled_help(has_rule: bool) -> Phrase {
 }
 
 // What mends a missing lock that is held by another name; nothing if it is not.
-fn renamed_help(place: &Place<'_>) -> Phrase {
+fn renamed_help(place: &FaultPlace<'_>) -> Phrase {
     if !place.has_locks(LockSet::Alike) {
         return &[];
     }
@@ -43,7 +43,7 @@ fn renamed_help(place: &Place<'_>) -> Phrase {
 }
 
 // What mends a reference to more nodes than a held lock covers; nothing if no lock below is held and no subscript is there.
-fn narrower_help(place: &Place<'_>) -> Phrase {
+fn narrower_help(place: &FaultPlace<'_>) -> Phrase {
     if place.name.find_byte(b'(').is_some() {
         return &[Words(
             "put the subscript's value into a local, and lock and touch by that: any other expression may be any node",
@@ -62,7 +62,7 @@ fn narrower_help(place: &Place<'_>) -> Phrase {
 }
 
 // What mends a $ORDER over nodes that are locked one by one; nothing elsewhere.
-fn order_help(place: &Place<'_>) -> Phrase {
+fn order_help(place: &FaultPlace<'_>) -> Phrase {
     match function_before(place.line, place.fault.column) {
         b"$O" | b"$ORDER" | b"$o" | b"$order" => &[
             Words("acquire "),
@@ -99,7 +99,7 @@ fn test_help(reason: Reason) -> Phrase {
 }
 
 // What mends a missing lock, by why it is missing.
-fn reason_help(place: &Place<'_>) -> Phrase {
+fn reason_help(place: &FaultPlace<'_>) -> Phrase {
     match place.reason {
         Reason::Never => &[
             Words("acquire "),
@@ -139,7 +139,7 @@ fn first_of(phrases: &[Phrase]) -> Phrase {
     }
 }
 
-fn uncovered_help(place: &Place<'_>) -> Phrase {
+fn uncovered_help(place: &FaultPlace<'_>) -> Phrase {
     let closer = if place.is_wide() {
         first_of(&[order_help(place), narrower_help(place)])
     } else {
@@ -148,7 +148,7 @@ fn uncovered_help(place: &Place<'_>) -> Phrase {
     first_of(&[closer, reason_help(place)])
 }
 
-fn not_held_help(place: &Place<'_>) -> Phrase {
+fn not_held_help(place: &FaultPlace<'_>) -> Phrase {
     let renamed = renamed_help(place);
     if !renamed.is_empty() {
         return renamed;
@@ -170,7 +170,7 @@ fn not_held_help(place: &Place<'_>) -> Phrase {
     }
 }
 
-fn pinned_help(place: &Place<'_>) -> Phrase {
+fn pinned_help(place: &FaultPlace<'_>) -> Phrase {
     if place.is_call() {
         return &[Words(
             "release the lock before the call, pass a copy, or let the callee make the name new",
@@ -190,7 +190,7 @@ fn pinned_help(place: &Place<'_>) -> Phrase {
     ]
 }
 
-fn rank_order_help(place: &Place<'_>) -> Phrase {
+fn rank_order_help(place: &FaultPlace<'_>) -> Phrase {
     if place.is_call() {
         return &[
             Words("call it before "),
@@ -214,7 +214,7 @@ fn rank_order_help(place: &Place<'_>) -> Phrase {
     ]
 }
 
-fn held_at_end_help(place: &Place<'_>) -> Phrase {
+fn held_at_end_help(place: &FaultPlace<'_>) -> Phrase {
     if !place.has_locks(LockSet::Held) {
         return &[Words("release the lock on each way out")];
     }
@@ -225,7 +225,7 @@ fn held_at_end_help(place: &Place<'_>) -> Phrase {
     ]
 }
 
-fn unlisted_help(place: &Place<'_>) -> Phrase {
+fn unlisted_help(place: &FaultPlace<'_>) -> Phrase {
     if place.grounds.is_made {
         return &[Words("list in the entry's block: "), MendLine];
     }
@@ -235,7 +235,7 @@ fn unlisted_help(place: &Place<'_>) -> Phrase {
     ]
 }
 
-fn need_help(place: &Place<'_>) -> Phrase {
+fn need_help(place: &FaultPlace<'_>) -> Phrase {
     if !place.is_call() {
         return &[Words(
             "let the entry acquire what it needs: a job that begins there holds nothing",
@@ -261,7 +261,7 @@ fn need_help(place: &Place<'_>) -> Phrase {
     ]
 }
 
-fn summary_help(place: &Place<'_>) -> Phrase {
+fn summary_help(place: &FaultPlace<'_>) -> Phrase {
     match &place.note.mend {
         Mend::Changes(_) => &[
             Words("add "),
@@ -281,7 +281,7 @@ fn summary_help(place: &Place<'_>) -> Phrase {
     }
 }
 
-fn uncertified_help(place: &Place<'_>) -> Phrase {
+fn uncertified_help(place: &FaultPlace<'_>) -> Phrase {
     match place.mark() {
         Some(Mark::Job(_)) => &[
             Words("declare "),
@@ -292,7 +292,7 @@ fn uncertified_help(place: &Place<'_>) -> Phrase {
     }
 }
 
-fn unknown_help(place: &Place<'_>) -> Phrase {
+fn unknown_help(place: &FaultPlace<'_>) -> Phrase {
     if place.is_call() {
         return &[Words("put the value into a local first, and pass that by value")];
     }
@@ -304,7 +304,7 @@ fn unknown_help(place: &Place<'_>) -> Phrase {
 }
 
 /// What mends the fault at `place`, by whether a rule applies to it.
-pub fn help_of(place: &Place<'_>, has_rule: bool) -> Phrase {
+pub fn help_of(place: &FaultPlace<'_>, has_rule: bool) -> Phrase {
     match place.fault.code {
         Code::Unruled => unruled_help(has_rule),
         Code::Uncovered => uncovered_help(place),

@@ -44,7 +44,7 @@ pub enum Passing {
 }
 
 impl Passing {
-    pub(crate) fn lends(self) -> bool
+    pub(crate) fn is_by_reference(self) -> bool
         ensures { result ≡ lends self }
     {
         match self {

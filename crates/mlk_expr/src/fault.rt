@@ -12,7 +12,7 @@ use std::alloc::Global;
 
 // The code for `wrong`, and the part of M that is not read. A name by reference is refused as such only if `passing` forbids
 // it.
-fn told(passing: Passing, wrong: Wrong) -> (Code, Option<LeftOut>)
+fn code_of(passing: Passing, wrong: Wrong) -> (Code, Option<LeftOut>)
     ensures coded { may_tell passing (number_of result.0) ≡ true }
     ensures worded { is_some result.1 ≡ (number_of result.0 == 102) }
 {
@@ -21,13 +21,13 @@ fn told(passing: Passing, wrong: Wrong) -> (Code, Option<LeftOut>)
         Wrong::LeftOut(what) => (Code::ExprLeftOut, Some(what)),
         Wrong::Deep => (Code::ExprDeep, None),
         Wrong::NameLong => (Code::NameLong, None),
-        Wrong::Lent if passing.lends() => (Code::ExprForm, None),
+        Wrong::Lent if passing.is_by_reference() => (Code::ExprForm, None),
         Wrong::Lent => (Code::ArgumentForm, None),
     }
 }
 
 /// Gives a refusal its place in `line`, at byte `at` or after it.
-pub(crate) fn located(
+pub(crate) fn locate(
     alloc: Global,
     passing: Passing,
     line: &[u8],
@@ -43,7 +43,7 @@ pub(crate) fn located(
         Failure::Refused(offence) => offence,
     };
     let before = line.len().saturating_sub(offence.left).max(at);
-    let (code, left_out) = told(passing, offence.wrong);
+    let (code, left_out) = code_of(passing, offence.wrong);
     Failure::Refused(Fault {
         code,
         place: Place {

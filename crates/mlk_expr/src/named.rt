@@ -6,7 +6,7 @@ ghost use Rattle.mlk_expr.specs.Grammar.{IsNameText, IsLabelText, IsCalleeText};
 ghost use Rattle.mlk_expr.specs.Theorem.{LabelEnds, CalleeEnds, Stands, Only, Refuses, Faults};
 
 use crate::context::Passing;
-use crate::fault::located;
+use crate::fault::locate;
 use crate::part::{callee, label, plain_name};
 use mlk_syntax::Callee;
 use mlk_text::{Failure, Fault, Name};
@@ -23,7 +23,7 @@ pub fn read_name(alloc: Global, line: &[u8], at: usize) -> Result<(Name, usize),
     let (_, bytes) = line.split_at(at);
     match plain_name(alloc, bytes) {
         Ok((name, rest)) => Ok((name, line.len() - rest.len())),
-        Err(refusal) => Err(located(alloc, Passing::ByReference, line, at, refusal)),
+        Err(refusal) => Err(locate(alloc, Passing::ByReference, line, at, refusal)),
     }
 }
 
@@ -38,7 +38,7 @@ pub fn read_label(alloc: Global, line: &[u8], at: usize) -> Result<(Name, usize)
     let (_, bytes) = line.split_at(at);
     match label(alloc, bytes) {
         Ok((label, rest)) => Ok((label, line.len() - rest.len())),
-        Err(refusal) => Err(located(alloc, Passing::ByReference, line, at, refusal)),
+        Err(refusal) => Err(locate(alloc, Passing::ByReference, line, at, refusal)),
     }
 }
 
@@ -53,6 +53,6 @@ pub fn read_callee(alloc: Global, line: &[u8], at: usize) -> Result<(Callee, usi
     let (_, bytes) = line.split_at(at);
     match callee(alloc, bytes) {
         Ok((callee, rest)) => Ok((callee, line.len() - rest.len())),
-        Err(refusal) => Err(located(alloc, Passing::ByReference, line, at, refusal)),
+        Err(refusal) => Err(locate(alloc, Passing::ByReference, line, at, refusal)),
     }
 }

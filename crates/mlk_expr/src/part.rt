@@ -12,10 +12,10 @@ ghost use Rattle.mlk_expr.specs.Touches.{globals_may};
 
 use crate::context::Allows;
 use crate::refusal::{
-    Offence, Wrong, no_global, no_label, no_name, no_number, no_routine, refused,
+    Offence, Wrong, no_global, no_label, no_name, no_number, no_routine, refusal_at,
 };
 use mlk_expr_tokens::numeral::numeral_at;
-use mlk_numbers::canonical;
+use mlk_numbers::canonical_text;
 use mlk_syntax::{Callee, Expr, Function};
 use mlk_text::lexeme::{byte_of, is_text_byte};
 use mlk_text::spelling::{label_text, name_text};
@@ -51,18 +51,18 @@ fn no_text(bytes: &[u8]) -> Failure<Offence>
     for (i, b) in bytes.iter().enumerate() {
         if !is_text_byte(*b) {
             let (_, rest) = bytes.split_at(i);
-            return refused(Wrong::Form, rest);
+            return refusal_at(Wrong::Form, rest);
         }
     }
-    refused(Wrong::Form, &[])
+    refusal_at(Wrong::Form, &[])
 }
 
 /// Reads the value up to the closing quote: the value, and the rest.
 #[inline(always)]
-pub(crate) fn quoted(alloc: Global, bytes: &[u8]) -> Result<(Value, &[u8]), Failure<Offence>>
+pub(crate) fn quoted_value(alloc: Global, bytes: &[u8]) -> Result<(Value, &[u8]), Failure<Offence>>
     ensures { Reads (λ x. (x.0, x.1.now)) result (inside bytes.now) }
 {
-    match literal::quoted(alloc, bytes) {
+    match literal::quoted_value(alloc, bytes) {
         Ok((value, rest)) => Ok((value, rest)),
         Err(Failure::OutOfMemory) => Err(Failure::OutOfMemory),
         Err(Failure::Refused(_)) => Err(no_text(bytes)),
@@ -74,7 +74,7 @@ pub(crate) fn quoted(alloc: Global, bytes: &[u8]) -> Result<(Value, &[u8]), Fail
 pub(crate) fn text(alloc: Global, bytes: &[u8]) -> Result<(Expr, &[u8]), Failure<Offence>>
     ensures { Reads (λ x. (tree_of x.0, x.1.now)) result (with Lit (inside bytes.now)) }
 {
-    let (value, rest) = quoted(alloc, bytes)?;
+    let (value, rest) = quoted_value(alloc, bytes)?;
     Ok((Expr::Lit(value), rest))
 }
 
@@ -83,7 +83,7 @@ pub(crate) fn text(alloc: Global, bytes: &[u8]) -> Result<(Expr, &[u8]), Failure
 fn number_of(alloc: Global, text: &[u8]) -> Result<Expr, AllocError>
     ensures { IfOk result (λ e. tree_of e ≡ number_of text.now) }
 {
-    match canonical(alloc, text)? {
+    match canonical_text(alloc, text)? {
         Some(value) => Ok(Expr::Lit(value)),
         None => Ok(Expr::Free),
     }
@@ -184,7 +184,7 @@ pub(crate) fn global_name<'a>(
 }
 
 /// How many arguments `function` may have after the first, if the first must be a name; otherwise `None`.
-pub(crate) fn named(function: Function) -> Option<usize>
+pub(crate) fn most_after_name(function: Function) -> Option<usize>
     ensures { result ≡ named function }
 {
     match function {

@@ -7,8 +7,8 @@ ghost use Rattle.mlk_expr_tokens.specs.Lexemes.{count_at};
 ghost use Rattle.mlk_expr.specs.Reading.{next, list_with, matcher_by, some_atoms, pattern_at, rest_of};
 ghost use Rattle.mlk_text.specs.Failures.{Reads};
 
-use crate::part::quoted;
-use crate::refusal::{Offence, Wrong, no_operand, refused, too_deep_pattern};
+use crate::part::quoted_value;
+use crate::refusal::{Offence, Wrong, no_operand, refusal_at, too_deep_pattern};
 use mlk_expr_tokens::lexeme::{count_at, pattern_codes_at};
 use mlk_text::Failure;
 use mlk_text::lexeme::byte_of;
@@ -61,10 +61,10 @@ fn matcher<'a>(
     ensures { Reads (λ x. (count.now, x.now)) result (matcher_by (pattern_at deeper) count.now bytes.now) }
 {
     let Some((first, after)) = bytes.split_first() else {
-        return Err(refused(Wrong::Form, bytes));
+        return Err(refusal_at(Wrong::Form, bytes));
     };
     if *first == b'"' {
-        let (_, rest) = quoted(alloc, after)?;
+        let (_, rest) = quoted_value(alloc, after)?;
         return Ok(rest);
     }
     if *first == b'(' {
@@ -72,7 +72,7 @@ fn matcher<'a>(
         return Ok(rest);
     }
     let Some((_, rest)) = pattern_codes_at(bytes) else {
-        return Err(refused(Wrong::Form, bytes));
+        return Err(refusal_at(Wrong::Form, bytes));
     };
     Ok(rest)
 }
@@ -86,7 +86,7 @@ fn alternatives(alloc: Global, deeper: u8, bytes: &[u8]) -> Result<&[u8], Failur
     let (_, rest) = pattern(alloc, deeper, bytes)?;
     let rest = alternatives_rest(alloc, deeper, rest)?;
     let Some(rest) = byte_of(b')', rest) else {
-        return Err(refused(Wrong::Form, rest));
+        return Err(refusal_at(Wrong::Form, rest));
     };
     Ok(rest)
 }

@@ -10,12 +10,12 @@ ghost use Rattle.mlk_expr.specs.Theorem.{ExprEnds, ReferenceEnds, ListEnds, Stan
 ghost use Rattle.mlk_expr.specs.declared.context.Passing.TheVariants.{ByReference};
 
 use crate::context::{Allows, Context, Passing};
-use crate::fault::located;
+use crate::fault::locate;
 use crate::part::global_name;
 use crate::read::actuals::actuals;
 use crate::read::chain;
 use crate::read::names::{local, subscripts};
-use crate::refusal::{Offence, Wrong, no_end, no_operand, refused};
+use crate::refusal::{Offence, Wrong, no_end, no_operand, refusal_at};
 use mlk_expr_tokens::lexeme::{column_of, may_end, starts_reference};
 use mlk_syntax::{Actual, Expr};
 use mlk_text::lexeme::byte_of;
@@ -73,7 +73,7 @@ fn actual_list<'a>(
     ensures { Reads (λ x. (actual_trees x.0.items, x.1.now)) result (actual_list_in passing context.now bytes.now) }
 {
     let Some(after) = byte_of(b'(', bytes) else {
-        return Err(refused(Wrong::Form, bytes));
+        return Err(refusal_at(Wrong::Form, bytes));
     };
     actuals(alloc, context, passing, after)
 }
@@ -111,7 +111,7 @@ pub fn read_expr_where(
     };
     match expr(alloc, &context, bytes) {
         Ok((tree, rest)) => Ok((tree, line.len() - rest.len())),
-        Err(refusal) => Err(located(alloc, Passing::ByReference, line, at, refusal)),
+        Err(refusal) => Err(locate(alloc, Passing::ByReference, line, at, refusal)),
     }
 }
 
@@ -148,7 +148,7 @@ pub fn read_ref_where(
     };
     match reference(alloc, &context, bytes) {
         Ok((tree, rest)) => Ok((tree, line.len() - rest.len())),
-        Err(refusal) => Err(located(alloc, Passing::ByReference, line, at, refusal)),
+        Err(refusal) => Err(locate(alloc, Passing::ByReference, line, at, refusal)),
     }
 }
 
@@ -191,6 +191,6 @@ pub fn read_actuals_where(
     };
     match actual_list(alloc, &context, passing, bytes) {
         Ok((given, rest)) => Ok((given, line.len() - rest.len())),
-        Err(refusal) => Err(located(alloc, passing, line, at, refusal)),
+        Err(refusal) => Err(locate(alloc, passing, line, at, refusal)),
     }
 }

@@ -16,11 +16,11 @@ use crate::part::{number, text};
 use crate::pattern::pattern;
 use crate::read::functions::dollar;
 use crate::read::names::{global, local};
-use crate::refusal::{Offence, Wrong, no_end, no_operand, refused, too_deep};
+use crate::refusal::{Offence, Wrong, no_end, no_operand, refusal_at, too_deep};
 use mlk_expr_tokens::lexeme::{Kind, is_match, kind_of, may_go_on, op_at};
 use mlk_syntax::Expr;
 use mlk_text::lexeme::byte_of;
-use mlk_text::{Failure, Op, UnaryOp, Value, giving_up, make_room};
+use mlk_text::{Failure, Op, UnaryOp, Value, drop_and_return, make_room};
 use std::alloc::Global;
 
 /// Reads the expression at the front, nested at most `context.left` deep: its tree, and the rest.
@@ -37,13 +37,13 @@ pub(crate) fn chain<'a>(
     if !may_go_on(rest) {
         return Ok((first, rest));
     }
-    going_on(alloc, context, first, rest)
+    call_chain_after(alloc, context, first, rest)
 }
 
 // Calls `chain_after`, as a function of its own, so that the slot of the result is cleared only if an operator may follow.
 #[cycle(reading)]
 #[inline(always)]
-fn going_on<'a>(
+fn call_chain_after<'a>(
     alloc: Global,
     context: &Context,
     first: Expr,
@@ -68,7 +68,7 @@ fn chain_after<'a>(
 {
     let (links, rest) = match chain_rest(alloc, context, bytes) {
         Ok(read) => read,
-        Err(failure) => return Err(giving_up(first, failure)),
+        Err(failure) => return Err(drop_and_return(first, failure)),
     };
     if links.is_empty() {
         return Ok((first, rest));
@@ -89,7 +89,7 @@ fn chain_rest<'a>(
     let mut rest = bytes;
     while let Some((op, after)) = op_at(rest) {
         make_room(&mut found)?;
-        let (item, after) = right(alloc, context, op, after)?;
+        let (item, after) = right_operand(alloc, context, op, after)?;
         found.push_reserved((op, item));
         rest = after;
     }
@@ -98,7 +98,7 @@ fn chain_rest<'a>(
 
 // Reads the right operand of `op`.
 #[cycle(reading)]
-fn right<'a>(
+fn right_operand<'a>(
     alloc: Global,
     context: &Context,
     op: Op,
@@ -117,7 +117,7 @@ fn right<'a>(
 // Reads an expression and a closing parenthesis.
 #[cycle(reading)]
 #[inline(always)]
-fn enclosed<'a>(
+fn enclosed_expr<'a>(
     alloc: Global,
     context: &Context,
     bytes: &'a [u8],
@@ -133,7 +133,7 @@ fn enclosed<'a>(
 
 // Reads the operand of a sign.
 #[cycle(reading)]
-fn prefixed<'a>(
+fn unary_expr<'a>(
     alloc: Global,
     context: &Context,
     op: UnaryOp,
@@ -145,10 +145,10 @@ fn prefixed<'a>(
     Ok((Expr::Unary(op, Box::new(alloc, operand)?), rest))
 }
 
-// Calls `prefixed`, as a function of its own, so that the slot of the result is cleared only if there is a sign.
+// Calls `unary_expr`, as a function of its own, so that the slot of the result is cleared only if there is a sign.
 #[cycle(reading)]
 #[inline(always)]
-fn signed<'a>(
+fn call_unary_expr<'a>(
     alloc: Global,
     context: &Context,
     op: UnaryOp,
@@ -156,7 +156,7 @@ fn signed<'a>(
 ) -> Result<(Expr, &'a [u8]), Failure<Offence>>
     ensures { Reads (λ x. (tree_of x.0, x.1.now)) result (with (Prefixed op) (atom_in context.now bytes.now)) }
 {
-    prefixed(alloc, context, op, bytes)
+    unary_expr(alloc, context, op, bytes)
 }
 
 #[cycle(reading)]
@@ -169,7 +169,7 @@ fn operand<'a>(
     ensures { Reads (λ x. (tree_of x.0, x.1.now)) result (operand_in context.now bytes.now) }
 {
     let Some((first, after)) = bytes.split_first() else {
-        return Err(refused(Wrong::Form, bytes));
+        return Err(refusal_at(Wrong::Form, bytes));
     };
     match kind_of(*first) {
         Kind::Numeral => number(alloc, bytes),
@@ -177,8 +177,8 @@ fn operand<'a>(
         Kind::Letter => local(alloc, context, bytes),
         Kind::Caret => global(alloc, context, bytes, after),
         Kind::Dollar => dollar(alloc, context, bytes, after),
-        Kind::Open => enclosed(alloc, context, after),
-        Kind::Prefix(op) => signed(alloc, context, op, after),
+        Kind::Open => enclosed_expr(alloc, context, after),
+        Kind::Prefix(op) => call_unary_expr(alloc, context, op, after),
         Kind::Other => Err(no_operand(bytes)),
     }
 }

@@ -38,7 +38,7 @@ pub struct Offence {
 }
 
 /// A refusal at the first of `bytes`.
-pub(crate) fn refused(wrong: Wrong, bytes: &[u8]) -> Failure<Offence>
+pub(crate) fn refusal_at(wrong: Wrong, bytes: &[u8]) -> Failure<Offence>
     ensures { IsRefused result }
 {
     Failure::Refused(Offence {
@@ -50,7 +50,7 @@ pub(crate) fn refused(wrong: Wrong, bytes: &[u8]) -> Failure<Offence>
 fn leaves_out(what: LeftOut, bytes: &[u8]) -> Failure<Offence>
     ensures { IsRefused result }
 {
-    refused(Wrong::LeftOut(what), bytes)
+    refusal_at(Wrong::LeftOut(what), bytes)
 }
 
 /// Why there is no name here: it is too long, or no name begins.
@@ -58,11 +58,11 @@ pub(crate) fn no_name(bytes: &[u8]) -> Failure<Offence>
     ensures { IsRefused result }
 {
     let Some((first, _)) = bytes.split_first() else {
-        return refused(Wrong::Form, bytes);
+        return refusal_at(Wrong::Form, bytes);
     };
     match kind_of(*first) {
-        Kind::Letter => refused(Wrong::NameLong, bytes),
-        _ => refused(Wrong::Form, bytes),
+        Kind::Letter => refusal_at(Wrong::NameLong, bytes),
+        _ => refusal_at(Wrong::Form, bytes),
     }
 }
 
@@ -81,12 +81,12 @@ pub(crate) fn no_number(bytes: &[u8]) -> Failure<Offence>
 {
     let (_, rest) = bytes.split_at(mantissa_len(bytes));
     let Some((first, after)) = rest.split_first() else {
-        return refused(Wrong::Form, rest);
+        return refusal_at(Wrong::Form, rest);
     };
     if *first == b'E' {
-        return refused(Wrong::Form, after_sign(after));
+        return refusal_at(Wrong::Form, after_sign(after));
     }
-    refused(Wrong::Form, after)
+    refusal_at(Wrong::Form, after)
 }
 
 /// Why an expression neither continues nor ends here: after `'` a relation is expected.
@@ -94,8 +94,8 @@ pub(crate) fn no_end(bytes: &[u8]) -> Failure<Offence>
     ensures { IsRefused result }
 {
     match byte_of(b'\'', bytes) {
-        Some(after) => refused(Wrong::Form, after),
-        None => refused(Wrong::Form, bytes),
+        Some(after) => refusal_at(Wrong::Form, after),
+        None => refusal_at(Wrong::Form, bytes),
     }
 }
 
@@ -128,7 +128,7 @@ pub(crate) fn no_actual(
     match after.first().copied() {
         Some(b'@') => leaves_out(LeftOut::Indirection, after),
         Some(first) if is_digit(first) => Failure::Refused(offence),
-        _ if !passing.lends() && begins_name(after) => refused(Wrong::Lent, bytes),
+        _ if !passing.is_by_reference() && begins_name(after) => refusal_at(Wrong::Lent, bytes),
         _ => no_name(after),
     }
 }
@@ -138,7 +138,7 @@ pub(crate) fn no_arguments_end(args: &[Expr], bytes: &[u8]) -> Failure<Offence>
     ensures { IsRefused result }
 {
     if args.len() == 1 {
-        return refused(Wrong::Form, bytes);
+        return refusal_at(Wrong::Form, bytes);
     }
     no_end(bytes)
 }
@@ -149,7 +149,7 @@ pub(crate) fn no_actuals_end(given: &[Actual], bytes: &[u8]) -> Failure<Offence>
 {
     match given.last() {
         Some(Actual::Value(_)) => no_end(bytes),
-        _ => refused(Wrong::Form, bytes),
+        _ => refusal_at(Wrong::Form, bytes),
     }
 }
 
@@ -203,7 +203,7 @@ pub(crate) fn no_word(bytes: &[u8], after: &[u8]) -> Failure<Offence>
     }
     let (word, rest) = word_at(after);
     if word.is_empty() {
-        return refused(Wrong::Form, after);
+        return refusal_at(Wrong::Form, after);
     }
     match byte_of(b'(', rest) {
         Some(_) => leaves_out(LeftOut::Function, bytes),
@@ -216,7 +216,7 @@ pub(crate) fn no_function(bytes: &[u8], word: &[u8]) -> Failure<Offence>
     ensures { IsRefused result }
 {
     match bytes.split_first() {
-        Some((_, after)) if word.is_empty() => refused(Wrong::Form, after),
+        Some((_, after)) if word.is_empty() => refusal_at(Wrong::Form, after),
         _ => leaves_out(LeftOut::Function, bytes),
     }
 }
@@ -227,7 +227,7 @@ pub(crate) fn no_operand(bytes: &[u8]) -> Failure<Offence>
 {
     match bytes.first().copied() {
         Some(b'@') => leaves_out(LeftOut::Indirection, bytes),
-        _ => refused(Wrong::Form, bytes),
+        _ => refusal_at(Wrong::Form, bytes),
     }
 }
 
@@ -236,7 +236,7 @@ pub(crate) fn too_deep_pattern(bytes: &[u8]) -> Failure<Offence>
     ensures { IsRefused result }
 {
     match count_at(bytes) {
-        Some(_) => refused(Wrong::Deep, bytes),
+        Some(_) => refusal_at(Wrong::Deep, bytes),
         None => no_operand(bytes),
     }
 }
@@ -259,14 +259,14 @@ pub(crate) fn too_deep(allows: Allows, bytes: &[u8]) -> Failure<Offence>
     ensures { IsRefused result }
 {
     let Some((first, after)) = bytes.split_first() else {
-        return refused(Wrong::Form, bytes);
+        return refusal_at(Wrong::Form, bytes);
     };
     match kind_of(*first) {
         Kind::Other => no_operand(bytes),
         Kind::Caret => match after.first().copied() {
             Some(b'(' | b'|' | b'$') => no_global(allows, bytes, after),
             _ if !allows.globals() => leaves_out(LeftOut::Order, bytes),
-            _ => refused(Wrong::Deep, bytes),
+            _ => refusal_at(Wrong::Deep, bytes),
         },
         Kind::Dollar => {
             if after.first().copied() == Some(b'$') && !allows.calls() {
@@ -275,8 +275,8 @@ pub(crate) fn too_deep(allows: Allows, bytes: &[u8]) -> Failure<Offence>
             if is_left_out(after) {
                 return no_word(bytes, after);
             }
-            refused(Wrong::Deep, bytes)
+            refusal_at(Wrong::Deep, bytes)
         }
-        _ => refused(Wrong::Deep, bytes),
+        _ => refusal_at(Wrong::Deep, bytes),
     }
 }

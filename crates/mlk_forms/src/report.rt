@@ -11,7 +11,7 @@ use crate::warning::{Warnings, push_warnings, reported_gaps, reported_hazards};
 use mlk_cli::{Output, ReportStyle};
 use mlk_coverage::Coverage;
 use mlk_explain::{FaultsBehind, Grounds, Story, explained_rows, notes_below, stories_of};
-use mlk_output::{Findings, Inputs, report_json, report_sarif};
+use mlk_output::{Findings, ReportSources, report_json, report_sarif};
 use mlk_pool::{ReportText, push_answer, report_text};
 use mlk_syntax::Routine;
 use mlk_walk::Report;
@@ -143,7 +143,7 @@ fn findings_of<'a>(
 
 fn json_text(
     alloc: Global,
-    inputs: &Inputs<'_>,
+    inputs: &ReportSources<'_>,
     findings: &Findings<'_>,
 ) -> Result<ReportText, AllocError>
     ensures { IfOk result (IsJson findings.now.report.now) }
@@ -154,7 +154,7 @@ fn json_text(
 
 fn sarif_text(
     alloc: Global,
-    inputs: &Inputs<'_>,
+    inputs: &ReportSources<'_>,
     findings: &Findings<'_>,
 ) -> Result<ReportText, AllocError>
     ensures { IfOk result (IsSarif findings.now.report.now findings.now.hazards.now findings.now.gaps.now) }
@@ -166,7 +166,7 @@ fn sarif_text(
 // The text in the form that is asked for, with these warnings.
 fn text_in(
     alloc: Global,
-    inputs: &Inputs<'_>,
+    inputs: &ReportSources<'_>,
     report: &Report,
     style: ReportStyle,
     warnings: &Warnings<'_>,
@@ -190,7 +190,7 @@ fn text_in(
 // The text in the style that is asked for.
 fn styled_text(
     alloc: Global,
-    inputs: &Inputs<'_>,
+    inputs: &ReportSources<'_>,
     report: &Report,
     style: ReportStyle,
     warnings: &Warnings<'_>,
@@ -213,7 +213,7 @@ fn passes(report: &Report, warnings: &Warnings<'_>) -> bool
 /// Writes `report` in the `style` that is asked for, and says whether it passes. `explanations` explain it, if that is asked for.
 pub fn render_report(
     alloc: Global,
-    inputs: &Inputs<'_>,
+    inputs: &ReportSources<'_>,
     report: &Report,
     style: ReportStyle,
     explanations: &Explanations<'_>,

@@ -18,7 +18,7 @@ fn add_mention<'a>(
         Mention::SkippedCall(column) => push_sparing(
             hazards,
             HazardAt {
-                position: mention.at(column),
+                position: mention.position_at(column),
                 hazard: Hazard::SkippedCall,
             },
         ),

@@ -11,7 +11,7 @@ use std::alloc::AllocError;
 const MOST_COMPARED: usize = 17;
 
 // The names that are compared.
-fn compared(argument: &LockArgument) -> &[Variable] {
+fn compared_names(argument: &LockArgument) -> &[Variable] {
     let names = argument.names.as_slice();
     let (first, _) = names.split_at(names.len().min(MOST_COMPARED));
     first
@@ -19,7 +19,7 @@ fn compared(argument: &LockArgument) -> &[Variable] {
 
 // The column of the first name that compares as `wanted` with one before it, or `None`.
 fn first_like(argument: &LockArgument, wanted: Likeness) -> Option<Column> {
-    let mut left = compared(argument);
+    let mut left = compared_names(argument);
     while let Some((name, rest)) = left.split_first() {
         if let Some(other) = rest.iter().find(|other| likeness_of(name, other) == wanted) {
             return Some(other.column);
@@ -42,7 +42,7 @@ fn add_like<'a>(
         Some(column) => push_sparing(
             hazards,
             HazardAt {
-                position: mention.at(column),
+                position: mention.position_at(column),
                 hazard,
             },
         ),

@@ -14,11 +14,11 @@ use Rattle.mlk_cert_lexemes.proofs.Formats.{Format, Anything, byte-is, word-is, 
 use Rattle.mlk_cert_lexemes.proofs.NumberFormats.{number-format, positive-is, not-zero}
 use Rattle.mlk_cert_lexemes.proofs.TermFormats.{NoQuote, constant-is, constant-back, constant-format}
 use Rattle.mlk_cert_lexemes.proofs.EntryFormats.{entry-format}
-use Rattle.mlk_machine.specs.declared.order.Beginning.{Beginning}
-use Rattle.mlk_machine.specs.declared.order.Order.{Order}
-use Rattle.mlk_machine.specs.declared.order.Order.TheVariants.{Begin, Go, GoValue, GoTruth, Run, Abort}
-use Rattle.mlk_machine.specs.EventTexts.{greatest_job, IsJob, truth_text, test_digit, begin_text, order_text, line_text, IsBeginning, IsOrder}
-use Rattle.mlk_machine.specs.EventReading.{job_at, test_at, head_at, beginning_of, begin_at, no_by, yes_by, chosen_at, choice_by, go_at, abort_by, run_by, go_by, begin_by, order_at, line_at}
+use Rattle.mlk_machine.specs.declared.event_line.Beginning.{Beginning}
+use Rattle.mlk_machine.specs.declared.event_line.EventLine.{EventLine}
+use Rattle.mlk_machine.specs.declared.event_line.EventLine.TheVariants.{Begin, Go, GoValue, GoTruth, Run, Abort}
+use Rattle.mlk_machine.specs.EventTexts.{greatest_job, IsJob, truth_text, test_digit, begin_text, event_line_text, line_text, IsBeginning, IsEventLine}
+use Rattle.mlk_machine.specs.EventReading.{job_at, test_at, head_at, beginning_of, begin_at, no_by, yes_by, chosen_at, choice_by, go_at, abort_by, run_by, go_by, begin_by, event_line_at, line_at}
 
 -- the number of a job
 abbrev NoDigit : List ℕ → Type 0
@@ -78,14 +78,14 @@ head-is k e t xs ys h =
       two.1,
     )
 
-begin-is : (o : Order) (xs ys : List ℕ) → begin_at xs ≡ Some (o, ys) → (codes "begin " ++ xs ≡ order_text o ++ ys) × IsOrder o
+begin-is : (o : EventLine) (xs ys : List ℕ) → begin_at xs ≡ Some (o, ys) → (codes "begin " ++ xs ≡ event_line_text o ++ ys) × IsEventLine o
 unfolding begin_at
 begin-is o xs ys h =
     let d = then_some (head_at xs) _ (o, ys) h in
     let m = with_some (beginning_of d.0.0) (many (byte_at 32) (next constant_at) (suc (length d.0.1)) d.0.1) o ys d.2 in
     let one = head-is d.0.0.0 d.0.0.1 d.0.0.2 xs d.0.1 d.1 in
     let two = more-is constant_text HasBytes NoQuote constant_at constant-format 32 (suc (length d.0.1)) m.0 d.0.1 ys m.1 in
-    let P : Order → Type 0 = λ z. (codes "begin " ++ xs ≡ order_text z ++ ys) × IsOrder z in
+    let P : EventLine → Type 0 = λ z. (codes "begin " ++ xs ≡ event_line_text z ++ ys) × IsEventLine z in
     let assoc : (decimal d.0.0.0 ++ 32 ∷ (d.0.0.1 ++ 32 ∷ (test_digit d.0.0.2 ∷ more 32 constant_text m.0))) ++ ys
     ≡ decimal d.0.0.0 ++ 32 ∷ (d.0.0.1 ++ 32 ∷ (test_digit d.0.0.2 ∷ (more 32 constant_text m.0 ++ ys))) =
     simp append_assoc in
@@ -114,13 +114,13 @@ begin-back b zs is =
     is.values refl refl (omega arith)) refl))))
 
 -- a step
-chosen-is : (k : ℕ) (o : Order) (xs ys : List ℕ) → IsJob k → chosen_at k xs ≡ Some (o, ys)
-    → (codes "go " ++ (decimal k ++ 32 ∷ xs) ≡ order_text o ++ ys) × IsOrder o
+chosen-is : (k : ℕ) (o : EventLine) (xs ys : List ℕ) → IsJob k → chosen_at k xs ≡ Some (o, ys)
+    → (codes "go " ++ (decimal k ++ 32 ∷ xs) ≡ event_line_text o ++ ys) × IsEventLine o
 unfolding chosen_at
 chosen-is k o xs ys is h = yes (word_at (codes "yes") xs) refl h
   where
-    P : Order → Type 0
-    P z = (codes "go " ++ (decimal k ++ 32 ∷ xs) ≡ order_text z ++ ys) × IsOrder z
+    P : EventLine → Type 0
+    P z = (codes "go " ++ (decimal k ++ 32 ∷ xs) ≡ event_line_text z ++ ys) × IsEventLine z
 
     longer : (l m : List ℕ) → xs ≡ l ++ m → codes "go " ++ (decimal k ++ 32 ∷ xs) ≡ (codes "go " ++ (decimal k ++ 32 ∷ l)) ++ m
     longer l m e =
@@ -144,7 +144,7 @@ chosen-is k o xs ys is h = yes (word_at (codes "yes") xs) refl h
         subst P p.0 (longer (codes "yes") ys (s.0 ∙ ap (λ r. codes "yes" ++ r) p.1), is)
     yes None e g = no (word_at (codes "no") xs) refl g
 
-go-is : (o : Order) (xs ys : List ℕ) → go_at xs ≡ Some (o, ys) → (codes "go " ++ xs ≡ order_text o ++ ys) × IsOrder o
+go-is : (o : EventLine) (xs ys : List ℕ) → go_at xs ≡ Some (o, ys) → (codes "go " ++ xs ≡ event_line_text o ++ ys) × IsEventLine o
 unfolding go_at
 go-is o xs ys h =
     let j = then_some (job_at xs) _ (o, ys) h in
@@ -153,23 +153,23 @@ go-is o xs ys h =
     (ap (λ l. codes "go " ++ l) one.0 ∙ r.0, r.1)
   where
     go : (b : Option (ℕ × List ℕ)) (k : ℕ) (rest : List ℕ) → IsJob k → byte_at 32 rest ≡ b
-        → choice_by k rest b ≡ Some (o, ys) → (codes "go " ++ (decimal k ++ rest) ≡ order_text o ++ ys) × IsOrder o
+        → choice_by k rest b ≡ Some (o, ys) → (codes "go " ++ (decimal k ++ rest) ≡ event_line_text o ++ ys) × IsEventLine o
     go (Some b) k rest is e g =
         let s = byte-is 32 b.0 rest b.1 e in
         let c = chosen-is k o b.1 ys is g in
         (ap (λ l. codes "go " ++ (decimal k ++ l)) s.0 ∙ c.0, c.1)
     go None k rest is e g =
         let p = pair_parts (Go k) o rest ys g in
-        let P : Order → Type 0 = λ z. (codes "go " ++ (decimal k ++ rest) ≡ order_text z ++ ys) × IsOrder z in
+        let P : EventLine → Type 0 = λ z. (codes "go " ++ (decimal k ++ rest) ≡ event_line_text z ++ ys) × IsEventLine z in
         subst P p.0 (ap (λ l. codes "go " ++ (decimal k ++ l)) p.1, is)
 
 -- what a line says
-pub order-is : (o : Order) (xs ys : List ℕ) → order_at xs ≡ Some (o, ys) → (xs ≡ order_text o ++ ys) × IsOrder o
-unfolding order_at
+pub order-is : (o : EventLine) (xs ys : List ℕ) → event_line_at xs ≡ Some (o, ys) → (xs ≡ event_line_text o ++ ys) × IsEventLine o
+unfolding event_line_at
 order-is o xs ys h = first (word_at (codes "begin ") xs) refl h
   where
-    P : Order → Type 0
-    P z = (xs ≡ order_text z ++ ys) × IsOrder z
+    P : EventLine → Type 0
+    P z = (xs ≡ event_line_text z ++ ys) × IsEventLine z
 
     last : (w : Option (List ℕ × List ℕ)) → word_at (codes "abort ") xs ≡ w → abort_by w ≡ Some (o, ys) → P o
     last (Some w) e g =
@@ -251,28 +251,28 @@ unfolding chosen_at
 truth-back k true zs = rw (word-back (codes "yes") (10 ∷ zs)) refl
 truth-back k false zs = rw (yes_no (10 ∷ zs)) (rw (word-back (codes "no") (10 ∷ zs)) refl)
 
-step-back : (o : Order) (l zs : List ℕ) → go_at l ≡ Some (o, zs) → order_at (codes "go " ++ l) ≡ Some (o, zs)
-unfolding order_at
+step-back : (o : EventLine) (l zs : List ℕ) → go_at l ≡ Some (o, zs) → event_line_at (codes "go " ++ l) ≡ Some (o, zs)
+unfolding event_line_at
 step-back o l zs h = rw (begin_go l) (rw (word-back (codes "go ") l) h)
 
-order-back : (o : Order) (zs : List ℕ) → IsOrder o → order_at (order_text o ++ 10 ∷ zs) ≡ Some (o, 10 ∷ zs)
-unfolding order_at
+order-back : (o : EventLine) (zs : List ℕ) → IsEventLine o → event_line_at (event_line_text o ++ 10 ∷ zs) ≡ Some (o, 10 ∷ zs)
+unfolding event_line_at
 order-back (Begin b) zs is =
     rw (append_assoc (codes "begin ") (begin_text b) (10 ∷ zs))
     (rw (word-back (codes "begin ") (begin_text b ++ 10 ∷ zs)) (begin-back b zs is))
 order-back (Go k) zs is =
-    ap order_at (append_assoc (codes "go ") (decimal k) (10 ∷ zs))
+    ap event_line_at (append_assoc (codes "go ") (decimal k) (10 ∷ zs))
     ∙ step-back (Go k) (decimal k ++ 10 ∷ zs) (10 ∷ zs) (go-back k zs is)
 order-back (GoValue k v) zs (is, value) =
     let assoc : (decimal k ++ 32 ∷ constant_text v) ++ 10 ∷ zs ≡ decimal k ++ 32 ∷ (constant_text v ++ 10 ∷ zs) =
     append_assoc (decimal k) (32 ∷ constant_text v) (10 ∷ zs) in
-    ap order_at (append_assoc (codes "go ") (decimal k ++ 32 ∷ constant_text v) (10 ∷ zs) ∙ ap (λ l. codes "go " ++ l) assoc)
+    ap event_line_at (append_assoc (codes "go ") (decimal k ++ 32 ∷ constant_text v) (10 ∷ zs) ∙ ap (λ l. codes "go " ++ l) assoc)
     ∙ step-back (GoValue k v) (decimal k ++ 32 ∷ (constant_text v ++ 10 ∷ zs)) (10 ∷ zs)
     (go-chosen k (constant_text v ++ 10 ∷ zs) is ∙ value-back k v zs value)
 order-back (GoTruth k t) zs is =
     let assoc : (decimal k ++ 32 ∷ truth_text t) ++ 10 ∷ zs ≡ decimal k ++ 32 ∷ (truth_text t ++ 10 ∷ zs) =
     append_assoc (decimal k) (32 ∷ truth_text t) (10 ∷ zs) in
-    ap order_at (append_assoc (codes "go ") (decimal k ++ 32 ∷ truth_text t) (10 ∷ zs) ∙ ap (λ l. codes "go " ++ l) assoc)
+    ap event_line_at (append_assoc (codes "go ") (decimal k ++ 32 ∷ truth_text t) (10 ∷ zs) ∙ ap (λ l. codes "go " ++ l) assoc)
     ∙ step-back (GoTruth k t) (decimal k ++ 32 ∷ (truth_text t ++ 10 ∷ zs)) (10 ∷ zs)
     (go-chosen k (truth_text t ++ 10 ∷ zs) is ∙ truth-back k t zs)
 order-back (Run k) zs is =
@@ -286,22 +286,22 @@ order-back (Abort k) zs is =
     (rw (word-back (codes "abort ") l) (rw (job-back k (10 ∷ zs) is refl) refl)))))
 
 -- a line
-line-is : (o : Order) (xs ys : List ℕ) → line_at xs ≡ Some (o, ys) → (xs ≡ line_text o ++ ys) × IsOrder o
+line-is : (o : EventLine) (xs ys : List ℕ) → line_at xs ≡ Some (o, ys) → (xs ≡ line_text o ++ ys) × IsEventLine o
 unfolding line_at
 line-is o xs ys h =
-    let r = then_some (order_at xs) _ (o, ys) h in
+    let r = then_some (event_line_at xs) _ (o, ys) h in
     let e = with_some (λ _. r.0.0) (byte_at 10 r.0.1) o ys r.2 in
     let one = order-is r.0.0 xs r.0.1 r.1 in
-    let P : Order → Type 0 = λ z. (xs ≡ line_text z ++ ys) × IsOrder z in
+    let P : EventLine → Type 0 = λ z. (xs ≡ line_text z ++ ys) × IsEventLine z in
     subst P (sym e.2) (
-      one.0 ∙ ap (λ l. order_text r.0.0 ++ l) (byte-is 10 e.0 r.0.1 ys e.1).0
-          ∙ sym (append_assoc (order_text r.0.0) (10 ∷ []) ys),
+      one.0 ∙ ap (λ l. event_line_text r.0.0 ++ l) (byte-is 10 e.0 r.0.1 ys e.1).0
+          ∙ sym (append_assoc (event_line_text r.0.0) (10 ∷ []) ys),
       one.1,
     )
 
-line-back : (o : Order) (ys : List ℕ) → IsOrder o → line_at (line_text o ++ ys) ≡ Some (o, ys)
+line-back : (o : EventLine) (ys : List ℕ) → IsEventLine o → line_at (line_text o ++ ys) ≡ Some (o, ys)
 unfolding line_at
-line-back o ys is = rw (append_assoc (order_text o) (10 ∷ []) ys) (rw (order-back o ys is) refl)
+line-back o ys is = rw (append_assoc (event_line_text o) (10 ∷ []) ys) (rw (order-back o ys is) refl)
 
-pub line-format : Format line_text IsOrder Anything line_at
+pub line-format : Format line_text IsEventLine Anything line_at
 line-format = record { sound = line-is; complete = λ o ys is any. line-back o ys is }

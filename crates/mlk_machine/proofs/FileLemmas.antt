@@ -7,7 +7,7 @@ use Rattle.mlk_text.specs.declared.spelling.NotThere.{NotThere}
 use Rattle.mlk_text.specs.Failures.{FailsOn}
 use Rattle.mlk_cert_lexemes.specs.Lists.{EachPair}
 use Rattle.mlk_syntax.specs.Trees.{RoutineTree}
-use Rattle.mlk_machine.specs.declared.order.Order.{Order}
+use Rattle.mlk_machine.specs.declared.event_line.EventLine.{EventLine}
 use Rattle.mlk_machine.specs.EventTexts.{line_text, file_text}
 use Rattle.mlk_machine.specs.EventReading.{line_at}
 use Rattle.mlk_machine.proofs.EventFormats.{line-format}
@@ -17,7 +17,7 @@ use Rattle.mlk_machine.specs.InstructionViews.{asked_by, asked_at}
 
 -- what was read at the front of a file
 record Read (routines : List RoutineTree) (xs ys : List ℕ) (a : Asked) : Type 0 where
-  order : Order
+  order : EventLine
   line : line_at xs ≡ Some (order, ys)
   asks : asked routines order ≡ Some a
 
@@ -32,7 +32,7 @@ asks_by routines (Some b) a ys zs h =
     let e : ◌≡◌ {A = Asked × List ℕ} (b, zs) (a, ys) = ap (found_or (b, zs)) h in
     (ap (λ (r : Asked × List ℕ). Some r.0) e, ap (λ (r : Asked × List ℕ). r.1) e)
 
-read_by : (routines : List RoutineTree) (r : Option (Order × List ℕ)) (xs ys : List ℕ) (a : Asked) → line_at xs ≡ r
+read_by : (routines : List RoutineTree) (r : Option (EventLine × List ℕ)) (xs ys : List ℕ) (a : Asked) → line_at xs ≡ r
     → asked_by routines r ≡ Some (a, ys) → Read routines xs ys a
 read_by routines None xs ys a e h = absurd (cc h)
 read_by routines (Some (o, zs)) xs ys a e h =
@@ -45,12 +45,12 @@ unfolding asked_at
 was_read routines xs ys a h = read_by routines (line_at xs) xs ys a refl h
 
 -- what a line requests, from what was read
-pub asks : (routines : List RoutineTree) (xs rest : List ℕ) (o : Order) (a : Asked) → line_at xs ≡ Some (o, rest)
+pub asks : (routines : List RoutineTree) (xs rest : List ℕ) (o : EventLine) (a : Asked) → line_at xs ≡ Some (o, rest)
     → Some a ≡ asked routines o → asked_at routines xs ≡ Some (a, rest)
 unfolding asked_at
 asks routines xs rest o a h e = ap (asked_by routines) h ∙ ap (option_map {U = Asked × List ℕ} (λ b. (b, rest))) (sym e)
 
-pub asks_nothing : (routines : List RoutineTree) (xs rest : List ℕ) (o : Order) → line_at xs ≡ Some (o, rest)
+pub asks_nothing : (routines : List RoutineTree) (xs rest : List ℕ) (o : EventLine) → line_at xs ≡ Some (o, rest)
     → None ≡ asked routines o → asked_at routines xs ≡ None
 unfolding asked_at
 asks_nothing routines xs rest o h e = ap (asked_by routines) h ∙ ap (option_map {U = Asked × List ℕ} (λ b. (b, rest))) (sym e)
@@ -65,11 +65,11 @@ pub asked-shorter : (routines : List RoutineTree) (xs ys : List ℕ) (a : Asked)
     → length ys < length xs
 asked-shorter routines xs ys a h = let r = was_read routines xs ys a h in line-shorter r.order xs ys r.line
 
-file-more : (os : List Order) (o : Order) → file_text (os ++ o ∷ []) ≡ file_text os ++ line_text o
+file-more : (os : List EventLine) (o : EventLine) → file_text (os ++ o ∷ []) ≡ file_text os ++ line_text o
 file-more [] o = append-nil (line_text o)
 file-more (p ∷ os) o = ap (λ l. line_text p ++ l) (file-more os o) ∙ sym (append_assoc (line_text p) (file_text os) (line_text o))
 
-each-more : (routines : List RoutineTree) (os : List Order) (asks : List Asked) (o : Order) (a : Asked)
+each-more : (routines : List RoutineTree) (os : List EventLine) (asks : List Asked) (o : EventLine) (a : Asked)
     → EachPair (AsksFor routines) os asks → AsksFor routines o a
     → EachPair (AsksFor routines) (os ++ o ∷ []) (asks ++ a ∷ [])
 each-more routines [] [] o a all is = (is, tt)
@@ -79,7 +79,7 @@ each-more routines (p ∷ os) (b ∷ asks) o a all is = (all.0, each-more routin
 
 -- what was read so far
 pub record SoFar (routines : List RoutineTree) (bytes rest : List ℕ) (asks : List Asked) (line : ℕ) : Type 0 where
-  pub orders : List Order
+  pub orders : List EventLine
   pub whole : bytes ≡ file_text orders ++ rest
   pub each : EachPair (AsksFor routines) orders asks
   pub number : line ≡ min (suc (length orders)) 4294967295
@@ -113,7 +113,7 @@ read_all routines bytes rest asks line so e = record {
   each = so.each;
 }
 
-found_there : (routines : List RoutineTree) (o : Order) (a : Asked) (rest later : List ℕ) → AsksFor routines o a
+found_there : (routines : List RoutineTree) (o : EventLine) (a : Asked) (rest later : List ℕ) → AsksFor routines o a
     → rest ≡ line_text o ++ later → asked_at routines rest ≡ Some (a, later)
 unfolding asked_at
 found_there routines o a rest later is e =

@@ -5,9 +5,9 @@ use Rattle.std.specs.Fmt.{decimal}
 use Rattle.mlk_cert_lexemes.specs.Lists.{Each, flat, more}
 use Rattle.mlk_cert_lexemes.specs.Texts.{constant_text}
 use Rattle.mlk_cert_lexemes.specs.Kinds.{HasBytes, IsEntryText}
-use Rattle.mlk_machine.specs.declared.order.Beginning.{Beginning}
-use Rattle.mlk_machine.specs.declared.order.Order.{Order}
-use Rattle.mlk_machine.specs.declared.order.Order.TheVariants.{Begin, Go, GoValue, GoTruth, Run, Abort}
+use Rattle.mlk_machine.specs.declared.event_line.Beginning.{Beginning}
+use Rattle.mlk_machine.specs.declared.event_line.EventLine.{EventLine}
+use Rattle.mlk_machine.specs.declared.event_line.EventLine.TheVariants.{Begin, Go, GoValue, GoTruth, Run, Abort}
 
 -- the number of a job, from 1 to this
 abbrev pub greatest_job : ℕ
@@ -31,20 +31,20 @@ abbrev pub begin_text : Beginning → List ℕ
 begin_text b = decimal b.job ++ 32 ∷ (b.entry ++ 32 ∷ (test_digit b.test ∷ more 32 constant_text b.values))
 
 -- the order of a line
-abbrev pub order_text : Order → List ℕ
-order_text (Begin b) = codes "begin " ++ begin_text b
-order_text (Go job) = codes "go " ++ decimal job
-order_text (GoValue job value) = codes "go " ++ (decimal job ++ 32 ∷ constant_text value)
-order_text (GoTruth job truth) = codes "go " ++ (decimal job ++ 32 ∷ truth_text truth)
-order_text (Run job) = codes "run " ++ decimal job
-order_text (Abort job) = codes "abort " ++ decimal job
+abbrev pub event_line_text : EventLine → List ℕ
+event_line_text (Begin b) = codes "begin " ++ begin_text b
+event_line_text (Go job) = codes "go " ++ decimal job
+event_line_text (GoValue job value) = codes "go " ++ (decimal job ++ 32 ∷ constant_text value)
+event_line_text (GoTruth job truth) = codes "go " ++ (decimal job ++ 32 ∷ truth_text truth)
+event_line_text (Run job) = codes "run " ++ decimal job
+event_line_text (Abort job) = codes "abort " ++ decimal job
 
 -- a line
-abbrev pub line_text : Order → List ℕ
-line_text o = order_text o ++ 10 ∷ []
+abbrev pub line_text : EventLine → List ℕ
+line_text o = event_line_text o ++ 10 ∷ []
 
 -- a file: its lines, one after another
-abbrev pub file_text : List Order → List ℕ
+abbrev pub file_text : List EventLine → List ℕ
 file_text orders = flat line_text orders
 
 -- numbers, entries and values that can be written
@@ -53,10 +53,10 @@ pub record IsBeginning (b : Beginning) : Type 0 where
   pub entry : IsEntryText b.entry
   pub values : Each HasBytes b.values
 
-abbrev pub IsOrder : Order → Type 0
-IsOrder (Begin b) = IsBeginning b
-IsOrder (Go job) = IsJob job
-IsOrder (GoValue job value) = IsJob job × HasBytes value
-IsOrder (GoTruth job truth) = IsJob job
-IsOrder (Run job) = IsJob job
-IsOrder (Abort job) = IsJob job
+abbrev pub IsEventLine : EventLine → Type 0
+IsEventLine (Begin b) = IsBeginning b
+IsEventLine (Go job) = IsJob job
+IsEventLine (GoValue job value) = IsJob job × HasBytes value
+IsEventLine (GoTruth job truth) = IsJob job
+IsEventLine (Run job) = IsJob job
+IsEventLine (Abort job) = IsJob job

@@ -10,9 +10,9 @@ use Rattle.mlk_syntax.specs.Views.{routine_of}
 use Rattle.mlk_program.specs.declared.entry.EntryId.{EntryId}
 use Rattle.mlk_program.specs.Entries.{entry_by}
 use Rattle.mlk_cert_lexemes.specs.Lists.{EachPair}
-use Rattle.mlk_machine.specs.declared.order.Order.{Order}
-use Rattle.mlk_machine.specs.declared.order.Order.TheVariants as order
-use Rattle.mlk_machine.specs.EventTexts.{IsOrder, line_text, file_text}
+use Rattle.mlk_machine.specs.declared.event_line.EventLine.{EventLine}
+use Rattle.mlk_machine.specs.declared.event_line.EventLine.TheVariants as order
+use Rattle.mlk_machine.specs.EventTexts.{IsEventLine, line_text, file_text}
 use Rattle.mlk_machine_jobs.specs.declared.choice.Choice.{Choice}
 use Rattle.mlk_machine_jobs.specs.declared.choice.Choice.TheVariants as choice
 use Rattle.mlk_machine_jobs.specs.Tasks.{Job}
@@ -32,7 +32,7 @@ abbrev pub goes : ℕ → Choice → Option Asked
 goes k c = Some (Happens (record { job = k; act = Go c }))
 
 -- The meaning of an order for these routines: none if a job is to begin at an entry that they don't have.
-abbrev pub asked : List RoutineTree → Order → Option Asked
+abbrev pub asked : List RoutineTree → EventLine → Option Asked
 asked routines (order.Begin b) =
     option_map (λ e. Happens (record { job = b.job; act = Begin e b.test (map Some b.values) })) (entry_by routines b.entry)
 asked routines (order.Go k) = goes k choice.None
@@ -41,25 +41,25 @@ asked routines (order.GoTruth k truth) = goes k (choice.Truth truth)
 asked routines (order.Run k) = Some (GoesOn k)
 asked routines (order.Abort k) = Some (Happens (record { job = k; act = Abort }))
 
-abbrev pub AsksFor : List RoutineTree → Order → Asked → Type 0
-AsksFor routines o a = IsOrder o × (asked routines o ≡ Some a)
+abbrev pub AsksFor : List RoutineTree → EventLine → Asked → Type 0
+AsksFor routines o a = IsEventLine o × (asked routines o ≡ Some a)
 
 -- The meanings of the lines of a file.
 pub record SaysEvents (routines : List RoutineTree) (bytes : List ℕ) (asks : List Asked) : Type 0 where
-  pub orders : List Order
+  pub orders : List EventLine
   pub whole : bytes ≡ file_text orders
   pub each : EachPair (AsksFor routines) orders asks
 
 -- The first line without a meaning: before it are only lines with a meaning, their number is given, and no line with a meaning
 -- begins the rest.
 pub record IsFirstOther (routines : List RoutineTree) (bytes : List ℕ) (line : ℕ) : Type 0 where
-  pub before : List Order
+  pub before : List EventLine
   pub asks : List Asked
   pub rest : List ℕ
   pub whole : bytes ≡ file_text before ++ rest
   pub each : EachPair (AsksFor routines) before asks
   pub more : rest ≢ []
-  pub other : (o : Order) (a : Asked) (later : List ℕ) → AsksFor routines o a → rest ≡ line_text o ++ later → ⊥
+  pub other : (o : EventLine) (a : Asked) (later : List ℕ) → AsksFor routines o a → rest ≡ line_text o ++ later → ⊥
   pub number : line ≡ min (suc (length before)) 4294967295
 
 -- The effect of a line on the jobs.

@@ -2,13 +2,13 @@
 
 ghost use Rattle.std.specs.Prelude.{◌≡◌, map, option_map};
 ghost use Rattle.mlk_syntax.specs.Views.{routine_of};
-ghost use Rattle.mlk_machine.specs.declared.order.Order.TheVariants.{Begin};
+ghost use Rattle.mlk_machine.specs.declared.event_line.EventLine.TheVariants.{Begin};
 ghost use Rattle.mlk_machine.specs.Events.{act_of};
 ghost use Rattle.mlk_machine.specs.Files.{asked, Happens};
 ghost use Rattle.mlk_machine.specs.InstructionViews.{asked_of};
 
 use crate::event::{Act, Event};
-use crate::order::{Beginning, Order};
+use crate::event_line::{Beginning, EventLine};
 use mlk_machine_jobs::Choice;
 use mlk_program::Program;
 
@@ -22,14 +22,14 @@ pub(crate) enum Instruction {
 }
 
 // An event.
-fn happens(job: u32, act: Act) -> Instruction
+fn event_instruction(job: u32, act: Act) -> Instruction
     ensures { asked_of result ≡ Happens (record { job = job; act = act_of act }) }
 {
     Instruction::Happens(Event { job, act })
 }
 
 // The instruction to begin a job, or `None` if the program does not have the entry.
-fn beginning(program: &Program, order: Beginning) -> Option<Instruction>
+fn begin_instruction(program: &Program, order: Beginning) -> Option<Instruction>
     ensures { option_map asked_of result ≡ asked (map routine_of program.now) (Begin order) }
 {
     let Beginning {
@@ -39,19 +39,25 @@ fn beginning(program: &Program, order: Beginning) -> Option<Instruction>
         values,
     } = order;
     let entry = program.entry(entry.as_bytes())?;
-    Some(happens(job, Act::Begin(entry, test, values)))
+    Some(event_instruction(job, Act::Begin(entry, test, values)))
 }
 
 /// The instruction in a line, or `None` if a job is to begin at an entry that the program does not have.
-pub(crate) fn instruction_of(program: &Program, order: Order) -> Option<Instruction>
+pub(crate) fn instruction_of(program: &Program, order: EventLine) -> Option<Instruction>
     ensures { option_map asked_of result ≡ asked (map routine_of program.now) order }
 {
     match order {
-        Order::Begin(order) => beginning(program, order),
-        Order::Go(job) => Some(happens(job, Act::Go(Choice::None))),
-        Order::GoValue(job, value) => Some(happens(job, Act::Go(Choice::Value(value)))),
-        Order::GoTruth(job, truth) => Some(happens(job, Act::Go(Choice::Truth(truth)))),
-        Order::Run(job) => Some(Instruction::GoesOn(job)),
-        Order::Abort(job) => Some(happens(job, Act::Abort)),
+        EventLine::Begin(order) => begin_instruction(program, order),
+        EventLine::Go(job) => Some(event_instruction(job, Act::Go(Choice::None))),
+        EventLine::GoValue(job, value) => Some(event_instruction(
+            job,
+            Act::Go(Choice::Value(value)),
+        )),
+        EventLine::GoTruth(job, truth) => Some(event_instruction(
+            job,
+            Act::Go(Choice::Truth(truth)),
+        )),
+        EventLine::Run(job) => Some(Instruction::GoesOn(job)),
+        EventLine::Abort(job) => Some(event_instruction(job, Act::Abort)),
     }
 }

@@ -5,10 +5,10 @@ ghost use Rattle.mlk_text.specs.Reading.{many};
 ghost use Rattle.mlk_text.specs.Lexemes.{byte_at};
 ghost use Rattle.mlk_text.specs.Failures.{Reads};
 ghost use Rattle.mlk_cert_lexemes.specs.Reading.{constant_at, next};
-ghost use Rattle.mlk_machine.specs.EventReading.{job_at, test_at, head_at, begin_at, chosen_at, go_at, order_at, line_at};
+ghost use Rattle.mlk_machine.specs.EventReading.{job_at, test_at, head_at, begin_at, chosen_at, go_at, event_line_at, line_at};
 
-use crate::order::{Beginning, Order};
-use mlk_cert_lexemes::{constant, counted, entry, word_of};
+use crate::event_line::{Beginning, EventLine};
+use mlk_cert_lexemes::{constant, entry, positive_number, word_of};
 use mlk_text::lexeme::byte_of;
 use mlk_text::{Failure, List, NotThere, Value};
 use std::alloc::Global;
@@ -19,7 +19,7 @@ const GREATEST_JOB: u32 = 4_294_967_295;
 fn job(bytes: &[u8]) -> Option<(u32, &[u8])>
     ensures { option_map (λ x. (x.0, x.1.now)) result ≡ job_at bytes.now }
 {
-    counted(GREATEST_JOB, bytes)
+    positive_number(GREATEST_JOB, bytes)
 }
 
 // Reads `$TEST`: its value, and the rest; otherwise `None`.
@@ -73,7 +73,7 @@ fn begin_head(alloc: Global, bytes: &[u8]) -> Result<(u32, Value, bool, &[u8]), 
 
 // Reads the rest of a `begin` line after its word.
 #[tactic(auto, unfolding(crate::specs::EventReading::begin_at))]
-fn begin(alloc: Global, bytes: &[u8]) -> Result<(Order, &[u8]), Failure<NotThere>>
+fn begin(alloc: Global, bytes: &[u8]) -> Result<(EventLine, &[u8]), Failure<NotThere>>
     ensures { Reads (λ x. (x.0, x.1.now)) result (begin_at bytes.now) }
 {
     let (job, entry, test, rest) = begin_head(alloc, bytes)?;
@@ -84,66 +84,70 @@ fn begin(alloc: Global, bytes: &[u8]) -> Result<(Order, &[u8]), Failure<NotThere
         test,
         values: List::of(values),
     };
-    Ok((Order::Begin(beginning), rest))
+    Ok((EventLine::Begin(beginning), rest))
 }
 
 // Reads the choice of a step, after its space.
 #[tactic(auto, unfolding(crate::specs::EventReading::chosen_at))]
-fn chosen(alloc: Global, job: u32, bytes: &[u8]) -> Result<(Order, &[u8]), Failure<NotThere>>
+fn step_choice(
+    alloc: Global,
+    job: u32,
+    bytes: &[u8],
+) -> Result<(EventLine, &[u8]), Failure<NotThere>>
     ensures { Reads (λ x. (x.0, x.1.now)) result (chosen_at job bytes.now) }
 {
     if let Some(rest) = word_of(b"yes", bytes) {
-        return Ok((Order::GoTruth(job, true), rest));
+        return Ok((EventLine::GoTruth(job, true), rest));
     }
     if let Some(rest) = word_of(b"no", bytes) {
-        return Ok((Order::GoTruth(job, false), rest));
+        return Ok((EventLine::GoTruth(job, false), rest));
     }
     let (value, rest) = constant(alloc, bytes)?;
-    Ok((Order::GoValue(job, value), rest))
+    Ok((EventLine::GoValue(job, value), rest))
 }
 
 // Reads the rest of a `go` line after its word.
 #[tactic(auto, unfolding(crate::specs::EventReading::go_at))]
-fn go(alloc: Global, bytes: &[u8]) -> Result<(Order, &[u8]), Failure<NotThere>>
+fn read_step(alloc: Global, bytes: &[u8]) -> Result<(EventLine, &[u8]), Failure<NotThere>>
     ensures { Reads (λ x. (x.0, x.1.now)) result (go_at bytes.now) }
 {
     let Some((job, rest)) = job(bytes) else {
         return Err(Failure::Refused(NotThere));
     };
     match byte_of(b' ', rest) {
-        Some(rest) => chosen(alloc, job, rest),
-        None => Ok((Order::Go(job), rest)),
+        Some(rest) => step_choice(alloc, job, rest),
+        None => Ok((EventLine::Go(job), rest)),
     }
 }
 
-// Reads the order of a line, without the line's end.
-#[tactic(auto, unfolding(crate::specs::EventReading::order_at))]
-fn order(alloc: Global, bytes: &[u8]) -> Result<(Order, &[u8]), Failure<NotThere>>
-    ensures { Reads (λ x. (x.0, x.1.now)) result (order_at bytes.now) }
+// Reads the event of a line, without the line's end.
+#[tactic(auto, unfolding(crate::specs::EventReading::event_line_at))]
+fn event_line(alloc: Global, bytes: &[u8]) -> Result<(EventLine, &[u8]), Failure<NotThere>>
+    ensures { Reads (λ x. (x.0, x.1.now)) result (event_line_at bytes.now) }
 {
     if let Some(rest) = word_of(b"begin ", bytes) {
         return begin(alloc, rest);
     }
     if let Some(rest) = word_of(b"go ", bytes) {
-        return go(alloc, rest);
+        return read_step(alloc, rest);
     }
     if let Some(rest) = word_of(b"run ", bytes) {
         let (job, rest) = job(rest).ok_or(Failure::Refused(NotThere))?;
-        return Ok((Order::Run(job), rest));
+        return Ok((EventLine::Run(job), rest));
     }
     if let Some(rest) = word_of(b"abort ", bytes) {
         let (job, rest) = job(rest).ok_or(Failure::Refused(NotThere))?;
-        return Ok((Order::Abort(job), rest));
+        return Ok((EventLine::Abort(job), rest));
     }
     Err(Failure::Refused(NotThere))
 }
 
-/// Reads the line at the front of a file: its order, and the rest after the line's end. `NotThere` if it is not an event.
+/// Reads the line at the front of a file: its event, and the rest after the line's end. `NotThere` if it is not an event.
 #[tactic(auto, unfolding(crate::specs::EventReading::line_at))]
-pub fn read_line(alloc: Global, bytes: &[u8]) -> Result<(Order, &[u8]), Failure<NotThere>>
+pub fn read_line(alloc: Global, bytes: &[u8]) -> Result<(EventLine, &[u8]), Failure<NotThere>>
     ensures { Reads (λ x. (x.0, x.1.now)) result (line_at bytes.now) }
 {
-    let (order, rest) = order(alloc, bytes)?;
+    let (order, rest) = event_line(alloc, bytes)?;
     let Some(rest) = byte_of(b'\n', rest) else {
         return Err(Failure::Refused(NotThere));
     };

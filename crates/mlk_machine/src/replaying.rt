@@ -23,7 +23,11 @@ pub struct Refused {
 }
 
 // Applies the event at an index to a system.
-fn happen<'a>(system: &mut System<'a>, event: &Event, index: usize) -> Result<(), Failure<Refused>>
+fn apply_event<'a>(
+    system: &mut System<'a>,
+    event: &Event,
+    index: usize,
+) -> Result<(), Failure<Refused>>
     ensures ok { OnOk result (happens (machine_of system.old) (jobs_in system.old) event.now.job (act_of event.now.act)
         ≡ Ok (jobs_in system.new)) }
     ensures same { IsSame system.old system.new }
@@ -49,7 +53,7 @@ pub fn replay<'a>(
     let mut system = System::start(alloc, program, entries);
     let mut index = 0;
     while index < events.len() {
-        match happen(&mut system, &events[index], index) {
+        match apply_event(&mut system, &events[index], index) {
             Ok(()) => index += 1,
             Err(why) => return Err(why),
         }

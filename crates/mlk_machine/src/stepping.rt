@@ -17,7 +17,7 @@ use crate::number::place_in;
 use indexmap::IndexSet;
 use mlk_machine_jobs::{Choice, Job};
 use mlk_machine_locks::{LockTable, Refusal};
-use mlk_machine_run::{abort, go};
+use mlk_machine_run::{abort, step_job};
 use mlk_program::Program;
 use mlk_text::Failure;
 use std::alloc::Global;
@@ -43,7 +43,7 @@ pub(crate) fn go_numbered<'a>(
     ensures covers { Covers seen_in table.new jobs.new.items }
 {
     let place = place_in(numbers, number);
-    go(alloc, program, table, jobs, place, number, choice)
+    step_job(alloc, program, table, jobs, place, number, choice)
 }
 
 /// Aborts the job `number`.

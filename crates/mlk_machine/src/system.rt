@@ -117,7 +117,7 @@ impl<'a> System<'a> {
     }
 
     // Makes a step of a job.
-    fn go(&mut self, number: u32, choice: &Choice) -> Result<(), Failure<Refusal>>
+    fn step_job(&mut self, number: u32, choice: &Choice) -> Result<(), Failure<Refusal>>
         ensures answer { Answers (λ _. jobs_in self.new) result
             (happens (machine_of self.old) (jobs_in self.old) number (Go choice.now)) }
         ensures same { IsSame self.old self.new }
@@ -156,7 +156,7 @@ impl<'a> System<'a> {
             Act::Begin(entry, test, values) => {
                 self.begin(event.job, *entry, *test, values.as_slice())
             }
-            Act::Go(choice) => self.go(event.job, choice),
+            Act::Go(choice) => self.step_job(event.job, choice),
             Act::Abort => self.abort(event.job),
         }
     }
@@ -200,11 +200,11 @@ impl<'a> System<'a> {
     }
 
     /// The reference that the job `number` is ready to touch, or `None`. Allocates nothing.
-    pub fn ready(&self, number: u32) -> Option<&Touch>
+    pub fn ready_touch(&self, number: u32) -> Option<&Touch>
         ensures { option_map (λ t. touch_of t.now) result
             ≡ option_and_then ready (job_numbered number (jobs_in self.now)) }
     {
-        self.job(number)?.ready()
+        self.job(number)?.ready_touch()
     }
 
     /// Whether the job `number` waits for the job `other`. Allocates nothing.
@@ -218,7 +218,7 @@ impl<'a> System<'a> {
     }
 
     /// How often the job `number` holds `name`; 0 if there is no such job. Allocates nothing.
-    pub fn holds(&self, number: u32, name: &LockName) -> u32
+    pub fn hold_count(&self, number: u32, name: &LockName) -> u32
         ensures { result ≡ count_held name.now (job_numbered number (jobs_in self.now)) }
     {
         match self.job(number) {
@@ -228,7 +228,7 @@ impl<'a> System<'a> {
     }
 
     /// The names that the job `number` holds, each with its count; `None` if there is no such job. Allocates nothing.
-    pub fn held(&self, number: u32) -> Option<&[(LockName, u32)]>
+    pub fn held_names(&self, number: u32) -> Option<&[(LockName, u32)]>
         ensures { option_map (λ h. h.now) result ≡ option_map (λ j. j.held) (job_numbered number (jobs_in self.now)) }
     {
         Some(self.job(number)?.held.entries())

@@ -60,7 +60,7 @@ pub fn same_cell(first: Cell, second: Cell) -> bool
 }
 
 // The cell to which `binder` binds `name`, or `None` if it does not bind it.
-fn bound<'a>(binder: Binder<'a>, name: &'a [u8]) -> Option<Cell<'a>>
+fn bound_cell<'a>(binder: Binder<'a>, name: &'a [u8]) -> Option<Cell<'a>>
     ensures { option_map cell_of result ≡ bound_by (binder_of binder.entry) name.now }
 {
     match binder {
@@ -82,13 +82,13 @@ fn bound<'a>(binder: Binder<'a>, name: &'a [u8]) -> Option<Cell<'a>>
 }
 
 /// The cell to which `name` is bound: by the last binder that binds it.
-pub fn look<'a>(binders: &[Binder<'a>], name: &'a [u8]) -> Cell<'a>
+pub fn look_up<'a>(binders: &[Binder<'a>], name: &'a [u8]) -> Cell<'a>
     ensures { cell_of result ≡ look (bindings_of binders.now) name.now }
 {
     let mut count = binders.len();
     while count > 0 {
         count -= 1;
-        if let Some(cell) = bound(binders[count], name) {
+        if let Some(cell) = bound_cell(binders[count], name) {
             return cell;
         }
     }

@@ -10,7 +10,7 @@ ghost use Rattle.mlk_machine_jobs.specs.TaskViews.{task_of};
 ghost use Rattle.mlk_machine_jobs.specs.Views.{names_of};
 ghost use Rattle.mlk_machine_jobs.specs.JobViews.{job_of, cleared, killing, releasing, holding_nothing, KeepsPending};
 
-use crate::binding::{Names, look};
+use crate::binding::{Names, look_up};
 use crate::cell::{clear, leave_out, store, value_of};
 use crate::job::Job;
 use crate::kill::{cells_of_formals, cells_spared};
@@ -65,7 +65,7 @@ impl<'a> Job<'a> {
         ensures room { OnErr result (KeepsPending self.old self.new) }
         ensures sound { Sound self.old → Sound self.new }
     {
-        let cell = look(self.binders.as_slice(), name);
+        let cell = look_up(self.binders.as_slice(), name);
         store(&mut self.tables, cell, value)
     }
 
@@ -75,7 +75,7 @@ impl<'a> Job<'a> {
         ensures changed { job_of self.new ≡ cleared name.now (job_of self.old) }
         ensures sound { Sound self.old → Sound self.new }
     {
-        let cell = look(self.binders.as_slice(), name);
+        let cell = look_up(self.binders.as_slice(), name);
         clear(&mut self.tables, cell);
     }
 
@@ -110,7 +110,10 @@ impl<'a> Job<'a> {
     pub fn value_of(&self, name: &[u8]) -> Option<&Value>
         ensures { option_copied result ≡ (job_of self.now).cells (look (job_of self.now).bindings name.now) }
     {
-        value_of(self.tables.as_slice(), look(self.binders.as_slice(), name))
+        value_of(
+            self.tables.as_slice(),
+            look_up(self.binders.as_slice(), name),
+        )
     }
 
     /// Releases each of `names` once, if it is held. Allocates nothing.

@@ -49,7 +49,7 @@ impl<'a> Seen for Job<'a> {
         &self.held
     }
 
-    fn awaited(&self) -> &[LockName] {
+    fn awaited_names(&self) -> &[LockName] {
         match self.pending.last() {
             Some(Pending::Task(Task::Lock(LockTask::Claim(names, false)))) => names.as_slice(),
             _ => &[],
@@ -59,7 +59,7 @@ impl<'a> Seen for Job<'a> {
 
 impl<'a> Job<'a> {
     /// The reference at which the job stands ready, that is, if touching it is its next task. Allocates nothing.
-    pub fn ready(&self) -> Option<&Touch>
+    pub fn ready_touch(&self) -> Option<&Touch>
         ensures { option_map (λ t. touch_of t.now) result ≡ ready (job_of self.now) }
     {
         match self.pending.last() {

@@ -6,7 +6,7 @@ ghost use Rattle.mlk_machine_jobs.specs.Bindings.{same_cell, look};
 ghost use Rattle.mlk_machine_jobs.specs.Killing.{is_in, is_own, is_taken, cell_of_formal, cells_of_formals, cells_spared};
 ghost use Rattle.mlk_machine_jobs.specs.Views.{names_of, cell_of, binder_of, bindings_of};
 
-use crate::binding::{Binder, Cell, Names, covers, look, same_cell};
+use crate::binding::{Binder, Cell, Names, covers, look_up, same_cell};
 use mlk_text::Name;
 use std::alloc::{AllocError, Global};
 
@@ -28,7 +28,7 @@ fn is_in(cells: &[Cell], cell: Cell) -> bool
 fn is_own(binders: &[Binder], names: Names, cell: Cell) -> bool
     ensures { result ≡ is_own (bindings_of binders.now) (names_of names.entry) (cell_of cell.entry) }
 {
-    covers(names, cell.name) && same_cell(look(binders, cell.name), cell)
+    covers(names, cell.name) && same_cell(look_up(binders, cell.name), cell)
 }
 
 /// Whether KILL takes `cell`: one of its names is bound to it, and none that it spares.
@@ -54,7 +54,7 @@ fn cell_of_formal<'a>(binders: &[Binder<'a>], names: Names, binder: Binder<'a>) 
         Binder::Fresh(_, _) => None,
         Binder::ByReference(formal, _) => {
             if covers(names, formal.as_bytes()) {
-                Some(look(binders, formal.as_bytes()))
+                Some(look_up(binders, formal.as_bytes()))
             } else {
                 None
             }
@@ -95,7 +95,7 @@ fn cells_of_names<'a>(
     let mut found = Vec::new(alloc);
     let mut left = names;
     while let Some((name, others)) = left.split_first() {
-        let Ok(()) = found.push(look(binders, name.as_bytes())) else {
+        let Ok(()) = found.push(look_up(binders, name.as_bytes())) else {
             return Err(AllocError);
         };
         left = others;

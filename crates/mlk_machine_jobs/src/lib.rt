@@ -16,7 +16,7 @@ mod task;
 mod touch;
 
 pub use asking::{asked_truth, asked_value, not_asked};
-pub use binding::{Binder, Cell, Names, look};
+pub use binding::{Binder, Cell, Names, look_up};
 pub use cell::{CellTable, add_generation, forget};
 pub use choice::Choice;
 pub use job::Job;

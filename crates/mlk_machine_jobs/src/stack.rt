@@ -80,7 +80,7 @@ impl Stack {
 
     /// The `count` values below the top `skipped` ones, oldest first.
     #[tactic(auto, using(crate::proofs::StackLemmas::kept_are))]
-    pub fn before(&self, skipped: usize, count: usize) -> &[Value]
+    pub fn values_below(&self, skipped: usize, count: usize) -> &[Value]
         ensures { result.now ≡ reverse (take count (drop skipped self.now)) }
     {
         let (kept, _) = self
@@ -91,7 +91,7 @@ impl Stack {
 
     /// The value at `depth` below the top, or `None`.
     #[tactic(auto, using(crate::proofs::StackLemmas::at_depth, crate::proofs::StackLemmas::none_below))]
-    pub fn at(&self, depth: usize) -> Option<&Value>
+    pub fn value_at(&self, depth: usize) -> Option<&Value>
         ensures { option_map (λ value. value.now) result ≡ slice_get self.now depth }
     {
         let count = self.values.len();

@@ -195,7 +195,7 @@ impl Held {
     }
 
     /// The locks that are held once `names` are claimed, each once more, or `None` if a count would exceed the maximum.
-    pub fn claimed(&self, alloc: Global, names: &[LockName]) -> Result<Option<Held>, AllocError>
+    pub fn with_claims(&self, alloc: Global, names: &[LockName]) -> Result<Option<Held>, AllocError>
         ensures { IfOk result (λ h. h ≡ claimed names.now self.now) }
     {
         let mut entries = Vec::from_clones(alloc, self.entries.as_slice())?;

@@ -74,7 +74,7 @@ impl Holders {
     }
 
     // The job at `index`, or `None`.
-    fn at(&self, index: usize) -> Option<usize>
+    fn job_at(&self, index: usize) -> Option<usize>
         ensures place { result ≡ slice_get self.now.places.keys index }
         ensures small { IfSome result (λ p. index < 2 ^ 63) }
     {
@@ -110,7 +110,7 @@ impl Holders {
             → (is_one self.new i ≡ true) ⊎ IsStale J.seen jobs.now key i }
     {
         let mut index = 0;
-        while let Some(place) = self.at(index) {
+        while let Some(place) = self.job_at(index) {
             match ask(jobs, place, key, number, name) {
                 Said::Keeps => return true,
                 Said::Stale => self.remove_at(index),

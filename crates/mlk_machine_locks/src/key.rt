@@ -41,7 +41,7 @@ pub(crate) fn root_key(root: &Root) -> u64
 
 /// The key of the names below a name, with the next subscript `subscript`. Allocates nothing.
 #[tactic(auto, unfolding(crate::specs::Keys::deeper))]
-pub(crate) fn deeper(key: u64, subscript: &Value) -> u64
+pub(crate) fn key_below(key: u64, subscript: &Value) -> u64
     ensures { result ≡ deeper key subscript.now }
 {
     mix(mix_one(key, 256), subscript.as_bytes())
@@ -49,7 +49,7 @@ pub(crate) fn deeper(key: u64, subscript: &Value) -> u64
 
 /// The key of a name alone, without those below it. Allocates nothing.
 #[tactic(auto, unfolding(crate::specs::Keys::itself))]
-pub(crate) fn itself(key: u64) -> u64
+pub(crate) fn own_key(key: u64) -> u64
     ensures { result ≡ itself key }
 {
     mix_one(key, 257)
@@ -65,10 +65,10 @@ fn is_key_of(name: &LockName, key: u64) -> bool
         if key == current {
             return true;
         }
-        current = deeper(current, subscript);
+        current = key_below(current, subscript);
         left = others;
     }
-    key == current || key == itself(current)
+    key == current || key == own_key(current)
 }
 
 /// Whether a job that holds `entries` is listed under `key` because of one of them. Allocates nothing.

@@ -92,12 +92,12 @@ fn stop_at<J: Seen>(jobs: &[J], table: &LockTable, place: usize) -> Result<Stop,
     ensures stop { IfOk result (λ s. IsStop (waits_as J.seen) jobs.now s) }
     ensures place { IfOk result (λ s. s.place ≡ place) }
 {
-    let left = table.against(jobs[place].awaited())?;
+    let left = table.possible_holders(jobs[place].awaited_names())?;
     Ok(Stop { place, left })
 }
 
 // Visits a job: puts it on the path.
-fn meet(marks: &mut Vec<Mark>, path: &mut Vec<Stop>, stop: Stop) -> Result<(), AllocError>
+fn visit_job(marks: &mut Vec<Mark>, path: &mut Vec<Stop>, stop: Stop) -> Result<(), AllocError>
     requires { stop.place < length marks.old.items }
     ensures path { OnOk result (path.new.items ≡ path.old.items ++ stop ∷ []) }
     ensures marks { OnOk result (marks.new.items ≡ set marks.old.items stop.place OnPath) }
@@ -139,7 +139,7 @@ fn go_on<J: Seen>(
             }
             let last = stop_at(jobs, table, next)?;
             path.push(Stop { place, left })?;
-            meet(marks, path, last)?;
+            visit_job(marks, path, last)?;
             Ok(false)
         }
     }
@@ -166,7 +166,7 @@ fn search<J: Seen>(
     }
     let mut path = Vec::new(alloc);
     let first = stop_at(jobs, table, start)?;
-    meet(marks, &mut path, first)?;
+    visit_job(marks, &mut path, first)?;
     while let Some(stop) = path.pop() {
         if go_on(jobs, table, marks, &mut path, stop)? {
             return Ok(true);
@@ -181,7 +181,7 @@ fn list_waiting<J: Seen>(table: &mut LockTable, place: usize, job: &J) -> Result
         ⊎ ((n : LockName) → Holds (J.seen job.now) n → IsFound table.new place n)) }
     ensures kept { ListsAll table.old table.new }
 {
-    if job.awaited().is_empty() {
+    if job.awaited_names().is_empty() {
         return Ok(());
     }
     table.list_held(place, job.held().entries())

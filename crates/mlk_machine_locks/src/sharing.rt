@@ -23,7 +23,7 @@ pub trait Seen {
         ensures { result.now ≡ (seen self.now).held };
 
     /// The names for which the job may have to wait.
-    fn awaited(&self) -> &[LockName]
+    fn awaited_names(&self) -> &[LockName]
         ensures { result.now ≡ awaited (seen self.now).next };
 }
 
@@ -45,7 +45,7 @@ fn some_excluded(held: &Held, names: &[LockName]) -> bool
 pub fn waits_for<J: Seen>(job: &J, other: &J) -> bool
     ensures { result ≡ waits (J.seen job.now) (J.seen other.now) }
 {
-    job.number() != other.number() && some_excluded(other.held(), job.awaited())
+    job.number() != other.number() && some_excluded(other.held(), job.awaited_names())
 }
 
 /// Whether `job` has another number than `number` and keeps `name` from others.

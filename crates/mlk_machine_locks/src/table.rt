@@ -10,7 +10,7 @@ ghost use Rattle.mlk_machine_locks.specs.Waiting.{is_free_among};
 ghost use Rattle.mlk_machine_locks.specs.Tables.{IsListed, IsFound, ListsAll, Covers, IsFreeUnder, AreAgainst, keeps};
 
 use crate::holders::Holders;
-use crate::key::{deeper, itself, root_key};
+use crate::key::{key_below, own_key, root_key};
 use crate::sharing::Seen;
 use indexmap::IndexMap;
 use mlk_names::LockName;
@@ -60,11 +60,11 @@ impl LockTable {
         let mut left = name.subs.as_slice();
         while let Some((subscript, others)) = left.split_first() {
             self.add(key, place)?;
-            key = deeper(key, subscript);
+            key = key_below(key, subscript);
             left = others;
         }
         self.add(key, place)?;
-        self.add(itself(key), place)
+        self.add(own_key(key), place)
     }
 
     /// Records that the job at `place` may hold each of `names`.
@@ -120,13 +120,13 @@ impl LockTable {
         let mut key = root_key(&name.root);
         let mut left = name.subs.as_slice();
         while let Some((subscript, others)) = left.split_first() {
-            if self.some_keeps(itself(key), jobs, number, name) {
+            if self.some_keeps(own_key(key), jobs, number, name) {
                 return false;
             }
-            key = deeper(key, subscript);
+            key = key_below(key, subscript);
             left = others;
         }
-        if self.some_keeps(itself(key), jobs, number, name) {
+        if self.some_keeps(own_key(key), jobs, number, name) {
             return false;
         }
         !self.some_keeps(key, jobs, number, name)
@@ -168,16 +168,16 @@ impl LockTable {
         let mut key = root_key(&name.root);
         let mut left = name.subs.as_slice();
         while let Some((subscript, others)) = left.split_first() {
-            self.add_listed(found, itself(key))?;
-            key = deeper(key, subscript);
+            self.add_listed(found, own_key(key))?;
+            key = key_below(key, subscript);
             left = others;
         }
-        self.add_listed(found, itself(key))?;
+        self.add_listed(found, own_key(key))?;
         self.add_listed(found, key)
     }
 
     /// The indexes of all jobs that may hold a name which conflicts with one of `names`.
-    pub(crate) fn against(&self, names: &[LockName]) -> Result<Vec<usize>, AllocError>
+    pub(crate) fn possible_holders(&self, names: &[LockName]) -> Result<Vec<usize>, AllocError>
         ensures { IfOk result (λ found. AreAgainst self.now names.now found.items) }
     {
         let mut found = Vec::new(self.alloc);

@@ -20,7 +20,7 @@ use mlk_text::{Failure, Value};
 use std::alloc::{AllocError, Global};
 
 // A job before its first frame.
-fn blank<'a>(alloc: Global, number: u32, test: bool) -> Result<Job<'a>, AllocError>
+fn new_job<'a>(alloc: Global, number: u32, test: bool) -> Result<Job<'a>, AllocError>
     ensures job { IfOk result (λ j. job_of j ≡ blank number test []) }
     ensures tables { IfOk result (λ j. length j.tables.items ≡ 1) }
     ensures binders { IfOk result (λ j. j.binders.items ≡ []) }
@@ -113,7 +113,7 @@ pub fn begin<'a>(
     let Some((line, later)) = lines.split_first() else {
         return Err(Failure::Refused(Refusal::NotEnabled));
     };
-    let mut job = blank(alloc, number, test)?;
+    let mut job = new_job(alloc, number, test)?;
     let begin = Begin {
         frame: Frame::NoValue,
         routine: entry.routine(),

@@ -13,7 +13,7 @@ ghost use Rattle.mlk_machine_jobs.specs.Sound.{Sound};
 ghost use Rattle.mlk_machine_jobs.specs.TaskViews.{is_extrinsic};
 ghost use Rattle.mlk_machine_run.specs.Frames.{owed};
 
-use crate::formals::{binders, count_given, fill};
+use crate::formals::{binders, count_given, fill_formals};
 use crate::frame::{Begin, begin_frame};
 use mlk_machine_jobs::{Calling, CellTable, Choice, Frame, Job, asked_truth};
 use mlk_machine_locks::Refusal;
@@ -83,11 +83,11 @@ fn bind<'a>(
         given,
     )?;
     let mut table = CellTable::new(alloc);
-    fill(
+    fill_formals(
         &mut table,
         formals,
         given,
-        job.values.before(skipped, count),
+        job.values.values_below(skipped, count),
     )?;
     begin_frame(job, begin, found, table)?;
     job.use_up(skipped);
@@ -239,7 +239,7 @@ pub(crate) fn call_if<'a>(
     ensures room { OnErr result (KeepsPending job.old job.new) }
     ensures sound { Sound job.new }
 {
-    let Some(value) = job.values.at(0) else {
+    let Some(value) = job.values.value_at(0) else {
         return Err(Failure::Refused(Refusal::NotEnabled));
     };
     match known_truth(value) {

@@ -19,10 +19,11 @@ use mlk_machine_jobs::{
 use mlk_machine_locks::Refusal;
 use mlk_machine_steps::{
     apply_binary, apply_unary, ask_test, ask_value, assign, begin_block, choose, claim,
-    conditionally, drop_values, evaluate, fetch, form_reference, halt, kill, make_new, merge,
-    name_locks, nothing_asked, push_copy, push_job, push_test, quit_here, quit_with_value, release,
-    release_all, run_commands, run_first_round, run_forever, run_later_round, run_lines,
-    run_next_value, run_parameters, select, set_test, skip_if, store, store_any, store_last, touch,
+    drop_values, evaluate, fetch, form_reference, halt, kill, make_new, merge, name_locks,
+    nothing_asked, push_copy, push_job, push_test, quit_here, quit_with_value, release,
+    release_all, run_commands, run_first_round, run_forever, run_if_true, run_later_round,
+    run_lines, run_next_value, run_parameters, select, set_test, skip_if, store, store_any,
+    store_last, touch,
 };
 use mlk_program::Program;
 use mlk_text::Failure;
@@ -102,7 +103,7 @@ pub(crate) fn test_step<'a>(
         TestTask::SetTest => set_test(job, choice),
         TestTask::AskTest => ask_test(job, choice),
         TestTask::SkipIf(test) => skip_if(job, choice, *test),
-        TestTask::Conditionally(action, block) => conditionally(alloc, job, choice, action, block),
+        TestTask::Conditionally(action, block) => run_if_true(alloc, job, choice, action, block),
     }
 }
 

@@ -6,7 +6,7 @@ ghost use Rattle.mlk_machine_jobs.specs.Calling.{next_actual, later_actuals, bin
 ghost use Rattle.mlk_machine_jobs.specs.Views.{binder_of, bindings_of, in_table};
 ghost use Rattle.mlk_machine_run.specs.Frames.{is_given, filled, filled_first};
 
-use mlk_machine_jobs::{Binder, CellTable, Names, look};
+use mlk_machine_jobs::{Binder, CellTable, Names, look_up};
 use mlk_syntax::Actual;
 use mlk_text::{Name, Value};
 use std::alloc::{AllocError, Global};
@@ -25,13 +25,13 @@ fn binder<'a>(
         return Binder::Fresh(generation, Names::Only(formal));
     };
     match actual {
-        Actual::ByRef(_, name) => Binder::ByReference(formal, look(caller, name.as_bytes())),
+        Actual::ByRef(_, name) => Binder::ByReference(formal, look_up(caller, name.as_bytes())),
         Actual::Value(_) | Actual::Missing => Binder::Fresh(generation, Names::Only(formal)),
     }
 }
 
 // The actuals after the first.
-fn later(given: &[Actual]) -> &[Actual]
+fn later_actuals(given: &[Actual]) -> &[Actual]
     ensures { actual_trees result.now ≡ later_actuals (actual_trees given.now) }
 {
     match given.split_first() {
@@ -58,7 +58,7 @@ pub(crate) fn binders<'a>(
         let Ok(()) = found.push(binder(caller, generation, formal, actuals)) else {
             return Err(AllocError);
         };
-        actuals = later(actuals);
+        actuals = later_actuals(actuals);
         left = others;
     }
     Ok(found)
@@ -90,7 +90,7 @@ pub(crate) fn count_given(given: &[Actual]) -> usize
 }
 
 /// Sets the values of the formals that are passed by value.
-pub(crate) fn fill<'a>(
+pub(crate) fn fill_formals<'a>(
     table: &mut CellTable<'a>,
     formals: &'a [Name],
     given: &[Actual],

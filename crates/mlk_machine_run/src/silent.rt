@@ -17,7 +17,7 @@ use mlk_text::Failure;
 use std::alloc::{AllocError, Global};
 
 // Whether a task touches a reference, or claims or releases locks.
-fn shows(task: &Task) -> bool
+fn is_shown_task(task: &Task) -> bool
     ensures { result ≡ is_shown (task_of task.now ∷ []) }
 {
     matches!(
@@ -32,7 +32,7 @@ fn is_shown(job: &Job) -> bool
     ensures { result ≡ is_shown (job_of job.now).tasks }
 {
     match job.pending.last() {
-        Some(Pending::Task(task)) => shows(task),
+        Some(Pending::Task(task)) => is_shown_task(task),
         Some(Pending::EndBlock(_, _)) | Some(Pending::EndFrame(_, _, _)) => false,
         None => true,
     }

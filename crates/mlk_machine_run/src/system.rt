@@ -23,7 +23,7 @@ use std::alloc::Global;
 
 /// Makes one step of the job `number`, which is at `place`, if there is one, with the choice `choice`. The table finds the jobs
 /// that hold conflicting names. If memory runs out, or the step is refused, all jobs are unchanged.
-pub fn go<'a>(
+pub fn step_job<'a>(
     alloc: Global,
     program: &Program<'a>,
     table: &mut LockTable,

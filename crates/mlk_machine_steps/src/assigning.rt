@@ -72,7 +72,7 @@ pub fn assign<'a>(
     ensures room { OnErr result (KeepsPending job.old job.new) }
     ensures sound { Sound job.old → Sound job.new }
 {
-    let Some(value) = job.values.at(0) else {
+    let Some(value) = job.values.value_at(0) else {
         return Err(Failure::Refused(Refusal::NotEnabled));
     };
     nothing_asked(choice)?;

@@ -143,7 +143,7 @@ pub fn apply_unary(
     ensures room { OnErr result (KeepsPending job.old job.new) }
     ensures sound { Sound job.old → Sound job.new }
 {
-    let Some(operand) = job.values.at(0) else {
+    let Some(operand) = job.values.value_at(0) else {
         return Err(Failure::Refused(Refusal::NotEnabled));
     };
     let known = fold_unary(alloc, op, operand)?;
@@ -165,10 +165,10 @@ pub fn apply_binary(
     ensures room { OnErr result (KeepsPending job.old job.new) }
     ensures sound { Sound job.old → Sound job.new }
 {
-    let Some(second) = job.values.at(0) else {
+    let Some(second) = job.values.value_at(0) else {
         return Err(Failure::Refused(Refusal::NotEnabled));
     };
-    let Some(first) = job.values.at(1) else {
+    let Some(first) = job.values.value_at(1) else {
         return Err(Failure::Refused(Refusal::NotEnabled));
     };
     let known = fold(alloc, op, first, second)?;

@@ -66,7 +66,7 @@ pub fn store_last<'a>(
     ensures room { OnErr result (KeepsPending job.old job.new) }
     ensures sound { Sound job.new }
 {
-    let Some(value) = job.values.at(0) else {
+    let Some(value) = job.values.value_at(0) else {
         return Err(Failure::Refused(Refusal::NotEnabled));
     };
     nothing_asked(choice)?;

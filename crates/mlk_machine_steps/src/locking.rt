@@ -59,7 +59,7 @@ fn held_with(
     if !are_free {
         return Err(Failure::Refused(Refusal::NotEnabled));
     }
-    match held.claimed(alloc, names)? {
+    match held.with_claims(alloc, names)? {
         Some(more) => Ok(more),
         None => Err(Failure::Refused(Refusal::NotEnabled)),
     }

@@ -57,7 +57,7 @@ pub fn halt(job: &mut Job, choice: &Choice) -> Result<(), Failure<Refusal>>
 }
 
 // Restores everything to the begin of a frame, the routine too.
-fn leave(job: &mut Job, back: Back, routine: usize)
+fn leave_frame(job: &mut Job, back: Back, routine: usize)
     requires { IsBack back job.old }
     ensures job { job_of job.new ≡ left_to (bindings_of (take back.binders job.old.binders.items)) back.next routine (job_of job.old) }
     ensures sound { Sound job.new }
@@ -85,19 +85,19 @@ pub fn end_frame(
     match frame {
         Frame::NoValue => {
             nothing_asked(&choice)?;
-            leave(job, back, routine);
+            leave_frame(job, back, routine);
             Ok(())
         }
         Frame::AwaitsValue(test) => {
             let value = or_refused(asked_value(choice))?;
             job.values.push(value)?;
-            leave(job, back, routine);
+            leave_frame(job, back, routine);
             job.set_test(test);
             Ok(())
         }
         Frame::HasValue(test) => {
             nothing_asked(&choice)?;
-            leave(job, back, routine);
+            leave_frame(job, back, routine);
             job.set_test(test);
             Ok(())
         }

@@ -10,7 +10,7 @@ ghost use Rattle.mlk_machine_jobs.specs.Sound.{Sound};
 use crate::ask::{nothing_asked, or_refused};
 use mlk_machine_jobs::{Choice, Job, Task, ValueTask, asked_value};
 use mlk_machine_locks::Refusal;
-use mlk_machine_tasks::{add, concrete};
+use mlk_machine_tasks::{add, global_touch};
 use mlk_names::{Access, Extent};
 use mlk_text::{Failure, Name};
 use std::alloc::Global;
@@ -33,7 +33,7 @@ pub fn form_reference<'a>(
     ensures sound { Sound job.old → Sound job.new }
 {
     nothing_asked(choice)?;
-    let reference = concrete(alloc, name, job.last_values(count), extent, access)?;
+    let reference = global_touch(alloc, name, job.last_values(count), extent, access)?;
     let mut parts = Vec::new(alloc);
     add(&mut parts, Task::Value(ValueTask::DoTouch(reference)))?;
     job.do_first(parts)?;

@@ -47,7 +47,7 @@ fn truth_known(choice: &Choice, truth: bool) -> Result<bool, Refusal>
 fn last_truth(job: &Job, choice: &Choice) -> Result<bool, Refusal>
     ensures { result ≡ step_truth choice.now (job_of job.now).values }
 {
-    let Some(value) = job.values.at(0) else {
+    let Some(value) = job.values.value_at(0) else {
         return Err(Refusal::NotEnabled);
     };
     match known_truth(value) {
@@ -88,7 +88,7 @@ fn parts_if<'a>(
 }
 
 /// Runs a command whose postconditional was evaluated.
-pub fn conditionally<'a>(
+pub fn run_if_true<'a>(
     alloc: Global,
     job: &mut Job<'a>,
     choice: &Choice,

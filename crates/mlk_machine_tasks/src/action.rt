@@ -9,8 +9,8 @@ ghost use Rattle.mlk_machine_jobs.specs.TaskViews.{Adds, block_of};
 ghost use Rattle.mlk_machine_tasks.specs.ArgumentViews.{do_all, if_all, kill_all, lock_all, new_all, quit_parts};
 
 use crate::adding::add;
-use crate::command::{block_parts, evaluated, if_parts};
-use crate::part::{add_arguments, ended};
+use crate::command::{block_parts, evaluate_and_drop, if_parts};
+use crate::part::{add_arguments, record_done};
 use mlk_machine_jobs::{LineTask, LocalTask, LockTask, Names, Task, TestTask, ValueTask};
 use mlk_syntax::{
     Action, Call, Command, DoArgument, Expr, KillArgument, Line, LockArgument, MergeArgument,
@@ -20,7 +20,7 @@ use std::alloc::AllocError;
 
 // Evaluates the arguments of `action` without using their values.
 #[tactic(auto, using(crate::proofs::PartLemmas::argument_added))]
-fn each_evaluated<'a>(
+fn evaluate_each<'a>(
     parts: &mut Vec<Task<'a>>,
     action: &'a Action,
     times: &'a [Expr],
@@ -29,9 +29,9 @@ fn each_evaluated<'a>(
 {
     let mut left = times;
     while let Some((time, others)) = left.split_first() {
-        evaluated(parts, time)?;
+        evaluate_and_drop(parts, time)?;
         left = others;
-        ended(parts, action, times, left)?;
+        record_done(parts, action, times, left)?;
     }
     Ok(())
 }
@@ -52,7 +52,7 @@ fn if_all<'a>(
     while let Some((condition, others)) = left.split_first() {
         if_parts(parts, condition)?;
         left = others;
-        ended(parts, action, conditions, left)?;
+        record_done(parts, action, conditions, left)?;
     }
     Ok(())
 }
@@ -213,7 +213,7 @@ pub fn action_parts<'a>(
         Action::Do(calls) => do_all(parts, block, action, calls),
         Action::Else => add(parts, Task::Test(TestTask::SkipIf(true))),
         Action::Halt => add(parts, Task::Line(LineTask::HaltJob)),
-        Action::Hang(times) => each_evaluated(parts, action, times),
+        Action::Hang(times) => evaluate_each(parts, action, times),
         Action::If(conditions) => if_all(parts, action, conditions),
         Action::Job(calls) => job_all(parts, action, calls),
         Action::Kill(kills) => kill_all(parts, action, kills),

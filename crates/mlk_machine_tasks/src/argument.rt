@@ -8,7 +8,7 @@ ghost use Rattle.mlk_machine_jobs.specs.TaskViews.{Adds};
 ghost use Rattle.mlk_machine_tasks.specs.ArgumentViews.{bare_name, read_after};
 
 use crate::adding::add;
-use crate::command::{evaluated, evaluated_if, given_in, in_time, in_variable};
+use crate::command::{evaluate_and_drop, evaluate_if_some, given_in, in_time, in_variable};
 use crate::evaluate::each_actual;
 use mlk_machine_jobs::{Calling, LocalTask, Names, ScopeTask, Task, ValueTask, count_in};
 use mlk_syntax::{
@@ -120,7 +120,7 @@ fn read_after<'a>(
 ) -> Result<(), AllocError>
     ensures { OnOk result (Adds (read_after (variable_of variable.now) (option_map tree_of timeout.now)) parts.old.items parts.new.items) }
 {
-    evaluated_if(parts, timeout)?;
+    evaluate_if_some(parts, timeout)?;
     add(parts, Task::Value(ValueTask::AskValue(count_in(variable))))?;
     store_last(parts, variable)?;
     in_time(parts, timeout)?;
@@ -136,10 +136,10 @@ pub(crate) fn read_parts<'a>(
 {
     match argument {
         ReadArgument::Text(_) => Ok(()),
-        ReadArgument::Format(tab) => evaluated_if(parts, tab),
+        ReadArgument::Format(tab) => evaluate_if_some(parts, tab),
         ReadArgument::Line(variable, most, timeout) => {
             in_variable(parts, variable)?;
-            evaluated_if(parts, most)?;
+            evaluate_if_some(parts, most)?;
             read_after(parts, variable, timeout)?;
             Ok(())
         }
@@ -158,7 +158,9 @@ pub(crate) fn write_parts<'a>(
     ensures { OnOk result (Adds (write_parts (write_of argument.now)) parts.old.items parts.new.items) }
 {
     match argument {
-        WriteArgument::Value(value) | WriteArgument::Character(value) => evaluated(parts, value),
-        WriteArgument::Format(tab) => evaluated_if(parts, tab),
+        WriteArgument::Value(value) | WriteArgument::Character(value) => evaluate_and_drop(
+            parts, value,
+        ),
+        WriteArgument::Format(tab) => evaluate_if_some(parts, tab),
     }
 }

@@ -21,7 +21,7 @@ use mlk_text::{Name, Subscripts, Value};
 use std::alloc::{AllocError, Global};
 
 /// The touch of a global with the subscripts `values`.
-pub fn concrete(
+pub fn global_touch(
     alloc: Global,
     name: &Name,
     values: &[Value],
@@ -55,13 +55,13 @@ pub(crate) fn touch<'a>(
 ) -> Result<(), AllocError>
     ensures { OnOk result (Adds (DoTouch (touch_at name.now subs.now extent access) ∷ []) parts.old.items parts.new.items) }
 {
-    let reference = concrete(alloc, name, subs, extent, access)?;
+    let reference = global_touch(alloc, name, subs, extent, access)?;
     add(parts, Task::Value(ValueTask::DoTouch(reference)))?;
     Ok(())
 }
 
 // Reads a node and then writes it, as the assignment of a part of its value does.
-fn read_and_written<'a>(
+fn read_and_write<'a>(
     alloc: Global,
     parts: &mut Vec<Task<'a>>,
     name: &Name,
@@ -146,14 +146,14 @@ fn assign_part<'a>(
         return Ok(());
     }
     match global {
-        Some(name) => read_and_written(alloc, parts, name, subs),
+        Some(name) => read_and_write(alloc, parts, name, subs),
         None => Ok(()),
     }
 }
 
 // Assigns `value` to one target, whose own subscripts are `subs`.
 #[tactic(auto, using(crate::proofs::AssignParts::assigned_whole, crate::proofs::AssignParts::assigned_part))]
-fn assigned<'a>(
+fn assign_target<'a>(
     alloc: Global,
     parts: &mut Vec<Task<'a>>,
     value: &Value,
@@ -231,7 +231,7 @@ pub fn assignments<'a>(
     let mut left = targets;
     while let Some((target, others)) = left.split_first() {
         let (subs, _) = cut_after(rest, count_subs(target));
-        assigned(alloc, parts, value, subs, target)?;
+        assign_target(alloc, parts, value, subs, target)?;
         let (_, later) = cut_after(rest, count_needs(target));
         rest = later;
         left = others;

@@ -43,7 +43,7 @@ pub(crate) fn in_variable<'a>(
 }
 
 /// Evaluates an expression without using its value.
-pub(crate) fn evaluated<'a>(
+pub(crate) fn evaluate_and_drop<'a>(
     parts: &mut Vec<Task<'a>>,
     expression: &'a Expr,
 ) -> Result<(), AllocError>
@@ -55,7 +55,7 @@ pub(crate) fn evaluated<'a>(
 }
 
 #[tactic(auto, using(crate::proofs::PartLemmas::adds_none))]
-pub(crate) fn evaluated_if<'a>(
+pub(crate) fn evaluate_if_some<'a>(
     parts: &mut Vec<Task<'a>>,
     expression: &'a Option<Expr>,
 ) -> Result<(), AllocError>
@@ -63,7 +63,7 @@ pub(crate) fn evaluated_if<'a>(
 {
     match expression {
         None => Ok(()),
-        Some(expression) => evaluated(parts, expression),
+        Some(expression) => evaluate_and_drop(parts, expression),
     }
 }
 

@@ -124,7 +124,10 @@ pub(crate) fn special_parts<'a>(
 }
 
 // Evaluates further arguments without using their values.
-fn unused<'a>(parts: &mut Vec<Task<'a>>, arguments: &'a [Expr]) -> Result<(), AllocError>
+fn evaluate_and_drop_all<'a>(
+    parts: &mut Vec<Task<'a>>,
+    arguments: &'a [Expr],
+) -> Result<(), AllocError>
     ensures { OnOk result (Adds (unused (args_of arguments.now)) parts.old.items parts.new.items) }
 {
     each_argument(parts, arguments)?;
@@ -150,7 +153,7 @@ fn order_parts<'a>(
     add(parts, Task::Value(ValueTask::DropValues(count - above)))?;
     let form = Task::Value(ValueTask::FormReference(name, above, Extent::Tree, Access::Reads));
     add(parts, form)?;
-    unused(parts, more)?;
+    evaluate_and_drop_all(parts, more)?;
     Ok(())
 }
 
@@ -170,7 +173,7 @@ fn query_parts<'a>(
     )?;
     let form = Task::Value(ValueTask::FormReference(name, 0, Extent::Tree, Access::Reads));
     add(parts, form)?;
-    unused(parts, more)?;
+    evaluate_and_drop_all(parts, more)?;
     Ok(())
 }
 
@@ -200,7 +203,7 @@ fn read_parts<'a>(
     ensures { OnOk result (Adds (read_global name.now (subs_of subscripts.now) extent ++ unused (args_of more.now)) parts.old.items parts.new.items) }
 {
     read_global(parts, name, subscripts, extent)?;
-    unused(parts, more)?;
+    evaluate_and_drop_all(parts, more)?;
     Ok(())
 }
 

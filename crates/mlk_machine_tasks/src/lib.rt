@@ -17,7 +17,7 @@ mod target;
 
 pub use action::action_parts;
 pub use adding::add;
-pub use assign::{assignments, by_sign, concrete, count_parts};
+pub use assign::{assignments, by_sign, count_parts, global_touch};
 pub use evaluate::{each_actual, parts_of};
 pub use expr::{count_subscripts, each_argument, each_subscript};
 pub use line::{formals_in, has_formals, line_parts, line_rest, next_command};

@@ -61,7 +61,7 @@ fn into_local<'a>(
 
 // Drops the value that was read, if one was.
 #[tactic(auto, using(crate::proofs::PartLemmas::adds_none))]
-fn unread<'a>(parts: &mut Vec<Task<'a>>, is_read: bool) -> Result<(), AllocError>
+fn drop_read_value<'a>(parts: &mut Vec<Task<'a>>, is_read: bool) -> Result<(), AllocError>
     ensures { OnOk result (Adds (unread is_read) parts.old.items parts.new.items) }
 {
     if is_read {
@@ -103,7 +103,7 @@ fn merge_into<'a>(
         into_local(parts, name, is_read)?;
         return Ok(());
     }
-    unread(parts, is_read)?;
+    drop_read_value(parts, is_read)?;
     write_tree(alloc, parts, subs, global)?;
     Ok(())
 }

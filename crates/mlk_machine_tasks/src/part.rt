@@ -44,7 +44,7 @@ pub(crate) fn add_all<'a, P: Expanded>(
 }
 
 /// Records that all `arguments` of `action` except those in `left` are done.
-pub(crate) fn ended<'a, P>(
+pub(crate) fn record_done<'a, P>(
     parts: &mut Vec<Task<'a>>,
     action: &'a Action,
     arguments: &[P],
@@ -70,7 +70,7 @@ pub(crate) fn add_arguments<'a, P: Expanded>(
     while let Some((argument, later)) = left.split_first() {
         argument.add_to(parts)?;
         left = later;
-        ended(parts, action, arguments, left)?;
+        record_done(parts, action, arguments, left)?;
     }
     Ok(())
 }

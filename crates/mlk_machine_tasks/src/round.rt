@@ -14,7 +14,7 @@ use mlk_text::Name;
 use std::alloc::AllocError;
 
 // Evaluates the start and the step, in this order.
-fn both_evaluated<'a>(
+fn evaluate_both<'a>(
     parts: &mut Vec<Task<'a>>,
     start: &'a Expr,
     step: &'a Expr,
@@ -65,14 +65,14 @@ pub fn parameter_parts<'a>(
             Ok(())
         }
         Parameter::Endless(start, step) => {
-            both_evaluated(parts, start, step)?;
+            evaluate_both(parts, start, step)?;
             start_stored(parts, 1, variable)?;
             add(parts, Task::Line(LineTask::RunCommands(rest)))?;
             add(parts, Task::Line(LineTask::NextValue(variable, rest)))?;
             Ok(())
         }
         Parameter::Limited(start, step, limit) => {
-            both_evaluated(parts, start, step)?;
+            evaluate_both(parts, start, step)?;
             add(parts, Task::Value(ValueTask::Evaluate(limit)))?;
             start_stored(parts, 2, variable)?;
             add(

@@ -9,7 +9,7 @@ ghost use Rattle.mlk_machine_jobs.specs.TaskViews.{Adds};
 ghost use Rattle.mlk_machine_tasks.specs.ArgumentViews.{each_value};
 
 use crate::adding::add;
-use crate::command::{evaluated_if, given_in, in_variable};
+use crate::command::{evaluate_if_some, given_in, in_variable};
 use crate::evaluate::each_actual;
 use crate::expr::{count_subscripts, each_argument};
 use crate::part::add_all;
@@ -98,7 +98,7 @@ pub(crate) fn lock_parts<'a>(
     ensures { OnOk result (Adds (lock_parts (lock_of argument.now)) parts.old.items parts.new.items) }
 {
     in_variables(parts, &argument.names)?;
-    evaluated_if(parts, &argument.timeout)?;
+    evaluate_if_some(parts, &argument.timeout)?;
     let timed = argument.timeout.is_some();
     add(
         parts,

@@ -15,7 +15,7 @@ use mlk_syntax::Expr;
 use mlk_text::{Name, Op, UnaryOp};
 
 /// The state of a job that reads the local `name` next.
-pub(crate) fn fetches<'j>(job: &Job, name: &Name) -> State<'j>
+pub(crate) fn fetch_state<'j>(job: &Job, name: &Name) -> State<'j>
     ensures { state_of result ≡ by_value ((job_of job.now).cells (look (job_of job.now).bindings name.now)) }
 {
     match job.value_of(name.as_bytes()) {
@@ -28,7 +28,7 @@ pub(crate) fn fetches<'j>(job: &Job, name: &Name) -> State<'j>
 pub(crate) fn uses_last<'j>(job: &Job) -> State<'j>
     ensures { state_of result ≡ by_last (job_of job.now).values }
 {
-    match job.values.at(0) {
+    match job.values.value_at(0) {
         Some(_) => State::Silent,
         None => State::Stuck,
     }
@@ -38,7 +38,7 @@ pub(crate) fn uses_last<'j>(job: &Job) -> State<'j>
 pub(crate) fn applies_unary<'j>(job: &Job, op: UnaryOp) -> State<'j>
     ensures { state_of result ≡ by_unary op (job_of job.now).values }
 {
-    let Some(operand) = job.values.at(0) else {
+    let Some(operand) = job.values.value_at(0) else {
         return State::Stuck;
     };
     if is_known_before(op, operand) {
@@ -52,10 +52,10 @@ pub(crate) fn applies_unary<'j>(job: &Job, op: UnaryOp) -> State<'j>
 pub(crate) fn applies_binary<'j>(job: &Job, op: Op) -> State<'j>
     ensures { state_of result ≡ by_binary op (job_of job.now).values }
 {
-    let Some(second) = job.values.at(0) else {
+    let Some(second) = job.values.value_at(0) else {
         return State::Stuck;
     };
-    let Some(first) = job.values.at(1) else {
+    let Some(first) = job.values.value_at(1) else {
         return State::Stuck;
     };
     if is_known_between(op, first, second) {
@@ -66,7 +66,7 @@ pub(crate) fn applies_binary<'j>(job: &Job, op: Op) -> State<'j>
 }
 
 /// The state of a job at `$SELECT`, where `branches` are left.
-pub(crate) fn selects<'j>(branches: &[(Expr, Expr)]) -> State<'j>
+pub(crate) fn select_state<'j>(branches: &[(Expr, Expr)]) -> State<'j>
     ensures { state_of result ≡ if_enabled (has_choices (choices_from (choices branches.now))) }
 {
     match branches.split_first() {
@@ -79,7 +79,7 @@ pub(crate) fn selects<'j>(branches: &[(Expr, Expr)]) -> State<'j>
 pub(crate) fn uses_truth<'j>(job: &Job, if_true: State<'j>, if_false: State<'j>) -> State<'j>
     ensures { state_of result ≡ by_last_truth (job_of job.now).values (state_of if_true.entry) (state_of if_false.entry) }
 {
-    let Some(value) = job.values.at(0) else {
+    let Some(value) = job.values.value_at(0) else {
         return State::Stuck;
     };
     match known_truth(value) {

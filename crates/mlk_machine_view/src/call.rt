@@ -27,7 +27,7 @@ fn has_line(program: &Program, entry: EntryId) -> bool
 }
 
 /// The state of a job at a call.
-pub(crate) fn calls<'j>(program: &Program, job: &Job, callee: &Callee) -> State<'j>
+pub(crate) fn call_state<'j>(program: &Program, job: &Job, callee: &Callee) -> State<'j>
     ensures { state_of result ≡ by_target (map routine_of program.now)
         (target_of (map routine_of program.now) (job_of job.now).routine callee.now) }
 {

@@ -6,13 +6,13 @@ ghost use Rattle.mlk_machine_jobs.specs.Seen.{Clash};
 ghost use Rattle.mlk_machine_jobs.specs.TaskViews.{touch_of};
 ghost use Rattle.mlk_machine_view.specs.Clashes as tests;
 
-use crate::region::overlap;
+use crate::region::have_common_node;
 use mlk_machine_jobs::{Job, Touch};
 use mlk_names::Access;
 use std::alloc::{AllocError, Global};
 
 // Whether `touch` is a write.
-fn writes(touch: &Touch) -> bool
+fn is_write(touch: &Touch) -> bool
     ensures { result ≡ tests.writes (touch_of touch.now) }
 {
     matches!(touch.access, Access::Writes)
@@ -20,32 +20,32 @@ fn writes(touch: &Touch) -> bool
 
 // Whether two jobs clash, as a test.
 #[tactic(auto, unfolding(crate::specs::Clashes::clash))]
-fn tested(job: &Job, other: &Job) -> bool
+fn is_tested_clash(job: &Job, other: &Job) -> bool
     ensures { result ≡ tests.clash (job_of job.now) (job_of other.now) }
 {
-    match (job.ready(), other.ready()) {
+    match (job.ready_touch(), other.ready_touch()) {
         (Some(first), Some(second)) => {
             job.number != other.number
-                && (writes(first) || writes(second))
-                && overlap(first, second)
+                && (is_write(first) || is_write(second))
+                && have_common_node(first, second)
         }
         _ => false,
     }
 }
 
 /// Whether two jobs clash: both are ready to touch references that overlap, one of which is a write. Allocates nothing.
-pub fn clash(job: &Job, other: &Job) -> bool
+pub fn is_clash(job: &Job, other: &Job) -> bool
     ensures test { result ≡ tests.clash (job_of job.now) (job_of other.now) }
     ensures exact { IsTrue result ↔ Clash (job_of job.now) (job_of other.now) }
 {
-    tested(job, other)
+    is_tested_clash(job, other)
 }
 
 // Adds the numbers of two jobs if they clash.
 fn add_clash(pairs: &mut Vec<(u32, u32)>, job: &Job, other: &Job) -> Result<(), AllocError>
     ensures { OnOk result (pairs.new.items ≡ pairs.old.items ++ tests.clashes_with (job_of job.now) (job_of other.now ∷ [])) }
 {
-    if tested(job, other) {
+    if is_tested_clash(job, other) {
         pairs.push((job.number, other.number))?;
     }
     Ok(())

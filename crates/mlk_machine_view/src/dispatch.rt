@@ -10,9 +10,9 @@ ghost use Rattle.mlk_machine_jobs.specs.TaskViews.{value_task, local_task, test_
 ghost use Rattle.mlk_machine_view.specs.StateViews.{state_of};
 
 use crate::asking::{
-    applies_binary, applies_unary, ends_frame, fetches, selects, uses_last, uses_truth,
+    applies_binary, applies_unary, ends_frame, fetch_state, select_state, uses_last, uses_truth,
 };
-use crate::call::{calls, goes_on};
+use crate::call::{call_state, goes_on};
 use crate::shown::State;
 use mlk_machine_jobs::{
     Job, LineTask, LocalTask, LockTask, Pending, ScopeTask, Task, TestTask, ValueTask,
@@ -26,11 +26,11 @@ fn value_state<'j>(program: &Program, job: &Job, task: &'j ValueTask) -> State<'
         ≡ state_in (map routine_of program.now) (job_of job.now) (value_task task.now ∷ ts) }
 {
     match task {
-        ValueTask::Fetch(name) => fetches(job, name),
+        ValueTask::Fetch(name) => fetch_state(job, name),
         ValueTask::ApplyUnary(op) => applies_unary(job, *op),
         ValueTask::ApplyBinary(op) => applies_binary(job, *op),
         ValueTask::AskValue(_) => State::AsksChoice,
-        ValueTask::Select(branches) => selects(branches),
+        ValueTask::Select(branches) => select_state(branches),
         ValueTask::Selected(_, _) => uses_truth(job, State::Silent, State::Silent),
         ValueTask::DoTouch(touch) => State::Ready(touch),
         ValueTask::Evaluate(_)
@@ -92,9 +92,9 @@ fn scope_state<'j>(program: &Program, job: &Job, task: &'j ScopeTask) -> State<'
         ≡ state_in (map routine_of program.now) (job_of job.now) (scope_task task.now ∷ ts) }
 {
     match task {
-        ScopeTask::Call(_, callee, _) => calls(program, job, callee),
+        ScopeTask::Call(_, callee, _) => call_state(program, job, callee),
         ScopeTask::CallIf(callee, _) => {
-            uses_truth(job, calls(program, job, callee), State::Silent)
+            uses_truth(job, call_state(program, job, callee), State::Silent)
         }
         ScopeTask::StartJob(_, _) | ScopeTask::Block(_) => State::Silent,
     }

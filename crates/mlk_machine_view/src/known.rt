@@ -7,7 +7,7 @@ ghost use Rattle.mlk_numbers.specs.Operators.{fold_before, fold_between};
 ghost use Rattle.mlk_text.specs.declared.operator.Op.TheVariants as operator;
 ghost use Rattle.mlk_text.specs.declared.operator.UnaryOp.TheVariants.{Plus, Minus};
 
-use mlk_numbers::{fold_number, known_truth, whole};
+use mlk_numbers::{fold_number, known_truth, whole_number};
 use mlk_text::{Op, UnaryOp, Value};
 
 // The maximum length of two joined texts whose result is known.
@@ -18,7 +18,7 @@ fn is_number(text: &Value) -> bool
     ensures plus { result ≡ is_some (fold_before Plus text.now) }
     ensures minus { result ≡ is_some (fold_before Minus text.now) }
 {
-    whole(text.as_bytes()).is_some()
+    whole_number(text.as_bytes()).is_some()
 }
 
 /// Whether the result of a unary operator is known. Allocates nothing.
@@ -45,8 +45,8 @@ fn is_joined(first: &Value, second: &Value) -> bool
 fn number_between(op: Op, first: &Value, second: &Value) -> Option<i64>
     ensures { Finds (λ z. (x y : ℤ) × IsWhole x first.now × IsWhole y second.now × (folded op x y ≡ Some z)) result }
 {
-    let x = whole(first.as_bytes())?;
-    let y = whole(second.as_bytes())?;
+    let x = whole_number(first.as_bytes())?;
+    let y = whole_number(second.as_bytes())?;
     fold_number(op, x, y)
 }
 

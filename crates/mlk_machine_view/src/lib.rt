@@ -18,9 +18,9 @@ mod touch;
 mod wait;
 
 pub use clash_law::{clash_is_tested, overlap_is_tested};
-pub use clashing::{clash, clashes};
+pub use clashing::{clashes, is_clash};
 pub use dispatch::state;
 pub use law::held_is_sorted;
 pub use shown::State;
 pub use system::system_text;
-pub use wait::waits;
+pub use wait::waiting_pairs;

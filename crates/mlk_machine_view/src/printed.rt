@@ -17,7 +17,7 @@ use crate::holding::push_held;
 use crate::shown::State;
 use crate::spelling::push_names;
 use crate::touch::push_touch;
-use crate::wait::waits;
+use crate::wait::waiting_pairs;
 use mlk_cert_lexemes::WrittenText;
 use mlk_machine_jobs::Job;
 use mlk_names::LockName;
@@ -134,7 +134,7 @@ pub(crate) fn push_waits<'a>(
 ) -> Result<(), AllocError>
     ensures { OnOk result (text.new ≡ text.old ++ waits_lines (map job_of jobs.now)) }
 {
-    let pairs = waits(alloc, jobs)?;
+    let pairs = waiting_pairs(alloc, jobs)?;
     push_pairs(text, b"waits ", pairs.as_slice())?;
     Ok(())
 }

@@ -50,7 +50,7 @@ fn subs_meet(first: &[Value], far: Extent, second: &[Value], wide: Extent) -> bo
 }
 
 /// Whether both touch a common node. Allocates nothing.
-pub(crate) fn overlap(first: &Touch, second: &Touch) -> bool
+pub(crate) fn have_common_node(first: &Touch, second: &Touch) -> bool
     ensures { result ≡ regions.overlap (touch_of first.now).region (touch_of second.now).region }
 {
     first.root == second.root

@@ -25,7 +25,7 @@ fn add_waits<'a>(
 }
 
 /// The numbers of jobs and of those for which they wait, in the order of the jobs.
-pub fn waits<'a>(alloc: Global, jobs: &[Job<'a>]) -> Result<Vec<(u32, u32)>, AllocError>
+pub fn waiting_pairs<'a>(alloc: Global, jobs: &[Job<'a>]) -> Result<Vec<(u32, u32)>, AllocError>
     ensures { IfOk result (λ pairs. pairs.items ≡ tests.waits_among (map job_of jobs.now)) }
 {
     let mut pairs = Vec::new(alloc);

@@ -1,10 +1,10 @@
 // The walk of an entry.
 
 use crate::maker::{Ground, Maker, has_changed, number_of};
-use crate::mend::done;
+use crate::mend::record_listing;
 use crate::need::formals_of;
 use crate::settle::settle_lines;
-use crate::stop::{GaveUp, Stop, WhenStuck, gave_up};
+use crate::stop::{GaveUp, Stop, WhenStuck, give_up_at};
 use mlk_cert::{Case, NameSet, Own, Shared, Test};
 use mlk_make_drafts::{At, Draft};
 use mlk_program::EntryId;
@@ -53,7 +53,7 @@ fn begin(ground: &Ground<'_>, maker: &mut Maker, draft: &mut Draft) -> Result<()
         column: Column::new(1),
         code: Code::CaseNotListed,
     };
-    done(maker, fault, listing)?;
+    record_listing(maker, fault, listing)?;
     Ok(())
 }
 
@@ -81,7 +81,7 @@ fn walk(ground: &Ground<'_>, maker: &mut Maker, draft: &mut Draft) -> Result<(),
             Ok(false) => return Ok(()),
             Err(Failure::OutOfMemory) => return Err(Failure::OutOfMemory),
             Err(Failure::Refused(Stop::Anew)) => draft.clear(ground.alloc),
-            Err(Failure::Refused(Stop::Full(fault))) => return gave_up(draft.entry, fault),
+            Err(Failure::Refused(Stop::Full(fault))) => return give_up_at(draft.entry, fault),
         }
     }
     Ok(())

@@ -38,7 +38,7 @@ fn no_certificate() -> MakeError
 }
 
 // The error for blocks whose text is refused.
-fn refused(fault: CertFault) -> MakeError
+fn make_error(fault: CertFault) -> MakeError
     ensures { IsUnspelled result }
 {
     if fault.code == Code::CertLimit && fault.line.number() == 1 {
@@ -49,19 +49,19 @@ fn refused(fault: CertFault) -> MakeError
 
 // The certificate of `made`, and its text in the first format, from which it is read back.
 #[tactic(auto, using(crate::proofs::FirstText::first_text))]
-fn spelled(alloc: Global, made: Vec<EntryCert>) -> Result<Spelled, Failure<MakeError>>
+fn spell_blocks(alloc: Global, made: Vec<EntryCert>) -> Result<Spelled, Failure<MakeError>>
     ensures spells { IfOk result (λ s. SpellsIn First s.certificate s.text.items) }
     ensures refused { IfErr result (λ e. IfRefused e IsUnspelled) }
 {
     match spell(alloc, made) {
         Ok(made) => Ok(made),
         Err(Failure::OutOfMemory) => Err(Failure::OutOfMemory),
-        Err(Failure::Refused(fault)) => Err(Failure::Refused(refused(fault))),
+        Err(Failure::Refused(fault)) => Err(Failure::Refused(make_error(fault))),
     }
 }
 
 // The certificate of `made`, and its text in `format`, which is written from it.
-fn written(
+fn write_blocks(
     alloc: Global,
     made: Vec<EntryCert>,
     format: CertFormat,
@@ -103,7 +103,7 @@ pub(crate) fn finish(
 {
     let made = blocks(alloc, maker)?;
     match format {
-        CertFormat::First => spelled(alloc, made),
-        CertFormat::Second => written(alloc, made, format),
+        CertFormat::First => spell_blocks(alloc, made),
+        CertFormat::Second => write_blocks(alloc, made, format),
     }
 }

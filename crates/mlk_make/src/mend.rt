@@ -14,7 +14,7 @@ use mlk_walk_exprs::{Fault, Mend, Note};
 use mlk_walk_lines::LineFault;
 
 /// Notes how what mends `fault` was listed, and returns whether something changed.
-pub(crate) fn done(
+pub(crate) fn record_listing(
     maker: &mut Maker,
     fault: Fault,
     listing: Listing,
@@ -36,7 +36,7 @@ fn done_in_summary(
     fault: Fault,
     listing: Listing,
 ) -> Result<bool, Failure<Stop>> {
-    let changes = done(maker, fault, listing)?;
+    let changes = record_listing(maker, fault, listing)?;
     if changes {
         draft.changed = maker.changes;
     }
@@ -53,7 +53,7 @@ fn is_here(line: &Line, point: LineNumber) -> bool {
 }
 
 // The entry that is called at `column`.
-fn called(targets: &[CalledEntry], column: Column) -> Option<EntryId> {
+fn called_entry(targets: &[CalledEntry], column: Column) -> Option<EntryId> {
     for target in targets {
         if target.column == column && !target.begins {
             return Some(target.entry);
@@ -73,7 +73,7 @@ fn add_called(
     if fault.code != Code::NoCertificate {
         return Ok(false);
     }
-    let Some(entry) = called(targets, fault.column) else {
+    let Some(entry) = called_entry(targets, fault.column) else {
         return Ok(false);
     };
     if entry == draft.entry || !maker.add(ground, entry, false)? {
@@ -95,7 +95,7 @@ fn add_needs(
     if !is_needed(ground, maker, draft, site, fault, terms.as_slice())? {
         return Ok(false);
     }
-    let listing = draft.need(ground.alloc, terms)?;
+    let listing = draft.add_needs(ground.alloc, terms)?;
     done_in_summary(maker, draft, fault, listing)?;
     Err(Failure::Refused(Stop::Anew))
 }
@@ -140,7 +140,7 @@ fn mend_one(
         Mend::Listed(line, round, case) => {
             let at = At { line, round };
             let listing = draft.lists.list(ground.alloc, at, case)?;
-            Ok(done(maker, fault, listing)? && is_here(site.line, line))
+            Ok(record_listing(maker, fault, listing)? && is_here(site.line, line))
         }
         Mend::Exit(exit) => add_end(ground, maker, draft, fault, exit),
         Mend::Changes(sets) => add_changes(ground, maker, draft, fault, sets),

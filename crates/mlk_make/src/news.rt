@@ -1,7 +1,7 @@
 // Names that NEW makes new before a column of a line.
 
 use mlk_calls::is_among;
-use mlk_make_drafts::round_at;
+use mlk_make_drafts::for_at;
 use mlk_syntax::{Action, Command, Commands, Line, NewArgument};
 use mlk_text::{Column, Name};
 
@@ -44,7 +44,7 @@ fn make_new(commands: &Commands, column: Column, names: &[Name]) -> bool {
 /// Whether a NEW between the begin of the line, or of the rounds of its FOR with the number `round`, and `column` makes one of `names`
 /// new.
 pub(crate) fn are_made_new(line: &Line, round: usize, column: Column, names: &[Name]) -> bool {
-    match round_at(&line.commands, round) {
+    match for_at(&line.commands, round) {
         None => make_new(&line.commands, column, names),
         Some(last) => make_new(&last.rest, column, names),
     }

@@ -34,7 +34,7 @@ fn is_one_of(item: &Own, names: &[Name]) -> bool {
 }
 
 // The case in which the names are not own.
-fn without(alloc: Global, case: &Case, names: &[Name]) -> Result<Case, AllocError> {
+fn case_without(alloc: Global, case: &Case, names: &[Name]) -> Result<Case, AllocError> {
     let mut own = Vec::new(alloc);
     for item in case.own.as_slice() {
         if !is_one_of(item, names) {
@@ -75,7 +75,7 @@ fn kept_ends(
     let mut kept = List::new(alloc);
     for case in ends.as_slice() {
         if are_kept(ground, draft, case, probe.names) {
-            kept.push(without(alloc, case, probe.names)?)?;
+            kept.push(case_without(alloc, case, probe.names)?)?;
         }
     }
     Ok(kept)
@@ -183,6 +183,6 @@ pub(crate) fn is_reached(
     round: usize,
     case: &Case,
 ) -> Result<bool, AllocError> {
-    let case = without(ground.alloc, case, probe.names)?;
+    let case = case_without(ground.alloc, case, probe.names)?;
     is_reached_from(ground, maker, draft, probe, round, &case)
 }

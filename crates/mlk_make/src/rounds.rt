@@ -32,7 +32,7 @@ pub struct MadeDespite {
 }
 
 // Adds drafts of the declared entries.
-fn declare(ground: &Ground<'_>, maker: &mut Maker) -> Result<(), AllocError> {
+fn add_declared(ground: &Ground<'_>, maker: &mut Maker) -> Result<(), AllocError> {
     for text in entries(ground.rules) {
         if let Some(entry) = ground.program.entry(text.as_bytes()) {
             maker.add(ground, entry, true)?;
@@ -89,13 +89,13 @@ fn walk_rounds<W: Watch>(
 }
 
 // Walks the declared entries and all that they reach.
-fn walked<W: Watch>(
+fn walk_entries<W: Watch>(
     ground: &Ground<'_>,
     when_stuck: WhenStuck,
     watch: &W,
 ) -> Result<Maker, Failure<GaveUp>> {
     let mut maker = Maker::new(ground.alloc, when_stuck);
-    declare(ground, &mut maker)?;
+    add_declared(ground, &mut maker)?;
     walk_rounds(ground, &mut maker, watch)?;
     Ok(maker)
 }
@@ -123,7 +123,7 @@ fn certify<W: Watch>(
         rules,
         declared: &declared,
     };
-    match walked(&ground, when_stuck, watch) {
+    match walk_entries(&ground, when_stuck, watch) {
         Ok(maker) => Ok(maker),
         Err(Failure::OutOfMemory) => Err(Failure::OutOfMemory),
         Err(Failure::Refused(place)) => Err(Failure::Refused(MakeError::GaveUp(place))),

@@ -57,7 +57,7 @@ fn walk_once(
     site: Site<'_>,
 ) -> Result<Turn, Failure<Stop>> {
     add_callees(draft, site.targets)?;
-    draft.take(ground.alloc, site.line)?;
+    draft.load_line(ground.alloc, site.line)?;
     let walked = walk_line(ground, maker, draft, site)?;
     draft.put_back(ground.alloc);
     let ends = draft

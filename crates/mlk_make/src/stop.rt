@@ -50,6 +50,6 @@ pub(crate) enum Stop {
 }
 
 /// Gives up at `fault` of `entry`.
-pub(crate) fn gave_up<T>(entry: EntryId, fault: Fault) -> Result<T, Failure<GaveUp>> {
+pub(crate) fn give_up_at<T>(entry: EntryId, fault: Fault) -> Result<T, Failure<GaveUp>> {
     Err(Failure::Refused(GaveUp { entry, fault }))
 }

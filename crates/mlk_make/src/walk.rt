@@ -97,7 +97,7 @@ pub(crate) fn targets_of(
 }
 
 // The draft of `entry`. That of the entry which is walked, `draft`, is not in the maker meanwhile.
-fn known<'a>(maker: &'a Maker, draft: &'a Draft, entry: EntryId) -> Option<&'a Draft> {
+fn known_draft<'a>(maker: &'a Maker, draft: &'a Draft, entry: EntryId) -> Option<&'a Draft> {
     if draft.entry == entry {
         return Some(draft);
     }
@@ -105,7 +105,7 @@ fn known<'a>(maker: &'a Maker, draft: &'a Draft, entry: EntryId) -> Option<&'a D
 }
 
 // The blocks of the entries that are called, without their points.
-fn summed(
+fn callee_summaries(
     alloc: Global,
     maker: &Maker,
     draft: &Draft,
@@ -114,7 +114,7 @@ fn summed(
     let mut blocks = Vec::new(alloc);
     for target in targets {
         if !target.begins
-            && let Some(callee) = known(maker, draft, target.entry)
+            && let Some(callee) = known_draft(maker, draft, target.entry)
         {
             blocks.push(copy_summed(alloc, &callee.block)?)?;
         }
@@ -130,7 +130,7 @@ fn push_declared(texts: &mut List<Value>, draft: &Draft) -> Result<(), AllocErro
 }
 
 // The texts of the declared entries among the walked one and those at which its line begins jobs.
-fn declared(
+fn declared_texts(
     alloc: Global,
     maker: &Maker,
     draft: &Draft,
@@ -140,7 +140,7 @@ fn declared(
     push_declared(&mut texts, draft)?;
     for target in targets {
         if target.begins
-            && let Some(begun) = known(maker, draft, target.entry)
+            && let Some(begun) = known_draft(maker, draft, target.entry)
         {
             push_declared(&mut texts, begun)?;
         }
@@ -149,7 +149,7 @@ fn declared(
 }
 
 // Rules that declare `entries`, and nothing else.
-fn declaring(alloc: Global, entries: List<Value>) -> Result<Option<Rules>, AllocError> {
+fn declaring_rules(alloc: Global, entries: List<Value>) -> Result<Option<Rules>, AllocError> {
     let lists = RuleLists {
         families: List::new(alloc),
         covers: List::new(alloc),
@@ -167,8 +167,8 @@ fn declared_rules(
     draft: &Draft,
     targets: &[CalledEntry],
 ) -> Result<Option<Rules>, AllocError> {
-    let entries = declared(alloc, maker, draft, targets)?;
-    declaring(alloc, entries)
+    let entries = declared_texts(alloc, maker, draft, targets)?;
+    declaring_rules(alloc, entries)
 }
 
 // Walks a line, given what is known of entries. The line's own block may end in the cases `inner`.
@@ -185,7 +185,7 @@ fn walk_among(
         own,
         site,
     } = *start;
-    let scope = Scope::counting(ground.program, ground.rules, entries, entry, block, own);
+    let scope = Scope::with_counted(ground.program, ground.rules, entries, entry, block, own);
     let Surroundings { around, next } = site.surroundings;
     let mut found = LineFaults::new(alloc);
     let ends = walk_alone(alloc, &scope, site.line, around, next, inner, &mut found)?;
@@ -217,7 +217,7 @@ pub(crate) fn walk_site(
     inner: List<Case>,
 ) -> Result<Walked, AllocError> {
     let targets = start.site.targets;
-    let blocks = summed(ground.alloc, maker, draft, targets)?;
+    let blocks = callee_summaries(ground.alloc, maker, draft, targets)?;
     if blocks.is_empty() {
         return walk_among(ground, ground.declared, start, inner);
     }

@@ -63,7 +63,11 @@ impl Draft {
     }
 
     /// Adds needed locks.
-    pub fn need(&mut self, alloc: Global, terms: Vec<LockTerm>) -> Result<Listing, AllocError> {
+    pub fn add_needs(
+        &mut self,
+        alloc: Global,
+        terms: Vec<LockTerm>,
+    ) -> Result<Listing, AllocError> {
         add_needs(alloc, &mut self.block.summary, terms)
     }
 
@@ -85,7 +89,7 @@ impl Draft {
     }
 
     /// Loads the points of a line and that of its block's begin.
-    pub fn take(&mut self, alloc: Global, line: &Line) -> Result<(), AllocError> {
+    pub fn load_line(&mut self, alloc: Global, line: &Line) -> Result<(), AllocError> {
         self.lists.walk(line.number);
         let mut points = List::new(alloc);
         for round in 0..rounds_in(&line.commands).saturating_add(1) {

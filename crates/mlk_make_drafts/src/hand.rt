@@ -11,10 +11,10 @@ pub fn rounds_in(commands: &Commands) -> usize {
 }
 
 /// FOR number `round` of a line, counted from 1, or `None`.
-pub fn round_at(commands: &Commands, round: usize) -> Option<&For> {
+pub fn for_at(commands: &Commands, round: usize) -> Option<&For> {
     let last = commands.last.as_ref()?;
     if last.index == round {
         return Some(last);
     }
-    round_at(&last.rest, round)
+    for_at(&last.rest, round)
 }

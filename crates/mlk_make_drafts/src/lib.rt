@@ -11,6 +11,6 @@ mod summary;
 
 pub use copy::{copy_cases, copy_summed};
 pub use draft::{Draft, round_number};
-pub use hand::{round_at, rounds_in};
+pub use hand::{for_at, rounds_in};
 pub use lists::{At, Listing, Lists};
 pub use summary::{add_exit, add_mods, drop_all, lower, widen};

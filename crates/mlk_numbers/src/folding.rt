@@ -51,7 +51,7 @@ fn magnitude(digits: &[u8]) -> Option<u64>
 }
 
 /// The number whose canonical text is `text`, or `None` if `text` is not a whole number of at most 15 digits.
-pub fn whole(text: &[u8]) -> Option<i64>
+pub fn whole_number(text: &[u8]) -> Option<i64>
     ensures { Finds (λ z. IsWhole z text.now) result }
 {
     let Some(digits) = byte_of(b'-', text) else {
@@ -95,7 +95,7 @@ fn text_of(alloc: Global, number: i64) -> Result<Value, AllocError>
     Ok(Value::new(text.into_bytes()))
 }
 
-fn joined(alloc: Global, a: &Value, b: &Value) -> Result<Option<Value>, AllocError>
+fn concatenate(alloc: Global, a: &Value, b: &Value) -> Result<Option<Value>, AllocError>
     ensures { IfOk result (Finds (IsFold Op.Concatenate a.now b.now)) }
 {
     let (a, b) = (a.as_bytes(), b.as_bytes());
@@ -111,17 +111,17 @@ fn joined(alloc: Global, a: &Value, b: &Value) -> Result<Option<Value>, AllocErr
 fn fold_texts(op: Op, a: &Value, b: &Value) -> Option<i64>
     ensures { Finds (λ z. (x y : ℤ) × IsWhole x a.now × IsWhole y b.now × (folded op x y ≡ Some z)) result }
 {
-    let x = whole(a.as_bytes())?;
-    let y = whole(b.as_bytes())?;
+    let x = whole_number(a.as_bytes())?;
+    let y = whole_number(b.as_bytes())?;
     fold_number(op, x, y)
 }
 
 // The exact result of `op` on two texts, or `None` if there is none.
-fn exact(alloc: Global, op: Op, a: &Value, b: &Value) -> Result<Option<Value>, AllocError>
+fn exact_result(alloc: Global, op: Op, a: &Value, b: &Value) -> Result<Option<Value>, AllocError>
     ensures { IfOk result (Finds (IsFold op a.now b.now)) }
 {
     if let Op::Concatenate = op {
-        return joined(alloc, a, b);
+        return concatenate(alloc, a, b);
     }
     let Some(answer) = fold_texts(op, a, b) else {
         return Ok(None);
@@ -134,21 +134,21 @@ fn exact(alloc: Global, op: Op, a: &Value, b: &Value) -> Result<Option<Value>, A
 pub fn fold(alloc: Global, op: Op, a: &Value, b: &Value) -> Result<Option<Value>, AllocError>
     ensures { IfOk result (λ v. v ≡ fold_between op a.now b.now) }
 {
-    let found = exact(alloc, op, a, b)?;
+    let found = exact_result(alloc, op, a, b)?;
     Ok(found)
 }
 
-fn negated(alloc: Global, a: &Value) -> Result<Option<Value>, AllocError>
+fn negate(alloc: Global, a: &Value) -> Result<Option<Value>, AllocError>
     ensures { IfOk result (Finds (IsUnaryFold UnaryOp.Minus a.now)) }
 {
-    let Some(number) = whole(a.as_bytes()) else {
+    let Some(number) = whole_number(a.as_bytes()) else {
         return Ok(None);
     };
     Ok(Some(text_of(alloc, -number)?))
 }
 
 // Turns `0` into `1` and `1` into `0`; `None` for any other text.
-fn opposite(alloc: Global, a: &Value) -> Result<Option<Value>, AllocError>
+fn invert_truth(alloc: Global, a: &Value) -> Result<Option<Value>, AllocError>
     ensures { IfOk result (Finds (IsUnaryFold UnaryOp.Not a.now)) }
 {
     let opposite: &[u8] = match a.as_bytes() {
@@ -164,12 +164,12 @@ fn exact_unary(alloc: Global, op: UnaryOp, a: &Value) -> Result<Option<Value>, A
     ensures { IfOk result (Finds (IsUnaryFold op a.now)) }
 {
     match op {
-        UnaryOp::Plus => match whole(a.as_bytes()) {
+        UnaryOp::Plus => match whole_number(a.as_bytes()) {
             Some(_) => Ok(Some(Value::of(alloc, a.as_bytes())?)),
             None => Ok(None),
         },
-        UnaryOp::Minus => negated(alloc, a),
-        UnaryOp::Not => opposite(alloc, a),
+        UnaryOp::Minus => negate(alloc, a),
+        UnaryOp::Not => invert_truth(alloc, a),
     }
 }
 

@@ -88,7 +88,7 @@ fn is_exact(before: &[u8], after: &[u8]) -> bool
 }
 
 // Joins the digits with a point, or returns `before` alone if there is no fraction.
-fn pointed(alloc: Global, before: &[u8], after: &[u8]) -> Result<Value, AllocError>
+fn join_digits(alloc: Global, before: &[u8], after: &[u8]) -> Result<Value, AllocError>
     ensures { IfOk result (λ v. v ≡ pointed before.now after.now) }
 {
     if !after.is_empty() {
@@ -105,7 +105,7 @@ fn pointed(alloc: Global, before: &[u8], after: &[u8]) -> Result<Value, AllocErr
 
 /// The canonical text of the numeric literal `literal`, or `None` if it has none.
 #[tactic(auto, using(crate::proofs::Zeros::last_within))]
-pub fn canonical(alloc: Global, literal: &[u8]) -> Result<Option<Value>, AllocError>
+pub fn canonical_text(alloc: Global, literal: &[u8]) -> Result<Option<Value>, AllocError>
     ensures found { IfOk result (Finds (IsCanonical literal.now)) }
     ensures same { IfOk result (λ v. v ≡ canonical_text literal.now) }
 {
@@ -117,5 +117,5 @@ pub fn canonical(alloc: Global, literal: &[u8]) -> Result<Option<Value>, AllocEr
     }
     let (_, whole) = before.split_at(zeros(before));
     let (fraction, _) = after.split_at(to_last(after));
-    Ok(Some(pointed(alloc, whole, fraction)?))
+    Ok(Some(join_digits(alloc, whole, fraction)?))
 }

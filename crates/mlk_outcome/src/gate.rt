@@ -13,5 +13,5 @@ impl Gate for OpenGate {
         true
     }
 
-    fn posted(&self, _worker: usize, _task: usize) {}
+    fn on_post(&self, _worker: usize, _task: usize) {}
 }

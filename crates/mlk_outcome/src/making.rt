@@ -15,7 +15,7 @@ use mlk_watch::Watch;
 use std::alloc::{AllocError, Global};
 
 // What is reported if the maker gave up.
-fn stuck(alloc: Global, program: &Program<'_>, place: GaveUp) -> NoReport
+fn gave_up(alloc: Global, program: &Program<'_>, place: GaveUp) -> NoReport
     ensures { IsStuck place result }
 {
     match program.text_of(alloc, place.entry) {
@@ -25,7 +25,7 @@ fn stuck(alloc: Global, program: &Program<'_>, place: GaveUp) -> NoReport
 }
 
 // What is reported if no certificate is made.
-fn unmade(alloc: Global, program: &Program<'_>, error: Failure<MakeError>) -> NoReport
+fn no_report(alloc: Global, program: &Program<'_>, error: Failure<MakeError>) -> NoReport
     ensures { ReportsUnmade error result }
 {
     match error {
@@ -34,7 +34,7 @@ fn unmade(alloc: Global, program: &Program<'_>, error: Failure<MakeError>) -> No
         Failure::Refused(MakeError::TooLong(fault)) => {
             NoReport::Check(CheckError::Certificate(fault))
         }
-        Failure::Refused(MakeError::GaveUp(place)) => stuck(alloc, program, place),
+        Failure::Refused(MakeError::GaveUp(place)) => gave_up(alloc, program, place),
     }
 }
 
@@ -52,7 +52,7 @@ pub fn certificate_for<W: Watch>(
 {
     match make_certificate(alloc, program, rules, watch) {
         Ok(certificate) => Ok(certificate),
-        Err(error) => Err(unmade(alloc, program, error)),
+        Err(error) => Err(no_report(alloc, program, error)),
     }
 }
 
@@ -71,6 +71,6 @@ pub fn certificate_text<W: Watch>(
 {
     match make(alloc, program, rules, format, watch) {
         Ok(Spelled { text, .. }) => Ok(text),
-        Err(error) => Err(unmade(alloc, program, error)),
+        Err(error) => Err(no_report(alloc, program, error)),
     }
 }

@@ -15,7 +15,7 @@ use mlk_text::Value;
 use std::alloc::Global;
 
 // Reports `entry`, which is not in the routines.
-fn missing(alloc: Global, entry: &[u8]) -> NoReport
+fn entry_missing(alloc: Global, entry: &[u8]) -> NoReport
     ensures { ReportsEntry entry.now result }
 {
     match Vec::from_slice(alloc, entry) {
@@ -37,7 +37,7 @@ fn declared_entries(
     let mut left = texts;
     while let Some((text, others)) = left.split_first() {
         let Some(entry) = program.entry(text.as_bytes()) else {
-            return Err(missing(alloc, text.as_bytes()));
+            return Err(entry_missing(alloc, text.as_bytes()));
         };
         if found.push(entry).is_err() {
             return Err(NoReport::Check(CheckError::OutOfMemory));

@@ -1,7 +1,7 @@
 // Results: a fault, a hazard or a refusal, each at its place.
 
 use crate::hash::{HashedLine, LineHash};
-use crate::notice::Place;
+use crate::notice::NoticePlace;
 use crate::region::physical_value;
 use mlk_report_text::Piece::{Bytes, Number, Words};
 use mlk_report_text::{Field, escape_bytes, member, object, text_of};
@@ -17,7 +17,7 @@ pub(crate) struct Finding<'a> {
     pub(crate) level: &'static str,
     /// what is said of it
     pub(crate) message: Vec<u8>,
-    pub(crate) place: Place<'a>,
+    pub(crate) place: NoticePlace<'a>,
     /// the line at that place, if the file has it
     pub(crate) line: Option<HashedLine<'a>>,
     /// the entry or the routine that it is in
@@ -31,7 +31,7 @@ pub(crate) struct Finding<'a> {
 /// A place on the way from a finding to what is behind it.
 #[derive(Drop)]
 pub(crate) struct WayStep<'a> {
-    pub(crate) place: Place<'a>,
+    pub(crate) place: NoticePlace<'a>,
     pub(crate) message: Vec<u8>,
 }
 

@@ -1,6 +1,6 @@
 // Gaps, for other programs.
 
-use crate::row::{Inputs, RoutineNumbers};
+use crate::row::{ReportSources, RoutineNumbers};
 use mlk_coverage::{Gap, GapPlace, RuleId, UnreachedLabel};
 use mlk_report_text::Piece::{Number, Words};
 use mlk_report_text::{Field, object, text_of};
@@ -26,7 +26,7 @@ fn rule_text(alloc: Global, rule: RuleId) -> Result<Vec<u8>, AllocError> {
 
 fn file_of_label<'a>(
     alloc: Global,
-    inputs: &Inputs<'a>,
+    inputs: &ReportSources<'a>,
     numbers: &RoutineNumbers,
     label: &UnreachedLabel<'_>,
 ) -> Result<GapFile<'a>, AllocError> {
@@ -43,7 +43,7 @@ fn file_of_label<'a>(
 /// The file that a gap is in. Of the rule file it is the first line: a rule is named by its section and number.
 pub(crate) fn file_of<'a>(
     alloc: Global,
-    inputs: &Inputs<'a>,
+    inputs: &ReportSources<'a>,
     numbers: &RoutineNumbers,
     place: &GapPlace<'_>,
 ) -> Result<GapFile<'a>, AllocError> {
@@ -63,7 +63,7 @@ pub(crate) fn file_of<'a>(
 /// A gap, beside hazards: a routine and its line, or a rule of the rule file.
 pub(crate) fn gap_value(
     alloc: Global,
-    inputs: &Inputs<'_>,
+    inputs: &ReportSources<'_>,
     numbers: &RoutineNumbers,
     gap: &Gap<'_>,
 ) -> Result<Value, AllocError> {

@@ -6,8 +6,8 @@ ghost use Rattle.mlk_output.specs.Documents.{IsJsonReport};
 use crate::coverage::coverage_value;
 use crate::document::{Members, json_document};
 use crate::gap::gap_value;
-use crate::notice::{Notice, Place};
-use crate::row::{Inputs, RoutineNumbers};
+use crate::notice::{Notice, NoticePlace};
+use crate::row::{ReportSources, RoutineNumbers};
 use crate::story::{Findings, add_story, texts_value};
 use mlk_code_pages::page_of;
 use mlk_explain::{FaultsBehind, Story};
@@ -19,7 +19,7 @@ use std::alloc::{AllocError, Global};
 
 fn row_value(
     alloc: Global,
-    inputs: &Inputs<'_>,
+    inputs: &ReportSources<'_>,
     row: &Row,
     story: Option<&Story>,
 ) -> Result<Value, AllocError> {
@@ -43,7 +43,7 @@ fn row_value(
 
 fn row_values(
     alloc: Global,
-    inputs: &Inputs<'_>,
+    inputs: &ReportSources<'_>,
     findings: &Findings<'_>,
 ) -> Result<Vec<Value>, AllocError>
     ensures { IfOk result (λ values. length values.items ≡ length findings.now.report.now) }
@@ -59,7 +59,7 @@ fn row_values(
 
 fn hazard_value(
     alloc: Global,
-    inputs: &Inputs<'_>,
+    inputs: &ReportSources<'_>,
     numbers: &RoutineNumbers,
     at: &HazardAt<'_>,
 ) -> Result<Value, AllocError> {
@@ -79,7 +79,7 @@ fn hazard_value(
 
 fn hazards_value(
     alloc: Global,
-    inputs: &Inputs<'_>,
+    inputs: &ReportSources<'_>,
     findings: &Findings<'_>,
 ) -> Result<Value, AllocError> {
     let numbers = RoutineNumbers::of(alloc, inputs.routines)?;
@@ -96,7 +96,7 @@ fn hazards_value(
 /// The faults behind those of a report, as a list.
 pub(crate) fn behind_value(
     alloc: Global,
-    inputs: &Inputs<'_>,
+    inputs: &ReportSources<'_>,
     behind: &FaultsBehind,
 ) -> Result<Value, AllocError> {
     let rows = behind.rows();
@@ -110,7 +110,7 @@ pub(crate) fn behind_value(
 // The members of a report besides its answer and its faults.
 fn other_members(
     alloc: Global,
-    inputs: &Inputs<'_>,
+    inputs: &ReportSources<'_>,
     findings: &Findings<'_>,
 ) -> Result<Members, AllocError> {
     let mut members = Map::new(alloc);
@@ -138,7 +138,7 @@ fn other_members(
 /// `free_reads`, if rules free reads.
 pub fn report_json(
     alloc: Global,
-    inputs: &Inputs<'_>,
+    inputs: &ReportSources<'_>,
     findings: &Findings<'_>,
 ) -> Result<String, AllocError>
     ensures { IfOk result (λ text. IsJsonReport (length findings.now.report.now) (string_bytes text)) }
@@ -148,7 +148,7 @@ pub fn report_json(
     json_document(alloc, faults, others)
 }
 
-fn place_value(alloc: Global, place: &Place<'_>) -> Result<Value, AllocError> {
+fn place_value(alloc: Global, place: &NoticePlace<'_>) -> Result<Value, AllocError> {
     let column = match place.column {
         Some(column) => Field::Number(column.number() as usize),
         None => Field::Null,

@@ -17,7 +17,7 @@ mod sarif;
 mod story;
 
 pub use json::{notice_json, report_json};
-pub use notice::{Notice, Place};
-pub use row::Inputs;
+pub use notice::{Notice, NoticePlace};
+pub use row::ReportSources;
 pub use sarif::{notice_sarif, report_sarif};
 pub use story::Findings;

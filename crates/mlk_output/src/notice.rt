@@ -4,7 +4,7 @@ use mlk_text::{Code, Column, LineNumber};
 
 /// A place in a file.
 #[derive(Clone, Copy, Drop)]
-pub struct Place<'a> {
+pub struct NoticePlace<'a> {
     /// the file's path, as the command line has it
     pub path: &'a str,
     pub line: LineNumber,
@@ -18,7 +18,7 @@ pub struct Notice<'a> {
     pub code: Code,
     /// the line that the program writes to the error stream, without its end
     pub line: &'a [u8],
-    pub place: Option<Place<'a>>,
+    pub place: Option<NoticePlace<'a>>,
     /// the text of the file in which the place is; empty if it was not kept
     pub text: &'a [u8],
     /// the path of the file at which SARIF shows a refusal that has no place: build servers drop results without one

@@ -1,7 +1,7 @@
 // Where a finding is: the file, and the region of its line.
 
 use crate::hash::HashedLine;
-use crate::notice::Place;
+use crate::notice::NoticePlace;
 use crate::path::{is_absolute, uri};
 use bstr::ByteSlice;
 use mlk_excerpts::{character_column, token_at};
@@ -34,7 +34,7 @@ fn columns(line: &[u8], column: Column) -> (usize, usize) {
 
 fn region_value(
     alloc: Global,
-    place: &Place<'_>,
+    place: &NoticePlace<'_>,
     line: Option<HashedLine<'_>>,
 ) -> Result<Value, AllocError> {
     let (start, end) = match (place.column, line) {
@@ -56,7 +56,7 @@ fn region_value(
 /// is known in characters.
 pub(crate) fn physical_value(
     alloc: Global,
-    place: &Place<'_>,
+    place: &NoticePlace<'_>,
     line: Option<HashedLine<'_>>,
 ) -> Result<Value, AllocError> {
     let artifact = artifact_value(alloc, place.path)?;

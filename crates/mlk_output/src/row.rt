@@ -9,7 +9,7 @@ use std::collections::BTreeMap;
 
 /// What a report is about: the routines of a program, the path and the text of the file of each, in their order, and the rule file.
 #[derive(Clone, Copy, Drop)]
-pub struct Inputs<'a> {
+pub struct ReportSources<'a> {
     pub routines: &'a [Routine],
     pub paths: &'a [&'a str],
     /// the path of the rule file
@@ -44,7 +44,7 @@ impl RoutineNumbers {
     }
 }
 
-impl<'a> Inputs<'a> {
+impl<'a> ReportSources<'a> {
     /// The path of the file of the routine of this number; empty if there is no such routine.
     pub(crate) fn path_at(&self, number: usize) -> &'a str {
         match self.paths.get(number) {

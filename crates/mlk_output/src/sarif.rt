@@ -10,9 +10,9 @@ use crate::gap::file_of;
 use crate::hash::{HashedLine, HashedLines, ProgramLines};
 use crate::hazard::hazard_is_what;
 use crate::json::behind_value;
-use crate::notice::{Notice, Place};
+use crate::notice::{Notice, NoticePlace};
 use crate::region::{ROOT, file_value, physical_value};
-use crate::row::{Inputs, RoutineNumbers};
+use crate::row::{ReportSources, RoutineNumbers};
 use crate::rule::{all_rules_values, rule_id, rules_values};
 use crate::story::{Findings, story_line};
 use mlk_code_pages::page_of;
@@ -45,12 +45,12 @@ fn fault_message(alloc: Global, code: Code, story: Option<&Story>) -> Result<Vec
 
 fn step_of<'a>(
     alloc: Global,
-    inputs: &Inputs<'a>,
+    inputs: &ReportSources<'a>,
     point: &WayPoint,
 ) -> Result<WayStep<'a>, AllocError> {
     let message = Vec::from_slice(alloc, point.act.as_slice())?;
     Ok(WayStep {
-        place: Place {
+        place: NoticePlace {
             path: inputs.path(point.entry),
             line: point.fault.line,
             column: Some(point.fault.column),
@@ -62,7 +62,7 @@ fn step_of<'a>(
 // The way from a fault to the place behind it: the calls, and that place.
 fn way_of<'a>(
     alloc: Global,
-    inputs: &Inputs<'a>,
+    inputs: &ReportSources<'a>,
     story: Option<&Story>,
 ) -> Result<Vec<WayStep<'a>>, AllocError> {
     let mut way = Vec::new(alloc);
@@ -79,7 +79,7 @@ fn way_of<'a>(
 // The result of a fault, a row of a report.
 fn fault_value<'a>(
     alloc: Global,
-    inputs: &Inputs<'a>,
+    inputs: &ReportSources<'a>,
     row: &Row,
     story: Option<&Story>,
     lines: &mut ProgramLines<'a>,
@@ -95,7 +95,7 @@ fn fault_value<'a>(
         rule,
         level: "error",
         message,
-        place: Place {
+        place: NoticePlace {
             path: inputs.path(row.entry),
             line: row.fault.line,
             column: Some(row.fault.column),
@@ -112,7 +112,7 @@ fn fault_value<'a>(
 // A result for each fault.
 fn fault_values<'a>(
     alloc: Global,
-    inputs: &Inputs<'a>,
+    inputs: &ReportSources<'a>,
     findings: &Findings<'_>,
     lines: &mut ProgramLines<'a>,
 ) -> Result<Vec<Value>, AllocError>
@@ -132,7 +132,7 @@ fn fault_values<'a>(
 // The result of a hazard.
 fn hazard_value<'a>(
     alloc: Global,
-    inputs: &Inputs<'a>,
+    inputs: &ReportSources<'a>,
     numbers: &RoutineNumbers,
     at: &HazardAt<'_>,
     lines: &mut ProgramLines<'a>,
@@ -149,7 +149,7 @@ fn hazard_value<'a>(
         rule,
         level: "warning",
         message,
-        place: Place {
+        place: NoticePlace {
             path: inputs.path_at(number),
             line: at.position.line,
             column: Some(at.position.column),
@@ -166,7 +166,7 @@ fn hazard_value<'a>(
 // Adds a result for each hazard.
 fn add_hazards<'a>(
     alloc: Global,
-    inputs: &Inputs<'a>,
+    inputs: &ReportSources<'a>,
     hazards: &[HazardAt<'_>],
     lines: &mut ProgramLines<'a>,
     values: &mut Vec<Value>,
@@ -185,7 +185,7 @@ fn add_hazards<'a>(
 // The result of a gap.
 fn gap_result<'a>(
     alloc: Global,
-    inputs: &Inputs<'a>,
+    inputs: &ReportSources<'a>,
     numbers: &RoutineNumbers,
     gap: &Gap<'_>,
     lines: &mut ProgramLines<'a>,
@@ -201,7 +201,7 @@ fn gap_result<'a>(
         rule,
         level: "warning",
         message,
-        place: Place {
+        place: NoticePlace {
             path: file.path,
             line: file.line,
             column: None,
@@ -218,7 +218,7 @@ fn gap_result<'a>(
 // Adds a result for each gap.
 fn add_gaps<'a>(
     alloc: Global,
-    inputs: &Inputs<'a>,
+    inputs: &ReportSources<'a>,
     gaps: &[Gap<'_>],
     lines: &mut ProgramLines<'a>,
     values: &mut Vec<Value>,
@@ -279,7 +279,7 @@ fn invocation_value(alloc: Global, results: usize) -> Result<Value, AllocError> 
 // Adds the properties of a run: the faults behind those of the report, which are no results, and how much the report is about.
 fn add_properties(
     alloc: Global,
-    inputs: &Inputs<'_>,
+    inputs: &ReportSources<'_>,
     findings: &Findings<'_>,
     run: &mut Members,
 ) -> Result<(), AllocError> {
@@ -303,7 +303,7 @@ fn add_properties(
 /// reported. The faults behind these are no results, but a property of the run, as is how much the report is about.
 pub fn report_sarif(
     alloc: Global,
-    inputs: &Inputs<'_>,
+    inputs: &ReportSources<'_>,
     findings: &Findings<'_>,
 ) -> Result<String, AllocError>
     ensures { IfOk result (λ text. IsSarifReport ((length findings.now.report.now + length findings.now.hazards.now) + length findings.now.gaps.now) (string_bytes text)) }

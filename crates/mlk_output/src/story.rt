@@ -1,6 +1,6 @@
 // What is known of a fault, beside its code and its place.
 
-use crate::row::Inputs;
+use crate::row::ReportSources;
 use mlk_coverage::{Coverage, Gap};
 use mlk_explain::{FaultsBehind, OriginStory, Story, WayPoint};
 use mlk_hazards::HazardAt;
@@ -51,14 +51,18 @@ pub(crate) fn texts_value(alloc: Global, texts: &[Vec<u8>]) -> Result<Value, All
 }
 
 // A member's text.
-fn copied<'a>(alloc: Global, text: &[u8]) -> Result<Field<'a>, AllocError> {
+fn text_field<'a>(alloc: Global, text: &[u8]) -> Result<Field<'a>, AllocError> {
     Ok(Field::Made(Vec::from_slice(alloc, text)?))
 }
 
 // A place on the way to a fault.
-fn point_value(alloc: Global, inputs: &Inputs<'_>, point: &WayPoint) -> Result<Value, AllocError> {
+fn point_value(
+    alloc: Global,
+    inputs: &ReportSources<'_>,
+    point: &WayPoint,
+) -> Result<Value, AllocError> {
     let entry = inputs.entry(alloc, point.entry)?;
-    let act = copied(alloc, point.act.as_slice())?;
+    let act = text_field(alloc, point.act.as_slice())?;
     let column = point.fault.column.number() as usize;
     let members = vec![in alloc;
         ("entry", Field::Made(entry)),
@@ -72,7 +76,7 @@ fn point_value(alloc: Global, inputs: &Inputs<'_>, point: &WayPoint) -> Result<V
 
 fn calls_value(
     alloc: Global,
-    inputs: &Inputs<'_>,
+    inputs: &ReportSources<'_>,
     calls: &[WayPoint],
 ) -> Result<Value, AllocError> {
     let mut values = Vec::with_capacity(alloc, calls.len())?;
@@ -84,7 +88,7 @@ fn calls_value(
 
 fn add_origin(
     alloc: Global,
-    inputs: &Inputs<'_>,
+    inputs: &ReportSources<'_>,
     origin: &OriginStory,
     members: &mut Fields<'_>,
 ) -> Result<(), AllocError> {
@@ -102,7 +106,7 @@ fn add_text(
     members: &mut Fields<'_>,
 ) -> Result<(), AllocError> {
     if let Some(text) = text {
-        members.push((name, copied(alloc, text.as_slice())?))?;
+        members.push((name, text_field(alloc, text.as_slice())?))?;
     }
     Ok(())
 }
@@ -111,11 +115,11 @@ fn add_text(
 /// needed that callers hold; `rules` and `help`; `origin`, the place behind the fault, and `calls`, those on the way to it.
 pub(crate) fn add_story(
     alloc: Global,
-    inputs: &Inputs<'_>,
+    inputs: &ReportSources<'_>,
     story: &Story,
     members: &mut Fields<'_>,
 ) -> Result<(), AllocError> {
-    members.push(("act", copied(alloc, story.act.as_slice())?))?;
+    members.push(("act", text_field(alloc, story.act.as_slice())?))?;
     add_text(alloc, "held", &story.held, members)?;
     add_text(alloc, "neededBy", &story.needed_by, members)?;
     let rules = texts_value(alloc, story.rules.as_slice())?;

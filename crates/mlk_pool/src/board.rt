@@ -5,7 +5,7 @@ ghost use Rattle.mlk_syntax.specs.Views.{routine_of};
 ghost use Rattle.mlk_pool.specs.Given.{AreInputs, tasks_of};
 
 use crate::inputs::Inputs;
-use crate::tasks::{certified, entries_of};
+use crate::tasks::{certified_entries, entries_of};
 use mlk_calls::Entries;
 use mlk_cert::Certificate;
 use mlk_program::{EntryId, Program};
@@ -41,7 +41,7 @@ pub enum Event {
 
 /// A task that a worker has claimed.
 #[derive(Drop)]
-pub struct Claim<N: Inputs> {
+pub struct Ticket<N: Inputs> {
     worker: usize,
     task: usize,
     entry: EntryId,
@@ -49,7 +49,7 @@ pub struct Claim<N: Inputs> {
     pub ghost is_task: { slice_get (tasks_of N.given) task ≡ Some entry },
 }
 
-impl<N: Inputs> Claim<N> {
+impl<N: Inputs> Ticket<N> {
     /// Which of the tasks it is, counted from 0. It takes no memory.
     pub fn task(&self) -> usize
         ensures { result ≡ self.now.task }
@@ -112,7 +112,7 @@ impl<N: Inputs> Board<N> {
     {
         let known = Entries::of(alloc, program, rules, certificate.blocks())?;
         let entries = entries_of(alloc, program)?;
-        Board::of(alloc, certified(alloc, &known, entries.as_slice())?)
+        Board::of(alloc, certified_entries(alloc, &known, entries.as_slice())?)
     }
 
     /// A board of these tasks.
@@ -134,7 +134,7 @@ impl<N: Inputs> Board<N> {
     }
 
     /// The next task; none where every task is claimed. It takes no memory.
-    pub fn claim(&mut self, worker: usize) -> Option<Claim<N>>
+    pub fn claim(&mut self, worker: usize) -> Option<Ticket<N>>
         requires { worker < N.given.workers }
         ensures none { IsNone result ↔ AreAllClaimed (map stage_of self.old.slots) }
         ensures stays { IfNone result (self.new ≡ self.old) }
@@ -150,7 +150,7 @@ impl<N: Inputs> Board<N> {
         self.slots[task] = Slot::Claimed(worker);
         self.log.push_reserved(Event::Claim { worker, task });
         self.next = task + 1;
-        Some(Claim {
+        Some(Ticket {
             worker,
             task,
             entry,
@@ -160,7 +160,7 @@ impl<N: Inputs> Board<N> {
 
     /// Whether the claim came from this board and is not spent: its task is claimed by its worker and not posted. It takes
     /// no memory.
-    pub fn has_claimed(&self, claim: &Claim<N>) -> bool
+    pub fn has_claimed(&self, claim: &Ticket<N>) -> bool
         ensures { IsTrue result ↔ (slice_get self.now.slots claim.now.task ≡ Some (Claimed claim.now.worker)) }
     {
         match self.slots.get(claim.task) {
@@ -170,13 +170,13 @@ impl<N: Inputs> Board<N> {
     }
 
     /// Spends a claim that came from this board, and keeps the outcome of its task. It takes no memory.
-    pub fn post(&mut self, claim: Claim<N>, outcome: Outcome)
+    pub fn post(&mut self, claim: Ticket<N>, outcome: Outcome)
         requires claimed { slice_get self.old.slots claim.task ≡ Some (Claimed claim.worker) }
         requires outcome { (entry : EntryId) → slice_get (tasks_of N.given) claim.task ≡ Some entry → IsOutcomeOf N.given entry outcome }
         ensures slots { self.new.slots ≡ slice_set self.old.slots claim.task (Posted claim.worker outcome) }
         ensures log { self.new.log ≡ self.old.log ++ Posting claim.worker claim.task ∷ [] }
     {
-        let Claim {
+        let Ticket {
             worker,
             task,
             entry: _,

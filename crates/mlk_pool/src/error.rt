@@ -88,7 +88,7 @@ impl From<Failure<PoolFault>> for CheckError {
 }
 
 /// Reports `entry`, which is not in the program (901).
-pub(crate) fn missing(alloc: Global, entry: &[u8]) -> CheckError
+pub(crate) fn entry_missing(alloc: Global, entry: &[u8]) -> CheckError
     ensures { ReportsEntry entry.now result }
 {
     match Vec::from_slice(alloc, entry) {

@@ -12,5 +12,5 @@ pub trait Gate {
         ensures { is_open self.now → IsTrue result };
 
     /// The worker has posted the task.
-    fn posted(&self, worker: usize, task: usize);
+    fn on_post(&self, worker: usize, task: usize);
 }

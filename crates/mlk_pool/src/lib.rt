@@ -16,7 +16,7 @@ mod text;
 mod verification;
 mod worker;
 
-pub use board::{Board, Claim, Event, Outcome, Slot};
+pub use board::{Board, Event, Outcome, Slot, Ticket};
 pub use error::CheckError;
 pub use gate::Gate;
 pub use inputs::Inputs;
@@ -26,5 +26,5 @@ pub use report::{MOST_WORKERS, PoolFault, report_by};
 pub use shared::SharedBoard;
 pub use source::Source;
 pub use text::ReportText;
-pub use verification::{Report, verify, verify_program};
+pub use verification::{ProgramReport, verify, verify_program};
 pub use worker::work;

@@ -36,7 +36,7 @@ fn least_share<R: Threads>(rt: &R, sources: &[Source<'_>]) -> usize {
 }
 
 /// What a reader answers to each of these texts, in their order.
-pub(crate) fn answers<R: Threads + Sync>(
+pub(crate) fn reader_answers<R: Threads + Sync>(
     rt: &R,
     alloc: Global,
     sources: &[Source<'_>],
@@ -80,6 +80,6 @@ pub(crate) fn read_all<R: Threads + Sync>(
     ensures ok { IfOk result (λ r. AreRead sources.now (map routine_of r.items)) }
     ensures refused { IfErr result (RefusesFirst sources.now) }
 {
-    let answers = answers(rt, alloc, sources)?;
+    let answers = reader_answers(rt, alloc, sources)?;
     all_read(alloc, answers)
 }

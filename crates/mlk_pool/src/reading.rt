@@ -7,7 +7,7 @@ ghost use Rattle.mlk_pool.specs.Answers.{IsAnswer};
 ghost use Rattle.mlk_pool.specs.Reading.{AreRead, RefusesFirst};
 ghost use Rattle.mlk_pool.specs.declared.source.Source.{Source};
 
-use crate::readers::{answers, read_all};
+use crate::readers::{read_all, reader_answers};
 use crate::source::Source;
 use mlk_syntax::Routine;
 use mlk_text::{Failure, Fault};
@@ -69,7 +69,7 @@ pub fn read_each<R: Threads + Sync, W: Watch>(
     while done < count {
         runner.watch.see(Stage::Reading, done, count);
         let next = next_texts(sources, done);
-        let mut read = answers(runner.rt, runner.alloc, next)?;
+        let mut read = reader_answers(runner.rt, runner.alloc, next)?;
         found.append(&mut read)?;
         done += next.len();
     }

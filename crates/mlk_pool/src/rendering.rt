@@ -7,7 +7,7 @@ ghost use Rattle.mlk_program.specs.Entries.{label_of, text_with};
 ghost use Rattle.mlk_pool.specs.Texts.{entry_text, fault_text, row_line, row_lines, last_line, report_text};
 
 use crate::text::ReportText;
-use crate::verification::Report;
+use crate::verification::ProgramReport;
 use mlk_program::EntryId;
 use mlk_syntax::{Line, Routine};
 use mlk_text::Failure;
@@ -110,20 +110,20 @@ pub fn report_text(
 /// else.
 pub fn render<W: Write>(
     alloc: Global,
-    report: &Report,
+    report: &ProgramReport,
     writer: &mut W,
 ) -> Result<(), Failure<io::Error>>
     ensures { OnOk result (Appends (W.contents writer.old) (W.contents writer.new)
         (report_text (map routine_of report.now.routines.items) report.now.rows)) }
 {
     let text = report_text(alloc, report.routines.as_slice(), &report.rows)?;
-    match written(&text, writer) {
+    match write_text(&text, writer) {
         Ok(()) => Ok(()),
         Err(error) => Err(Failure::Refused(error)),
     }
 }
 
-fn written<W: Write>(text: &ReportText, writer: &mut W) -> io::Result<()>
+fn write_text<W: Write>(text: &ReportText, writer: &mut W) -> io::Result<()>
     ensures { OnOk result (Appends (W.contents writer.old) (W.contents writer.new) text.now) }
 {
     writer.write_all(text.as_bytes())?;

@@ -16,7 +16,7 @@ use crate::board::{Board, Outcome, Slot};
 use crate::gate::Gate;
 use crate::inputs::Inputs;
 use crate::shared::SharedBoard;
-use crate::tasks::{certified, entries_of, is_certified};
+use crate::tasks::{certified_entries, entries_of, is_certified};
 use crate::worker::run_workers;
 use mlk_calls::Entries;
 use mlk_cert::Certificate;
@@ -93,7 +93,7 @@ fn next_slot(known: &Entries<'_>, entry: EntryId, slots: &mut VecDeque<Slot>) ->
 }
 
 // The report after all workers have ended.
-fn finished<N: Inputs, G: Gate>(
+fn collect_report<N: Inputs, G: Gate>(
     alloc: Global,
     checks: &Checks<'_>,
     entries: &[EntryId],
@@ -150,13 +150,13 @@ fn report_with<N: Inputs + Send + Sync, G: Gate + Sync, W: Watch, R: Threads + W
 {
     let alloc = runner.alloc;
     let entries = entries_of(alloc, checks.program)?;
-    let tasks = certified(alloc, checks.entries, entries.as_slice())?;
+    let tasks = certified_entries(alloc, checks.entries, entries.as_slice())?;
     let depth = depth_for(tasks.len(), workers);
     let board: SharedBoard<N> = SharedBoard::new(Board::of(alloc, tasks)?);
     let (rt, watch) = (runner.rt, runner.watch);
     run_workers(rt, alloc, checks, &board, gate, watch, workers, depth);
     let slots = board.into_board().into_slots();
-    finished::<N, G>(alloc, checks, entries.as_slice(), slots, gate)
+    collect_report::<N, G>(alloc, checks, entries.as_slice(), slots, gate)
 }
 
 // The report of a run that is given these.

@@ -4,7 +4,7 @@ ghost use Rattle.std.specs.Prelude.{◌≡◌, ◌<◌, Some, slice_get};
 ghost use Rattle.mlk_pool.specs.Given.{tasks_of};
 ghost use Rattle.mlk_pool.specs.Boards.{IsOutcomeOf};
 
-use crate::board::{Board, Claim, Outcome};
+use crate::board::{Board, Outcome, Ticket};
 use crate::inputs::Inputs;
 use mlk_program::EntryId;
 use std::sync::{Mutex, Wait};
@@ -31,7 +31,7 @@ impl<N: Inputs> SharedBoard<N> {
     }
 
     /// The next task; none where every task is claimed.
-    pub fn claim(&self, rt: &impl Wait, worker: usize) -> Option<Claim<N>>
+    pub fn claim(&self, rt: &impl Wait, worker: usize) -> Option<Ticket<N>>
         requires { worker < N.given.workers }
     {
         self.board.lock(rt).claim(worker)
@@ -39,7 +39,7 @@ impl<N: Inputs> SharedBoard<N> {
 
     /// Posts what came of a claim from this board. Where the claim did not come from it, or is spent, the board stays as it
     /// was.
-    pub fn post(&self, rt: &impl Wait, claim: Claim<N>, outcome: Outcome)
+    pub fn post(&self, rt: &impl Wait, claim: Ticket<N>, outcome: Outcome)
         requires { (entry : EntryId) → slice_get (tasks_of N.given) claim.task ≡ Some entry → IsOutcomeOf N.given entry outcome }
     {
         let mut board = self.board.lock(rt);

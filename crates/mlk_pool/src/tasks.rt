@@ -53,7 +53,7 @@ pub(crate) fn is_certified(known: &Entries<'_>, entry: EntryId) -> bool
 }
 
 /// The certified ones of these entries.
-pub(crate) fn certified(
+pub(crate) fn certified_entries(
     alloc: Global,
     known: &Entries<'_>,
     entries: &[EntryId],

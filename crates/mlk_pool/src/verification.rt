@@ -7,7 +7,7 @@ ghost use Rattle.mlk_pool.specs.Headline.{IsReportBy, Verified, IsUnreportedBy, 
 ghost use Rattle.mlk_pool.specs.Refusals.{AreAllowed};
 ghost use Rattle.mlk_pool.specs.Stages.{IsReportOfTrees, IsUnreportedOfTrees};
 
-use crate::error::{CheckError, missing};
+use crate::error::{CheckError, entry_missing};
 use crate::gate::Gate;
 use crate::reading::read_routines;
 use crate::report::report_by;
@@ -25,7 +25,7 @@ use std::thread::Threads;
 
 /// A report on the texts of a program: its routines, and the faults of its entries.
 #[derive(Drop)]
-pub struct Report {
+pub struct ProgramReport {
     pub routines: Vec<Routine>,
     pub rows: mlk_walk::Report,
 }
@@ -48,7 +48,7 @@ pub fn verify_program<G: Gate + Sync, W: Watch, R: Threads + Wait + Sync>(
     ensures refused { IfErr result (IsUnreportedBy (G.is_open gate.now) workers (map routine_of program.now) rules.now certificate.now) }
 {
     if let Some(entry) = missing_entry(program, rules, certificate) {
-        return Err(missing(runner.alloc, entry));
+        return Err(entry_missing(runner.alloc, entry));
     }
     let rows = report_by(runner, program, rules, certificate, workers, gate)?;
     Ok(rows)
@@ -94,7 +94,7 @@ pub fn verify<G: Gate + Sync, W: Watch, R: Threads + Wait + Sync>(
     workers: usize,
     gate: &G,
     watch: &W,
-) -> Result<Report, CheckError>
+) -> Result<ProgramReport, CheckError>
     ensures ok { IfOk result (λ r. Verified sources.now rules.now certificate.now (map routine_of r.routines.items) r.rows) }
     ensures allowed { IfOk result (λ _. AreAllowed workers) }
     ensures refused { IfErr result (IsUnverified (G.is_open gate.now) workers sources.now rules.now certificate.now) }
@@ -103,5 +103,5 @@ pub fn verify<G: Gate + Sync, W: Watch, R: Threads + Wait + Sync>(
     let routines = read_routines(&runner, sources)?;
     let trees = routines.as_slice();
     let rows = rows_of_routines(&runner, trees, rules, certificate, workers, gate)?;
-    Ok(Report { routines, rows })
+    Ok(ProgramReport { routines, rows })
 }

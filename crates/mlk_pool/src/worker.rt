@@ -5,7 +5,7 @@ ghost use Rattle.mlk_syntax.specs.Views.{routine_of};
 ghost use Rattle.mlk_pool.specs.Given.{AreInputs, AreKnown, tasks_of};
 ghost use Rattle.mlk_pool.specs.Boards.{IsOutcomeOf};
 
-use crate::board::{Claim, Outcome};
+use crate::board::{Outcome, Ticket};
 use crate::gate::Gate;
 use crate::inputs::Inputs;
 use crate::shared::SharedBoard;
@@ -21,11 +21,11 @@ use std::thread;
 use std::thread::Threads;
 
 // What the walk of a claimed task gives.
-fn walked<N: Inputs, P: Pieces + Sync, R: Threads + Sync>(
+fn walk_task<N: Inputs, P: Pieces + Sync, R: Threads + Sync>(
     rt: &R,
     alloc: Global,
     checks: &Checks<'_>,
-    claim: &Claim<N>,
+    claim: &Ticket<N>,
     depth: u32,
     pieces: &P,
 ) -> Outcome
@@ -70,12 +70,12 @@ fn work_on<N: Inputs, G: Gate, W: Watch, P: Pieces + Sync, R: Threads + Wait + S
         let task = claim.task();
         watch.see(Stage::Checking, task, count);
         if gate.pass(worker.number, task) {
-            let outcome = walked(rt, alloc, checks, &claim, worker.depth, pieces);
+            let outcome = walk_task(rt, alloc, checks, &claim, worker.depth, pieces);
             board.post(rt, claim, outcome);
         } else {
             board.post(rt, claim, Outcome::Shut);
         }
-        gate.posted(worker.number, task);
+        gate.on_post(worker.number, task);
     }
 }
 

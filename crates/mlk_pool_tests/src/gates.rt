@@ -15,7 +15,7 @@ impl Gate for Open {
         true
     }
 
-    fn posted(&self, _worker: usize, _task: usize) {}
+    fn on_post(&self, _worker: usize, _task: usize) {}
 }
 
 // How often the gate looks before it gives up.
@@ -122,7 +122,7 @@ impl Gate for Turnstile {
         }
     }
 
-    fn posted(&self, _worker: usize, task: usize) {
+    fn on_post(&self, _worker: usize, task: usize) {
         count(&self.posted, task);
     }
 }

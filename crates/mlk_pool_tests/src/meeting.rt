@@ -47,7 +47,7 @@ impl Meeting {
 }
 
 impl Pieces for Meeting {
-    fn begun(&self, line: LineNumber) {
+    fn on_begin(&self, line: LineNumber) {
         if line == self.lines.0 {
             self.wait(&self.first, &self.second);
         } else if line == self.lines.1 {

@@ -3,7 +3,7 @@
 use crate::gates::{EACH_ONCE, Holds, Turnstile};
 use crate::given::{TWELVE, TWELVE_RULES, Trial, passes};
 use mlk_cert::Certificate;
-use mlk_pool::{CheckError, Report, Source, read_routines, render, report_by, verify};
+use mlk_pool::{CheckError, ProgramReport, Source, read_routines, render, report_by, verify};
 use mlk_program::Program;
 use mlk_rules::Rules;
 use mlk_text::Failure;
@@ -65,7 +65,7 @@ impl Run {
 }
 
 // Whether this is the report, by its whole text; a writer without room for it is no error of memory.
-fn is_the_report(alloc: Global, report: &Report) -> bool {
+fn is_the_report(alloc: Global, report: &ProgramReport) -> bool {
     let mut written: Vec<u8> = Vec::new(alloc);
     let mut short = Cursor::new([0u8; 8]);
     render(alloc, report, &mut written).is_ok()
@@ -100,7 +100,7 @@ pub(crate) fn is_verified<R: Threads + Wait + Sync>(
         Err(CheckError::GateShut(task)) => matches!(run.end, End::Shut(least) if least == *task),
         Err(_) => false,
     };
-    Some(is_so && gate.passed() == run.passed && gate.posted() == run.posted)
+    Some(is_so && gate.passed() == run.passed && gate.on_post() == run.posted)
 }
 
 #[test]
@@ -162,7 +162,7 @@ pub(crate) fn is_reported<R: Threads + Wait + Sync>(
     let watch = &Unwatched;
     let runner = Runner { rt, alloc, watch };
     let report = report_by(&runner, program, rules, certificate, 2, &gate).ok()?;
-    Some(report.rows().len() == 5 && gate.passed() == EACH_ONCE && gate.posted() == EACH_ONCE)
+    Some(report.rows().len() == 5 && gate.passed() == EACH_ONCE && gate.on_post() == EACH_ONCE)
 }
 
 #[test]

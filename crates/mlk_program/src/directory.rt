@@ -247,7 +247,7 @@ impl<'a> Directory<'a> {
 
     // How many lines of `entry` follow its first, or `None`.
     #[tactic(auto, using(crate::proofs::EntryLines::later_some, crate::proofs::EntryLines::later_none))]
-    fn later(&self, entry: EntryId) -> Option<usize>
+    fn later_line_count(&self, entry: EntryId) -> Option<usize>
         ensures { result ≡ later_of self.now entry }
     {
         let Some(counts) = item(self.later.as_slice(), entry.routine) else {
@@ -271,7 +271,7 @@ impl<'a> Directory<'a> {
         let Some(routine) = item(self.routines, entry.routine) else {
             return &[];
         };
-        match self.later(entry) {
+        match self.later_line_count(entry) {
             Some(later) => first_lines(lines_after(routine.lines.as_slice(), entry.line), later),
             None => &[],
         }
@@ -306,7 +306,7 @@ impl<'a> Directory<'a> {
         let Some((_, others)) = left.split_first() else {
             return none;
         };
-        let Some(later) = self.later(entry) else {
+        let Some(later) = self.later_line_count(entry) else {
             return none;
         };
         RoutinePart {

@@ -56,7 +56,7 @@ fn is_by_reference(actual: &Actual) -> bool
 }
 
 // Whether an actual list passes a name by reference.
-fn passes(given: &[Actual]) -> bool
+fn any_by_reference(given: &[Actual]) -> bool
     ensures { result ≡ list_any (λ a. is_by_reference (actual_of a)) given.now }
 {
     given.iter().any(|actual| is_by_reference(actual))
@@ -99,7 +99,7 @@ impl<'a> Frames<'a> {
     }
 
     // The number of lines from the last that passes a name in a part on, or `None` if none does.
-    fn last(&self, key: &NameAt<'_>) -> Option<usize>
+    fn lines_from_last(&self, key: &NameAt<'_>) -> Option<usize>
         ensures { result ≡ lines_from_last (key_of key.now) self.now.1 }
     {
         self.passed.get(key).copied()
@@ -126,7 +126,7 @@ impl<'a> Frames<'a> {
             place: part.past,
             name,
         };
-        match self.last(&key) {
+        match self.lines_from_last(&key) {
             Some(last) => last <= part.left,
             None => false,
         }
@@ -260,7 +260,7 @@ fn add_call<'a>(
     let Some(given) = site.actuals else {
         return Ok(());
     };
-    if !passes(given.as_slice()) {
+    if !any_by_reference(given.as_slice()) {
         return Ok(());
     }
     pass_all(frames, part, given.as_slice())?;

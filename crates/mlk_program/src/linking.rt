@@ -99,7 +99,7 @@ struct At<'a> {
 }
 
 // The line that `callee` names, or `None`.
-fn called<'a>(directory: &Directory<'a>, own: usize, callee: &Callee) -> Option<&'a Line>
+fn called_line<'a>(directory: &Directory<'a>, own: usize, callee: &Callee) -> Option<&'a Line>
     ensures { option_map (λ l. formals_of (line_of l.now).0) result
         ≡ called_formals (trees directory.now) own callee.now }
 {
@@ -122,7 +122,7 @@ fn fitting_formals<'a>(
     ensures refused { IfErr result (λ e. IfRefused e (IsCallFault (trees directory.now)
         (record { routine = at.now.routine; line = at.now.line; call = site_of site.now }))) }
 {
-    let Some(line) = called(directory, at.routine, site.callee) else {
+    let Some(line) = called_line(directory, at.routine, site.callee) else {
         return Err(refusal(alloc, Code::UnknownLabel, at.name, at.line, site.column));
     };
     if !takes(&line.formals, site.actuals) {
@@ -132,7 +132,7 @@ fn fitting_formals<'a>(
 }
 
 // Adds the names that the actual list shares with `formals`.
-fn share<'a>(
+fn add_shared<'a>(
     shared: &mut SharedNames<'a>,
     formals: &'a Rare<List<Name>>,
     actuals: &'a Option<Vec<Actual>>,
@@ -165,7 +165,7 @@ fn link_call<'a>(
         (record { routine = at.now.routine; line = at.now.line; call = site_of site.now }))) }
 {
     let formals = fitting_formals(alloc, directory, at, site)?;
-    share(shared, formals, site.actuals)?;
+    add_shared(shared, formals, site.actuals)?;
     Ok(())
 }
 

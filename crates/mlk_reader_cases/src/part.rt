@@ -9,7 +9,7 @@ use mlk_expr::{
     Actual, Allows, Callee, Expr, Passing, read_actuals, read_actuals_where, read_callee,
     read_expr, read_expr_where, read_label, read_name, read_ref, read_ref_where,
 };
-use mlk_numbers::whole;
+use mlk_numbers::whole_number;
 use mlk_text::{Failure, Fault, Name};
 use std::alloc::Global;
 use std::io::{self, ErrorKind, Write};
@@ -63,7 +63,7 @@ fn end_of(alloc: Global, reader: &[u8], text: &[u8], at: usize) -> Result<usize,
 fn place_of(digits: &[u8], text: &[u8]) -> usize
     ensures { result ≤ length text.now }
 {
-    match whole(digits) {
+    match whole_number(digits) {
         Some(place) => usize::try_from(place).unwrap_or(0).min(text.len()),
         None => 0,
     }

@@ -3,9 +3,9 @@
 use crate::names::{Words, reference, term};
 use mlk_names::{Extent, LockName, Root};
 use mlk_rules_file::{
-    Cover, Element, Family, Pattern, ReadPolicy, RuleLists, Rules, Template, TemplatePart, covered,
-    covered_apart, lock_of_node, marked_alike, one_answer, one_rank, read_rules, share_pattern,
-    surely_lies,
+    Cover, Element, Family, Pattern, ReadPolicy, RuleLists, Rules, Template, TemplatePart,
+    check_reference, covered_apart, lock_of_node, marked_alike, one_answer, one_rank, read_rules,
+    share_pattern, surely_lies,
 };
 use mlk_text::{List, Name, Subscripts};
 use std::alloc::{AllocError, Global};
@@ -91,7 +91,7 @@ fn answer(alloc: Global, held: Words<'_>) -> Result<u16, Fail> {
     let rules = read_rules(alloc, ACCOUNTS)?;
     let reference = reference(alloc, &[b"ACCT", b"?"], Extent::Node)?;
     let held = [term(alloc, held)?];
-    match covered(&rules, &reference, &held) {
+    match check_reference(&rules, &reference, &held) {
         Ok(()) => Ok(0),
         Err(code) => Ok(code.number()),
     }

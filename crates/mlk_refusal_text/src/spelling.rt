@@ -34,7 +34,7 @@ fn wrong_at(at: usize, what: &'static str) -> Option<Slip> {
 }
 
 // `slip`, in a part of the text that begins at `start`.
-fn moved(start: usize, slip: Option<Slip>) -> Option<Slip> {
+fn shift_slip(start: usize, slip: Option<Slip>) -> Option<Slip> {
     match slip {
         Some(slip) => Some(Slip {
             at: start.saturating_add(slip.at),
@@ -81,9 +81,9 @@ fn number_slip(text: &[u8]) -> Option<Slip> {
         .position(|byte| !byte.is_ascii_digit() && *byte != b'.');
     match wrong {
         Some(at) if matches!(digits.get(at), Some(b'E' | b'e')) => {
-            moved(sign, wrong_at(at, "a number has no exponent here"))
+            shift_slip(sign, wrong_at(at, "a number has no exponent here"))
         }
-        Some(at) => moved(sign, wrong_at(at, "a number has only digits and a point")),
+        Some(at) => shift_slip(sign, wrong_at(at, "a number has only digits and a point")),
         None => None,
     }
 }
@@ -226,7 +226,7 @@ impl<'a> Parts<'a> {
             return wrong_at(0, "a pattern begins with ^");
         }
         let (_, name) = split_at_most(self.name, carets);
-        if let Some(slip) = moved(carets, name_slip(name)) {
+        if let Some(slip) = shift_slip(carets, name_slip(name)) {
             return Some(slip);
         }
         match (self.list.first(), self.end) {
@@ -251,7 +251,7 @@ impl<'a> Parts<'a> {
                 return wrong_at(element.at, "a blank after the comma");
             }
             let is_last = place.saturating_add(1) == last;
-            if let Some(slip) = moved(element.at, element_slip(form, element.text, is_last)) {
+            if let Some(slip) = shift_slip(element.at, element_slip(form, element.text, is_last)) {
                 return Some(slip);
             }
         }
@@ -305,7 +305,7 @@ fn entry_slip(text: &[u8]) -> Option<Slip> {
     }
     let (name, rest) = split_name(routine);
     let start = caret.saturating_add(1);
-    if let Some(slip) = moved(start, name_slip(name)) {
+    if let Some(slip) = shift_slip(start, name_slip(name)) {
         return Some(slip);
     }
     if rest.is_empty() {

@@ -12,8 +12,8 @@ ghost use Rattle.mlk_syntax.specs.Trees.{Quit};
 
 use mlk_expr::Allows;
 use mlk_routine_arguments::{
-    Word, after, command_word, expression, first_argument, has, is_bare, is_command_end,
-    leaves_out, perhaps, refused, some,
+    Word, command_word, expr_after, expression, first_argument, has_byte, is_bare, is_command_end,
+    leaves_out, optional_arguments, refusal_at, required_arguments,
 };
 use mlk_syntax::{Action, Command, Expr};
 use mlk_text::{Code, Column, Failure, Fault, LeftOut};
@@ -32,7 +32,7 @@ fn condition(
     if !word.has_condition() {
         return Ok((None, at));
     }
-    after(alloc, b':', Allows::Everything, line, at)
+    expr_after(alloc, b':', Allows::Everything, line, at)
 }
 
 /// Checks that a command without arguments ends at `at`, and returns `at`.
@@ -43,25 +43,25 @@ fn no_arguments(alloc: Global, line: &[u8], at: usize) -> Result<usize, Failure<
     if is_bare(line, at) {
         return Ok(at);
     }
-    let space = if has(line, at, b' ') { 1 } else { 0 };
-    Err(refused(alloc, Code::Spacing, at + space))
+    let space = if has_byte(line, at, b' ') { 1 } else { 0 };
+    Err(refusal_at(alloc, Code::Spacing, at + space))
 }
 
 /// Reads the value of QUIT after one space: its expression, and the byte after it.
-fn returned(alloc: Global, line: &[u8], at: usize) -> Result<(Expr, usize), Failure<Fault>>
+fn returned_value(alloc: Global, line: &[u8], at: usize) -> Result<(Expr, usize), Failure<Fault>>
     requires { at ≤ length line.now }
     ensures { Told tree_of (λ n t. After 32 (λ k s. IsValue k t s) n) (λ t. StopEnds true) line.now at result }
 {
     let first = first_argument(alloc, line, at)?;
     let (value, next) = expression(alloc, Allows::Everything, line, first)?;
     if !is_command_end(line, next) {
-        return Err(refused(alloc, Code::Spacing, next));
+        return Err(refusal_at(alloc, Code::Spacing, next));
     }
     Ok((value, next))
 }
 
 // Few commands have a postconditional, and few QUITs a value, so these are boxed.
-fn boxed(alloc: Global, value: Expr) -> Result<Box<Expr>, AllocError>
+fn box_expr(alloc: Global, value: Expr) -> Result<Box<Expr>, AllocError>
     ensures { IfOk result (λ b. tree_of b.value ≡ tree_of value) }
 {
     Ok(Box::new(alloc, value)?)
@@ -117,8 +117,8 @@ fn quit_value(
     if !returns {
         return Err(no_value(alloc, line, at));
     }
-    let (value, next) = returned(alloc, line, at)?;
-    let kept = boxed(alloc, value)?;
+    let (value, next) = returned_value(alloc, line, at)?;
+    let kept = box_expr(alloc, value)?;
     Ok((Some(kept), next))
 }
 
@@ -153,30 +153,30 @@ fn action(
     ensures { Told action_of (IsActionOf word returns) ActionEnds line.now at result }
 {
     match word {
-        Word::Do => turned!(perhaps(alloc, line, at), Action::Do),
+        Word::Do => turned!(optional_arguments(alloc, line, at), Action::Do),
         Word::Else => Ok((Action::Else, no_arguments(alloc, line, at)?)),
         Word::Halt => Ok((Action::Halt, no_arguments(alloc, line, at)?)),
-        Word::Hang => turned!(some(alloc, line, at), Action::Hang),
-        Word::HaltOrHang => turned!(perhaps(alloc, line, at), halt_or_hang),
-        Word::If => turned!(perhaps(alloc, line, at), Action::If),
-        Word::Job => turned!(some(alloc, line, at), Action::Job),
-        Word::Kill => turned!(perhaps(alloc, line, at), Action::Kill),
-        Word::Lock => turned!(perhaps(alloc, line, at), Action::Lock),
-        Word::Merge => turned!(some(alloc, line, at), Action::Merge),
-        Word::New => turned!(perhaps(alloc, line, at), Action::New),
+        Word::Hang => turned!(required_arguments(alloc, line, at), Action::Hang),
+        Word::HaltOrHang => turned!(optional_arguments(alloc, line, at), halt_or_hang),
+        Word::If => turned!(optional_arguments(alloc, line, at), Action::If),
+        Word::Job => turned!(required_arguments(alloc, line, at), Action::Job),
+        Word::Kill => turned!(optional_arguments(alloc, line, at), Action::Kill),
+        Word::Lock => turned!(optional_arguments(alloc, line, at), Action::Lock),
+        Word::Merge => turned!(required_arguments(alloc, line, at), Action::Merge),
+        Word::New => turned!(optional_arguments(alloc, line, at), Action::New),
         Word::Quit => turned!(quit_value(alloc, returns, line, at), Action::Quit),
-        Word::Read => turned!(some(alloc, line, at), Action::Read),
-        Word::Set => turned!(some(alloc, line, at), Action::Set),
-        Word::Write => turned!(some(alloc, line, at), Action::Write),
+        Word::Read => turned!(required_arguments(alloc, line, at), Action::Read),
+        Word::Set => turned!(required_arguments(alloc, line, at), Action::Set),
+        Word::Write => turned!(required_arguments(alloc, line, at), Action::Write),
     }
 }
 
-fn boxed_if(alloc: Global, condition: Option<Expr>) -> Result<Option<Box<Expr>>, AllocError>
+fn box_if_some(alloc: Global, condition: Option<Expr>) -> Result<Option<Box<Expr>>, AllocError>
     ensures { IfOk result (λ o. option_map (λ b. tree_of b.value) o ≡ option_map tree_of condition) }
 {
     match condition {
         None => Ok(None),
-        Some(condition) => Ok(Some(boxed(alloc, condition)?)),
+        Some(condition) => Ok(Some(box_expr(alloc, condition)?)),
     }
 }
 
@@ -192,7 +192,7 @@ pub(crate) fn command(
 {
     let (word, next) = command_word(alloc, line, at)?;
     let (condition, next) = condition(alloc, word, line, next)?;
-    let condition = boxed_if(alloc, condition)?;
+    let condition = box_if_some(alloc, condition)?;
     let (action, next) = action(alloc, word, returns, line, next)?;
     let column = Column::at(at + 1);
     Ok((

@@ -12,11 +12,12 @@ ghost use Rattle.mlk_routine.specs.Leading.{Leads, LeadsTo, IsPerhapsControl, Is
 
 use crate::command::command;
 use mlk_routine_arguments::{
-    control, first_argument, is_bare, is_command_end, is_commands_end, is_for, past_spaces, refused,
+    control, first_argument, is_bare, is_command_end, is_commands_end, is_for, past_spaces,
+    refusal_at,
 };
 use mlk_syntax::{Command, Commands, Control, For};
 use mlk_text::lexeme::word_at;
-use mlk_text::{Code, Column, Failure, Fault, giving_up};
+use mlk_text::{Code, Column, Failure, Fault, drop_and_return};
 use std::alloc::{AllocError, Global};
 
 const MOST_LOOPS: usize = 255;
@@ -92,7 +93,7 @@ fn before_for(
         let (read, end) = command(alloc, inside.returns(), line, next)?;
         next = past_spaces(line, end);
         let Ok(()) = make_room_for(&mut before, is_commands_end(line, next)) else {
-            return Err(giving_up(read, Failure::OutOfMemory));
+            return Err(drop_and_return(read, Failure::OutOfMemory));
         };
         before.push_reserved(read);
     }
@@ -100,7 +101,7 @@ fn before_for(
 }
 
 // Reads FOR's variable and parameters, if it has any: both, and the byte after them.
-fn perhaps_control(
+fn optional_control(
     alloc: Global,
     line: &[u8],
     at: usize,
@@ -114,7 +115,7 @@ fn perhaps_control(
     let first = first_argument(alloc, line, at)?;
     let (read, next) = control(alloc, line, first)?;
     if !is_command_end(line, next) {
-        return Err(refused(alloc, Code::Spacing, next));
+        return Err(refusal_at(alloc, Code::Spacing, next));
     }
     Ok((Some(read), next))
 }
@@ -132,11 +133,11 @@ fn for_head(
     ensures { Told (option_map control_of) (IsLoop loops) LoopEnds line.now at result }
 {
     if loops >= MOST_LOOPS {
-        return Err(refused(alloc, Code::TooLarge, at));
+        return Err(refusal_at(alloc, Code::TooLarge, at));
     }
     let (_, bytes) = line.split_at(at);
     let (letters, _) = word_at(bytes);
-    perhaps_control(alloc, line, at + letters.len())
+    optional_control(alloc, line, at + letters.len())
 }
 
 // The commands of a line: those before a FOR, and that FOR with the rest of the line.

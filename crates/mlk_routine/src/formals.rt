@@ -10,7 +10,7 @@ ghost use Rattle.mlk_routine.specs.Lines.{has_name, IsUnseen, IsFormalList};
 
 use crate::seen::SeenNames;
 use mlk_expr::read_name;
-use mlk_routine_arguments::{has, other_form, refused};
+use mlk_routine_arguments::{has_byte, other_form, refusal_at};
 use mlk_text::{Code, Failure, Fault, List, Name};
 use std::alloc::Global;
 
@@ -19,8 +19,8 @@ fn no_formal(alloc: Global, line: &[u8], at: usize, fault: Fault) -> Failure<Fau
     requires { at ≤ length line.now }
     ensures { IsLineFault line.now fault → IsFaulty line.now result }
 {
-    if has(line, at, b'@') {
-        refused(alloc, Code::LineForm, at)
+    if has_byte(line, at, b'@') {
+        refusal_at(alloc, Code::LineForm, at)
     } else {
         other_form(Code::LineForm, fault)
     }
@@ -54,7 +54,7 @@ fn formal<'a>(
     let (_, bytes) = line.split_at(at);
     let (text, _) = bytes.split_at(next - at);
     if !seen.add(text)? {
-        return Err(refused(alloc, Code::LineForm, at));
+        return Err(refusal_at(alloc, Code::LineForm, at));
     }
     Ok((name, next))
 }
@@ -70,7 +70,7 @@ pub(crate) fn formals(
     ensures { Told (λ n. n) IsFormalList AnyEnds line.now at result }
 {
     let mut names = List::new(alloc);
-    if has(line, at + 1, b')') {
+    if has_byte(line, at + 1, b')') {
         return Ok((names, at + 2));
     }
     let mut seen = SeenNames::new(alloc);
@@ -78,11 +78,11 @@ pub(crate) fn formals(
     loop {
         let (name, end) = formal(alloc, &mut seen, line, next)?;
         names.push(name)?;
-        if has(line, end, b')') {
+        if has_byte(line, end, b')') {
             return Ok((names, end + 1));
         }
-        if !has(line, end, b',') {
-            return Err(refused(alloc, Code::LineForm, end));
+        if !has_byte(line, end, b',') {
+            return Err(refusal_at(alloc, Code::LineForm, end));
         }
         next = end + 1;
     }

@@ -7,7 +7,7 @@ ghost use Rattle.mlk_routine.specs.Lines.{IsFront, FrontEnds};
 
 use crate::formals::formals;
 use crate::start::opening;
-use mlk_routine_arguments::has;
+use mlk_routine_arguments::has_byte;
 use mlk_text::{Failure, Fault, List, Name};
 use std::alloc::Global;
 
@@ -21,7 +21,7 @@ pub(crate) struct Front {
 }
 
 // Reads the formal list, if there is one: the formals, and the byte after it.
-fn perhaps_formals(
+fn optional_formals(
     alloc: Global,
     is_labelled: bool,
     line: &[u8],
@@ -30,7 +30,7 @@ fn perhaps_formals(
     requires { at ≤ length line.now }
     ensures { Told (λ f. f) (IsFormalsPart is_labelled) (FormalsPartEnds is_labelled) line.now at result }
 {
-    if !is_labelled || !has(line, at, b'(') {
+    if !is_labelled || !has_byte(line, at, b'(') {
         return Ok((None, at));
     }
     let (names, next) = formals(alloc, line, at)?;
@@ -47,7 +47,7 @@ pub(crate) fn before_commands(
     requires { Found IsLabelPart LabelPartEnds line.now 0 label at }
     ensures { Told (λ f. f) IsFront FrontEnds line.now 0 result }
 {
-    let (formals, next) = perhaps_formals(alloc, label.is_some(), line, at)?;
+    let (formals, next) = optional_formals(alloc, label.is_some(), line, at)?;
     let (level, next) = opening(alloc, line, next)?;
     Ok((
         Front {

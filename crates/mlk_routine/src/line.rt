@@ -15,9 +15,9 @@ use crate::reach::reaches_block;
 use crate::seen::SeenNames;
 use crate::tail::tail;
 use bstr::ByteSlice;
-use mlk_routine_arguments::refused;
+use mlk_routine_arguments::refusal_at;
 use mlk_syntax::{Line, Rare};
-use mlk_text::{Code, Column, Failure, Fault, LineNumber, Name, giving_up};
+use mlk_text::{Code, Column, Failure, Fault, LineNumber, Name, drop_and_return};
 use std::alloc::{AllocError, Global};
 
 const MOST_LEVELS: usize = 15;
@@ -74,7 +74,7 @@ impl<'a> Before<'a> {
     }
 
     // The code of what is wrong with a line at this place with `front`, or `None`.
-    fn misplaced(&self, front: &Front) -> Option<Code>
+    fn misplacement(&self, front: &Front) -> Option<Code>
         ensures code { IsMisplaced result }
         ensures none { result ≡ None → IsKept front.now.label (level_in front.now.level) }
         ensures fits { result ≡ None → Fits self.now front.now.label (level_in front.now.level) }
@@ -125,7 +125,7 @@ fn front(alloc: Global, before: &Before, text: &[u8]) -> Result<(Front, usize), 
     let (label, next) = label(alloc, text)?;
     let is_twice = before.has_label(&label);
     match before_commands(alloc, label, text, next) {
-        Err(Failure::Refused(_)) if is_twice => Err(refused(alloc, Code::LabelTwice, 0)),
+        Err(Failure::Refused(_)) if is_twice => Err(refusal_at(alloc, Code::LabelTwice, 0)),
         Err(failure) => Err(failure),
         Ok(read) => Ok(read),
     }
@@ -156,8 +156,8 @@ pub(crate) fn line<'a>(
     ensures refused { IfErr result (NoLine before.old number text.now) }
 {
     let (front, start) = front(alloc, before, text)?;
-    if let Some(code) = before.misplaced(&front) {
-        return Err(refused(alloc, code, 0));
+    if let Some(code) = before.misplacement(&front) {
+        return Err(refusal_at(alloc, code, 0));
     }
     before.add(&front, text)?;
     let Front {
@@ -170,7 +170,7 @@ pub(crate) fn line<'a>(
     let commands = tail(alloc, level, text, start)?;
     let plain = line_bytes(text);
     if plain < text.len() {
-        return Err(giving_up(commands, refused(alloc, Code::Byte, plain)));
+        return Err(drop_and_return(commands, refusal_at(alloc, Code::Byte, plain)));
     }
     let level = level.unwrap_or(1);
     before.level = level;

@@ -32,7 +32,7 @@ fn has_wrong_byte(text: &[u8], column: Column) -> bool {
 }
 
 // A refusal at a place of a routine.
-fn located(
+fn refusal_at(
     alloc: Global,
     routine: &[u8],
     number: LineNumber,
@@ -80,16 +80,16 @@ pub(crate) fn in_line(
     } = fault;
     let column = place.column;
     if !is_above(code) && has_wrong_byte(text, column) {
-        return located(alloc, routine, number, column, Code::Byte, None);
+        return refusal_at(alloc, routine, number, column, Code::Byte, None);
     }
-    located(alloc, routine, number, column, code, left_out)
+    refusal_at(alloc, routine, number, column, code, left_out)
 }
 
 /// The refusal of a whole routine.
-pub(crate) fn whole(alloc: Global, code: Code, routine: &[u8]) -> Failure<Fault>
+pub(crate) fn routine_refusal(alloc: Global, code: Code, routine: &[u8]) -> Failure<Fault>
     ensures { IfRefused result (IsOfWhole code routine.now) }
 {
-    located(
+    refusal_at(
         alloc,
         routine,
         LineNumber::new(1),

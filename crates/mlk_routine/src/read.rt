@@ -10,7 +10,7 @@ ghost use Rattle.mlk_routine.specs.Refusals.{NoRoutine, Places};
 
 use crate::blocks::block;
 use crate::lines::lines;
-use crate::place::whole;
+use crate::place::routine_refusal;
 use crate::stem::stem_name;
 use bstr::ByteSlice;
 use mlk_syntax::Routine;
@@ -22,7 +22,7 @@ const MOST_BYTES: usize = 1048576;
 const MOST_LINES: usize = 65535;
 
 // The lines of `text`, without their terminators.
-fn cut(alloc: Global, text: &[u8]) -> Result<Vec<&[u8]>, AllocError>
+fn split_lines(alloc: Global, text: &[u8]) -> Result<Vec<&[u8]>, AllocError>
     ensures { IfOk result (λ v. texts_of v.items ≡ map without_terminator (lines_of text.now)) }
 {
     text.lines().collect(alloc)
@@ -40,14 +40,14 @@ pub fn read_routine(alloc: Global, stem: &[u8], text: &[u8]) -> Result<Routine, 
     ensures place { IfErr result (Places stem.now text.now) }
 {
     let Some(name) = stem_name(alloc, stem)? else {
-        return Err(whole(alloc, Code::RoutineName, stem));
+        return Err(routine_refusal(alloc, Code::RoutineName, stem));
     };
     if text.len() > MOST_BYTES {
-        return Err(whole(alloc, Code::TooLarge, name.as_bytes()));
+        return Err(routine_refusal(alloc, Code::TooLarge, name.as_bytes()));
     }
-    let texts = cut(alloc, text)?;
+    let texts = split_lines(alloc, text)?;
     if texts.len() > MOST_LINES {
-        return Err(whole(alloc, Code::TooLarge, name.as_bytes()));
+        return Err(routine_refusal(alloc, Code::TooLarge, name.as_bytes()));
     }
     let mut left = lines(alloc, name.as_bytes(), &texts)?;
     let lines = block(alloc, 0, &mut left)?;

@@ -7,7 +7,7 @@ ghost use Rattle.mlk_routine.specs.RoutineGrammar.{is_blank};
 ghost use Rattle.mlk_routine.specs.Lines.{ArePeriodsHere, PeriodsEnd, IsOpening, OpeningEnds};
 
 use crate::blank::past_blanks;
-use mlk_routine_arguments::{has, is_commands_end, refused};
+use mlk_routine_arguments::{has_byte, is_commands_end, refusal_at};
 use mlk_text::{Code, Failure, Fault};
 use std::alloc::Global;
 
@@ -20,7 +20,7 @@ fn periods(line: &[u8], at: usize) -> (usize, usize)
 {
     let mut count = 0;
     let mut next = at;
-    while has(line, next, b'.') {
+    while has_byte(line, next, b'.') {
         count += 1;
         next = past_blanks(line, next + 1);
     }
@@ -43,7 +43,7 @@ pub(crate) fn opening(
         return Ok((Some(count + 1), next));
     }
     if !is_commands_end(line, at) {
-        return Err(refused(alloc, Code::LineForm, at));
+        return Err(refusal_at(alloc, Code::LineForm, at));
     }
     Ok((None, at))
 }

@@ -8,7 +8,7 @@ ghost use Rattle.mlk_syntax.specs.Views.{commands_of};
 ghost use Rattle.mlk_routine.specs.Lines.{OpeningEnds, IsTailOf, ToldToEnd};
 
 use crate::commands::{Inside, commands};
-use mlk_routine_arguments::{refused, text_bytes};
+use mlk_routine_arguments::{refusal_at, text_bytes};
 use mlk_syntax::Commands;
 use mlk_text::{Code, Failure, Fault};
 use std::alloc::Global;
@@ -24,7 +24,7 @@ fn comment(alloc: Global, line: &[u8], at: usize) -> Result<(), Failure<Fault>>
     let (_, bytes) = line.split_at(at);
     let good = text_bytes(bytes);
     if good < bytes.len() {
-        return Err(refused(alloc, Code::Byte, at + good));
+        return Err(refusal_at(alloc, Code::Byte, at + good));
     }
     Ok(())
 }

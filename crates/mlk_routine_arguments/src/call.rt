@@ -11,15 +11,19 @@ ghost use Rattle.mlk_routine_arguments.specs.Ends.{GivenEnds, CalledEnds, CallEn
 ghost use Rattle.mlk_syntax.specs.Views.{call_of, do_of};
 ghost use Rattle.mlk_routine_arguments.specs.CommandGrammar.{IsGiven, IsCall, IsDo, IsJob};
 
-use crate::fault::{leaves_out, other_form, refused};
-use crate::part::{expression, has};
+use crate::fault::{leaves_out, other_form, refusal_at};
+use crate::part::{expression, has_byte};
 use mlk_expr::{Allows, Passing, read_actuals_where, read_callee};
 use mlk_syntax::{Actual, Call, Callee, DoArgument};
 use mlk_text::{Code, Column, Failure, Fault, LeftOut};
 use std::alloc::Global;
 
 // Reads a label and a routine: the callee, and the byte after it.
-fn called(alloc: Global, line: &[u8], at: usize) -> Result<(Callee, usize), Failure<Fault>>
+fn label_and_routine(
+    alloc: Global,
+    line: &[u8],
+    at: usize,
+) -> Result<(Callee, usize), Failure<Fault>>
     requires { at ≤ length line.now }
     ensures { Told (λ c. c) IsCalleeText CalleeEnds line.now at result }
 {
@@ -35,14 +39,14 @@ fn callee(alloc: Global, line: &[u8], at: usize) -> Result<(Callee, usize), Fail
     requires { at ≤ length line.now }
     ensures { Told (λ c. c) IsCalleeText CalledEnds line.now at result }
 {
-    let (called, next) = called(alloc, line, at)?;
-    if !has(line, next, b'+') {
+    let (called, next) = label_and_routine(alloc, line, at)?;
+    if !has_byte(line, next, b'+') {
         return Ok((called, next));
     }
     if called.routine.is_none() {
         Err(leaves_out(alloc, LeftOut::Offset, next))
     } else {
-        Err(refused(alloc, Code::Spacing, next))
+        Err(refusal_at(alloc, Code::Spacing, next))
     }
 }
 
@@ -57,7 +61,7 @@ fn actuals(
     requires { at ≤ length line.now }
     ensures { Told (option_map (λ v. actual_trees v.items)) (IsGiven allows passing) GivenEnds line.now at result }
 {
-    if !has(line, at, b'(') {
+    if !has_byte(line, at, b'(') {
         return Ok((None, at));
     }
     match read_actuals_where(alloc, allows, passing, line, at) {
@@ -119,7 +123,7 @@ pub(crate) fn do_argument(
     ensures { Told do_of IsDo DoEnds line.now at result }
 {
     let (any, next) = call(alloc, Allows::Everything, Passing::ByReference, line, at)?;
-    if !has(line, next, b':') {
+    if !has_byte(line, next, b':') {
         return Ok((
             DoArgument {
                 call: any,
@@ -149,7 +153,7 @@ pub(crate) fn job_argument(
     ensures { Told call_of IsJob JobEnds line.now at result }
 {
     let (called, next) = call(alloc, Allows::Everything, Passing::ByValue, line, at)?;
-    if has(line, next, b':') {
+    if has_byte(line, next, b':') {
         return Err(leaves_out(alloc, LeftOut::Timeout, next));
     }
     Ok((called, next))

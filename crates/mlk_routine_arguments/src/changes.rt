@@ -6,9 +6,9 @@ ghost use Rattle.mlk_routine_arguments.specs.Ends.{KillEnds, MergeEnds, NewEnds}
 ghost use Rattle.mlk_syntax.specs.Views.{kill_of, merge_of, new_of};
 ghost use Rattle.mlk_routine_arguments.specs.CommandGrammar.{IsKill, IsMerge, IsNew};
 
-use crate::fault::{leaves_out, refused};
-use crate::item::enclosed;
-use crate::part::{has, name, variable};
+use crate::fault::{leaves_out, refusal_at};
+use crate::item::enclosed_items;
+use crate::part::{has_byte, name, variable};
 use mlk_expr::Allows;
 use mlk_syntax::{KillArgument, MergeArgument, NewArgument};
 use mlk_text::lexeme::word_at;
@@ -24,8 +24,8 @@ pub(crate) fn kill(
     requires { at ≤ length line.now }
     ensures { Told kill_of IsKill KillEnds line.now at result }
 {
-    if has(line, at, b'(') {
-        let (names, next) = enclosed(alloc, line, at)?;
+    if has_byte(line, at, b'(') {
+        let (names, next) = enclosed_items(alloc, line, at)?;
         return Ok((KillArgument::AllBut(List::from(names)), next));
     }
     let (one, next) = variable(alloc, Allows::Everything, line, at)?;
@@ -42,8 +42,8 @@ pub(crate) fn merge(
     ensures { Told merge_of IsMerge MergeEnds line.now at result }
 {
     let (target, next) = variable(alloc, Allows::NoCalls, line, at)?;
-    if !has(line, next, b'=') {
-        return Err(refused(alloc, Code::ArgumentForm, next));
+    if !has_byte(line, next, b'=') {
+        return Err(refusal_at(alloc, Code::ArgumentForm, next));
     }
     let (source, next) = variable(alloc, Allows::NoCalls, line, next + 1)?;
     Ok((MergeArgument { target, source }, next))
@@ -54,12 +54,12 @@ fn is_special(line: &[u8], at: usize) -> bool
     requires { at ≤ length line.now }
     ensures { result ≡ true → byte_at line.now at ≡ Some 36 }
 {
-    if !has(line, at, b'$') {
+    if !has_byte(line, at, b'$') {
         return false;
     }
     let (_, after) = line.split_at(at + 1);
     let (word, rest) = word_at(after);
-    !word.is_empty() && !has(rest, 0, b'(')
+    !word.is_empty() && !has_byte(rest, 0, b'(')
 }
 
 /// Reads an argument of NEW: the argument, and the byte after it. A special variable is refused as not read.
@@ -71,8 +71,8 @@ pub(crate) fn new(
     requires { at ≤ length line.now }
     ensures { Told new_of IsNew NewEnds line.now at result }
 {
-    if has(line, at, b'(') {
-        let (names, next) = enclosed(alloc, line, at)?;
+    if has_byte(line, at, b'(') {
+        let (names, next) = enclosed_items(alloc, line, at)?;
         return Ok((NewArgument::AllBut(List::from(names)), next));
     }
     if is_special(line, at) {

@@ -8,12 +8,12 @@ ghost use Rattle.mlk_routine_arguments.specs.Ends.{ReadEnds, WriteEnds};
 ghost use Rattle.mlk_syntax.specs.Views.{variable_of, read_of, write_of};
 ghost use Rattle.mlk_routine_arguments.specs.CommandGrammar.{IsFormat, IsLocal, IsRead, IsWrite};
 
-use crate::fault::{leaves_out, refused};
-use crate::part::{after, expression, has, variable};
+use crate::fault::{leaves_out, refusal_at};
+use crate::part::{expr_after, expression, has_byte, variable};
 use crate::run::{past_marks, text_bytes};
 use mlk_expr::Allows;
 use mlk_syntax::{Expr, ReadArgument, Variable, WriteArgument};
-use mlk_text::literal::quoted;
+use mlk_text::literal::quoted_value;
 use mlk_text::{Code, Failure, Fault, LeftOut, Value};
 use std::alloc::Global;
 
@@ -23,12 +23,12 @@ fn prompt(alloc: Global, line: &[u8], at: usize) -> Result<(Value, usize), Failu
     ensures { Told (λ value. value) IsPrompt PromptEnds line.now at result }
 {
     let (_, inside) = line.split_at(at + 1);
-    match quoted(alloc, inside) {
+    match quoted_value(alloc, inside) {
         Ok((value, rest)) => Ok((value, line.len() - rest.len())),
         Err(Failure::OutOfMemory) => Err(Failure::OutOfMemory),
         Err(Failure::Refused(_)) => {
             let plain = text_bytes(inside);
-            Err(refused(alloc, Code::ExprForm, at + 1 + plain))
+            Err(refusal_at(alloc, Code::ExprForm, at + 1 + plain))
         }
     }
 }
@@ -52,7 +52,7 @@ fn format(alloc: Global, line: &[u8], at: usize) -> Result<(Option<Expr>, usize)
     ensures { Told (option_map tree_of) IsFormat FormatEnds line.now at result }
 {
     let next = past_marks(line, at);
-    after(alloc, b'?', Allows::Everything, line, next)
+    expr_after(alloc, b'?', Allows::Everything, line, next)
 }
 
 /// Reads an argument of WRITE: the argument, and the byte after it.
@@ -68,7 +68,7 @@ pub(crate) fn write_argument(
         let (tab, next) = format(alloc, line, at)?;
         return Ok((WriteArgument::Format(tab), next));
     }
-    if has(line, at, b'*') {
+    if has_byte(line, at, b'*') {
         let (value, next) = expression(alloc, Allows::Everything, line, at + 1)?;
         return Ok((WriteArgument::Character(value), next));
     }
@@ -81,7 +81,7 @@ fn local(alloc: Global, line: &[u8], at: usize) -> Result<(Variable, usize), Fai
     requires { at ≤ length line.now }
     ensures { Told variable_of IsLocal VariableEnds line.now at result }
 {
-    if has(line, at, b'^') {
+    if has_byte(line, at, b'^') {
         return Err(leaves_out(alloc, LeftOut::GlobalRead, at));
     }
     variable(alloc, Allows::Everything, line, at)
@@ -96,7 +96,7 @@ pub(crate) fn read_argument(
     requires { at ≤ length line.now }
     ensures { Told read_of IsRead ReadEnds line.now at result }
 {
-    if has(line, at, b'"') {
+    if has_byte(line, at, b'"') {
         let (prompt, next) = prompt(alloc, line, at)?;
         return Ok((ReadArgument::Text(prompt), next));
     }
@@ -104,13 +104,13 @@ pub(crate) fn read_argument(
         let (tab, next) = format(alloc, line, at)?;
         return Ok((ReadArgument::Format(tab), next));
     }
-    if has(line, at, b'*') {
+    if has_byte(line, at, b'*') {
         let (variable, next) = local(alloc, line, at + 1)?;
-        let (timeout, next) = after(alloc, b':', Allows::NoCalls, line, next)?;
+        let (timeout, next) = expr_after(alloc, b':', Allows::NoCalls, line, next)?;
         return Ok((ReadArgument::Character(variable, timeout), next));
     }
     let (variable, next) = local(alloc, line, at)?;
-    let (most, next) = after(alloc, b'#', Allows::Everything, line, next)?;
-    let (timeout, next) = after(alloc, b':', Allows::NoCalls, line, next)?;
+    let (most, next) = expr_after(alloc, b'#', Allows::Everything, line, next)?;
+    let (timeout, next) = expr_after(alloc, b':', Allows::NoCalls, line, next)?;
     Ok((ReadArgument::Line(variable, most, timeout), next))
 }

@@ -26,7 +26,7 @@ fn fault(alloc: Global, code: Code, left_out: Option<LeftOut>, at: usize) -> Fai
 
 /// The refusal `code` at byte `at` of a line.
 #[tactic(auto, using(crate::proofs::LineFaults::made_fault))]
-pub fn refused(alloc: Global, code: Code, at: usize) -> Failure<Fault>
+pub fn refusal_at(alloc: Global, code: Code, at: usize) -> Failure<Fault>
     ensures tells { Tells code None at result }
     ensures fault { (line : List ℕ) → at ≤ length line → may_tell (number_of code) ≡ true
         → has_word (number_of code) ≡ false → IsFaulty line result }

@@ -11,11 +11,11 @@ ghost use Rattle.mlk_syntax.specs.ExprTrees.{Tree, tree_of};
 ghost use Rattle.mlk_expr.specs.Theorem.{ExprEnds, LabelEnds};
 ghost use Rattle.mlk_expr.specs.declared.context.Allows.TheVariants.{Everything};
 
-use crate::fault::refused;
-use crate::part::{expression, has, name};
+use crate::fault::refusal_at;
+use crate::part::{expression, has_byte, name};
 use mlk_expr::Allows;
 use mlk_syntax::Expr;
-use mlk_text::{Code, Failure, Fault, Name, giving_up, make_room};
+use mlk_text::{Code, Failure, Fault, Name, drop_and_return, make_room};
 use std::alloc::Global;
 
 /// An item of a list that is separated by commas.
@@ -63,7 +63,7 @@ impl Item for Expr {
 }
 
 /// Reads one or more items separated by commas: the items, and the byte after them.
-pub(crate) fn listed<T: Item>(
+pub(crate) fn item_list<T: Item>(
     alloc: Global,
     line: &[u8],
     at: usize,
@@ -72,12 +72,12 @@ pub(crate) fn listed<T: Item>(
     ensures { Told (λ v. map T.seen v.items) (IsList T.is) (AreEnded T.ends) line.now at result }
 {
     let (first, mut next) = T::read(alloc, line, at)?;
-    let room = if has(line, next, b',') { 2 } else { 1 };
+    let room = if has_byte(line, next, b',') { 2 } else { 1 };
     let Ok(mut items) = Vec::with_capacity(alloc, room) else {
-        return Err(giving_up(first, Failure::OutOfMemory));
+        return Err(drop_and_return(first, Failure::OutOfMemory));
     };
     items.push_reserved(first);
-    while has(line, next, b',') {
+    while has_byte(line, next, b',') {
         make_room(&mut items)?;
         let (item, end) = T::read(alloc, line, next + 1)?;
         items.push_reserved(item);
@@ -88,7 +88,7 @@ pub(crate) fn listed<T: Item>(
 
 /// Reads items in parentheses, whose opening one is at `at`: the items, and the byte after the closing one.
 #[inline(always)]
-pub(crate) fn enclosed<T: Item>(
+pub(crate) fn enclosed_items<T: Item>(
     alloc: Global,
     line: &[u8],
     at: usize,
@@ -97,9 +97,9 @@ pub(crate) fn enclosed<T: Item>(
     requires open { byte_at line.now at ≡ Some 40 }
     ensures { Told (λ v. map T.seen v.items) (AreEnclosed T.is) AnyEnds line.now at result }
 {
-    let (items, end) = listed(alloc, line, at + 1)?;
-    if !has(line, end, b')') {
-        return Err(refused(alloc, Code::ArgumentForm, end));
+    let (items, end) = item_list(alloc, line, at + 1)?;
+    if !has_byte(line, end, b')') {
+        return Err(refusal_at(alloc, Code::ArgumentForm, end));
     }
     Ok((items, end + 1))
 }
@@ -135,8 +135,8 @@ pub(crate) fn one_or_enclosed<T: Item>(
     ensures { Told (λ v. map T.seen v.items) (IsOneOrEnclosed T.is)
         (OneEnds T.ends (byte_at line.now at)) line.now at result }
 {
-    if has(line, at, b'(') {
-        return enclosed(alloc, line, at);
+    if has_byte(line, at, b'(') {
+        return enclosed_items(alloc, line, at);
     }
     let (item, next) = T::read(alloc, line, at)?;
     let mut items = Vec::with_capacity(alloc, 1)?;

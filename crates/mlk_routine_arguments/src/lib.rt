@@ -15,10 +15,13 @@ mod set;
 mod spacing;
 mod word;
 
-pub use fault::{leaves_out, other_form, refused};
+pub use fault::{leaves_out, other_form, refusal_at};
 pub use item::Item;
 pub use parameter::control;
-pub use part::{after, expression, has};
+pub use part::{expr_after, expression, has_byte};
 pub use run::{past_spaces, text_bytes};
-pub use spacing::{first_argument, is_bare, is_command_end, is_commands_end, perhaps, some};
+pub use spacing::{
+    first_argument, is_bare, is_command_end, is_commands_end, optional_arguments,
+    required_arguments,
+};
 pub use word::{Word, command_word, is_for};

@@ -8,10 +8,10 @@ ghost use Rattle.mlk_routine_arguments.specs.Ends.{IsSign, SignEnds, OneEnds, Va
 ghost use Rattle.mlk_syntax.specs.Views.{variable_of, lock_of};
 ghost use Rattle.mlk_routine_arguments.specs.CommandGrammar.{IsVariable, IsOneOrEnclosed, IsLockTimeout, IsLock, in_names};
 
-use crate::fault::{leaves_out, refused};
+use crate::fault::{leaves_out, refusal_at};
 use crate::item::one_or_enclosed;
 use crate::items::Unsigned;
-use crate::part::{expression, has, stops};
+use crate::part::{expression, has_byte, is_argument_end};
 use mlk_expr::Allows;
 use mlk_syntax::{Expr, LockArgument, Sign, Variable};
 use mlk_text::{Code, Failure, Fault, LeftOut};
@@ -22,10 +22,10 @@ fn sign(line: &[u8], at: usize) -> (Sign, usize)
     requires { at ≤ length line.now }
     ensures { Found IsSign SignEnds line.now at result.0 result.1 }
 {
-    if has(line, at, b'+') {
+    if has_byte(line, at, b'+') {
         return (Sign::Plus, at + 1);
     }
-    if has(line, at, b'-') {
+    if has_byte(line, at, b'-') {
         return (Sign::Minus, at + 1);
     }
     (Sign::None, at)
@@ -39,7 +39,11 @@ fn variables(alloc: Global, names: Vec<Unsigned>) -> Result<Vec<Variable>, Alloc
 }
 
 /// Reads the names of LOCK without a sign: the names, and the byte after them.
-fn unsigned(alloc: Global, line: &[u8], at: usize) -> Result<(Vec<Variable>, usize), Failure<Fault>>
+fn unsigned_names(
+    alloc: Global,
+    line: &[u8],
+    at: usize,
+) -> Result<(Vec<Variable>, usize), Failure<Fault>>
     requires { at ≤ length line.now }
     ensures { Told (λ v. map variable_of v.items) (IsOneOrEnclosed (IsVariable NoTouches))
         (OneEnds VariableEnds (byte_at line.now at)) line.now at result }
@@ -61,7 +65,7 @@ fn names(
         (OneEnds VariableEnds (byte_at line.now at)) line.now at result }
 {
     match sign {
-        Sign::None => unsigned(alloc, line, at),
+        Sign::None => unsigned_names(alloc, line, at),
         Sign::Plus | Sign::Minus => one_or_enclosed(alloc, line, at),
     }
 }
@@ -77,11 +81,11 @@ fn timeout(
     requires { at ≤ length line.now }
     ensures { Told (option_map tree_of) (IsLockTimeout sign) TimeoutEnds line.now at result }
 {
-    if stops(line, at) {
+    if is_argument_end(line, at) {
         return Ok((None, at));
     }
-    if !has(line, at, b':') {
-        return Err(refused(alloc, Code::Spacing, at));
+    if !has_byte(line, at, b':') {
+        return Err(refusal_at(alloc, Code::Spacing, at));
     }
     let allows = match sign {
         Sign::None => Allows::NoTouches,

@@ -7,9 +7,9 @@ ghost use Rattle.mlk_routine_arguments.specs.Ends.{ParameterEnds, ControlEnds};
 ghost use Rattle.mlk_syntax.specs.Views.{parameter_of, control_of};
 ghost use Rattle.mlk_routine_arguments.specs.CommandGrammar.{IsParameter, IsControl};
 
-use crate::fault::{leaves_out, refused};
-use crate::item::listed;
-use crate::part::{after, expression, has, name};
+use crate::fault::{leaves_out, refusal_at};
+use crate::item::item_list;
+use crate::part::{expr_after, expression, has_byte, name};
 use mlk_expr::Allows;
 use mlk_syntax::{Control, Parameter};
 use mlk_text::{Code, Column, Failure, Fault, LeftOut};
@@ -25,11 +25,11 @@ pub(crate) fn parameter(
     ensures { Told parameter_of IsParameter ParameterEnds line.now at result }
 {
     let (start, next) = expression(alloc, Allows::Everything, line, at)?;
-    let (step, next) = after(alloc, b':', Allows::Everything, line, next)?;
+    let (step, next) = expr_after(alloc, b':', Allows::Everything, line, next)?;
     let Some(step) = step else {
         return Ok((Parameter::Once(start), next));
     };
-    let (limit, next) = after(alloc, b':', Allows::Everything, line, next)?;
+    let (limit, next) = expr_after(alloc, b':', Allows::Everything, line, next)?;
     match limit {
         Some(limit) => Ok((Parameter::Limited(start, step, limit), next)),
         None => Ok((Parameter::Endless(start, step), next)),
@@ -42,13 +42,13 @@ pub fn control(alloc: Global, line: &[u8], at: usize) -> Result<(Control, usize)
     ensures { Told control_of IsControl ControlEnds line.now at result }
 {
     let (variable, next) = name(alloc, line, at)?;
-    if has(line, next, b'(') {
+    if has_byte(line, next, b'(') {
         return Err(leaves_out(alloc, LeftOut::ForVariable, at));
     }
-    if !has(line, next, b'=') {
-        return Err(refused(alloc, Code::ArgumentForm, next));
+    if !has_byte(line, next, b'=') {
+        return Err(refusal_at(alloc, Code::ArgumentForm, next));
     }
-    let (parameters, next) = listed(alloc, line, next + 1)?;
+    let (parameters, next) = item_list(alloc, line, next + 1)?;
     let column = Column::at(at + 1);
     Ok((
         Control {

@@ -9,7 +9,7 @@ ghost use Rattle.mlk_routine_arguments.specs.Ends.{is_stop, AfterEnds, VariableE
 ghost use Rattle.mlk_syntax.specs.Views.{variable_of, call_of};
 ghost use Rattle.mlk_routine_arguments.specs.CommandGrammar.{IsAfter, IsVariable, IsCall};
 
-use crate::fault::{other_form, refused};
+use crate::fault::{other_form, refusal_at};
 use mlk_expr::{Allows, read_expr_where, read_name, read_ref_where};
 use mlk_expr_tokens::lexeme::starts_reference;
 use mlk_syntax::{Expr, Variable};
@@ -17,7 +17,7 @@ use mlk_text::{Code, Column, Failure, Fault, Name};
 use std::alloc::Global;
 
 /// Whether byte `at` of `line` is `wanted`.
-pub fn has(line: &[u8], at: usize, wanted: u8) -> bool
+pub fn has_byte(line: &[u8], at: usize, wanted: u8) -> bool
     requires { at ≤ length line.now }
     ensures yes { result ≡ true → byte_at line.now at ≡ Some wanted }
     ensures no { result ≡ false → byte_at line.now at ≡ Some wanted → ⊥ }
@@ -30,7 +30,7 @@ pub fn has(line: &[u8], at: usize, wanted: u8) -> bool
 }
 
 /// Whether an argument may end here: at the line's end, or before a byte that ends arguments.
-pub(crate) fn stops(line: &[u8], at: usize) -> bool
+pub(crate) fn is_argument_end(line: &[u8], at: usize) -> bool
     requires { at ≤ length line.now }
     ensures { result ≡ is_stop (drop at line.now) }
 {
@@ -61,7 +61,7 @@ pub fn expression(
 
 /// Reads the expression after the byte `first`, or nothing if that byte is not here.
 #[inline(always)]
-pub fn after(
+pub fn expr_after(
     alloc: Global,
     first: u8,
     allows: Allows,
@@ -71,7 +71,7 @@ pub fn after(
     requires { at ≤ length line.now }
     ensures { Told (option_map tree_of) (IsAfter first allows) (AfterEnds first) line.now at result }
 {
-    if !has(line, at, first) {
+    if !has_byte(line, at, first) {
         return Ok((None, at));
     }
     let (value, next) = expression(alloc, allows, line, at + 1)?;
@@ -90,8 +90,8 @@ pub(crate) fn variable(
     ensures { Told variable_of (IsVariable allows) VariableEnds line.now at result }
 {
     let (_, bytes) = line.split_at(at);
-    if !has(line, at, b'@') && !starts_reference(bytes) {
-        return Err(refused(alloc, Code::ArgumentForm, at));
+    if !has_byte(line, at, b'@') && !starts_reference(bytes) {
+        return Err(refusal_at(alloc, Code::ArgumentForm, at));
     }
     match read_ref_where(alloc, allows, line, at) {
         Ok((name, next)) => Ok((

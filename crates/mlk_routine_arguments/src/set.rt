@@ -13,9 +13,9 @@ ghost use Rattle.mlk_routine_arguments.specs.Ends.{AnyEnds, NextEnds, part_of, I
 ghost use Rattle.mlk_syntax.specs.Views.{target_of, set_of};
 ghost use Rattle.mlk_routine_arguments.specs.CommandGrammar.{is_part_word, IsOneOrEnclosed, IsTarget, IsSet};
 
-use crate::fault::{leaves_out, refused};
-use crate::item::{Item, enclosed, listed};
-use crate::part::{expression, has, variable};
+use crate::fault::{leaves_out, refusal_at};
+use crate::item::{Item, enclosed_items, item_list};
+use crate::part::{expression, has_byte, variable};
 use mlk_expr::Allows;
 use mlk_expr_tokens::words::{function_of, is_either, is_select};
 use mlk_syntax::{Expr, Part, SetArgument, Several, Target};
@@ -46,8 +46,8 @@ fn no_part(alloc: Global, word: &[u8], after: &[u8], at: usize) -> Failure<Fault
     if word.is_empty() {
         return match first {
             Some(b'&') => leaves_out(alloc, LeftOut::External, at),
-            Some(b'$') => refused(alloc, Code::ArgumentForm, at),
-            _ => refused(alloc, Code::ArgumentForm, at.saturating_add(1)),
+            Some(b'$') => refusal_at(alloc, Code::ArgumentForm, at),
+            _ => refusal_at(alloc, Code::ArgumentForm, at.saturating_add(1)),
         };
     }
     if first != Some(b'(') {
@@ -56,7 +56,7 @@ fn no_part(alloc: Global, word: &[u8], after: &[u8], at: usize) -> Failure<Fault
     if function_of(word).is_none() && !is_select(word) {
         return leaves_out(alloc, LeftOut::Function, at);
     }
-    refused(alloc, Code::ArgumentForm, at)
+    refusal_at(alloc, Code::ArgumentForm, at)
 }
 
 /// Reads the function of a target at its `$`: the function, and the byte after the opening parenthesis.
@@ -67,7 +67,7 @@ fn opening(alloc: Global, line: &[u8], at: usize) -> Result<(Part, usize), Failu
     let (_, bytes) = line.split_at(at + 1);
     let (word, after) = word_at(bytes);
     match part_of(word) {
-        Some(part) if has(after, 0, b'(') => Ok((part, line.len() - after.len() + 1)),
+        Some(part) if has_byte(after, 0, b'(') => Ok((part, line.len() - after.len() + 1)),
         _ => Err(no_part(alloc, word, after, at)),
     }
 }
@@ -109,10 +109,10 @@ fn arguments(alloc: Global, line: &[u8], at: usize) -> Result<(Vec<Expr>, usize)
     requires { at ≤ length line.now }
     ensures { Told (λ v. trees v.items) (AreNext (IsExprWhere NoCalls)) NextEnds line.now at result }
 {
-    if !has(line, at, b',') {
+    if !has_byte(line, at, b',') {
         return Ok((Vec::new(alloc), at));
     }
-    let (items, next) = listed(alloc, line, at + 1)?;
+    let (items, next) = item_list(alloc, line, at + 1)?;
     let arguments = expressions(alloc, items)?;
     Ok((arguments, next))
 }
@@ -126,8 +126,8 @@ fn part_target(alloc: Global, line: &[u8], at: usize) -> Result<(Target, usize),
     let (part, next) = opening(alloc, line, at)?;
     let (variable, next) = variable(alloc, Allows::NoCalls, line, next)?;
     let (arguments, next) = arguments(alloc, line, next)?;
-    if !has(line, next, b')') {
-        return Err(refused(alloc, Code::ArgumentForm, next));
+    if !has_byte(line, next, b')') {
+        return Err(refusal_at(alloc, Code::ArgumentForm, next));
     }
     let variable = Box::new(alloc, variable)?;
     Ok((Target::Part(part, variable, arguments), next + 1))
@@ -143,7 +143,7 @@ pub(crate) fn target(
     requires { at ≤ length line.now }
     ensures { Told target_of IsTarget TargetEnds line.now at result }
 {
-    if has(line, at, b'$') {
+    if has_byte(line, at, b'$') {
         return part_target(alloc, line, at);
     }
     let (whole, next) = variable(alloc, Allows::Everything, line, at)?;
@@ -161,8 +161,8 @@ fn targets(
     ensures { Told (λ targets. map target_of targets) (IsOneOrEnclosed IsTarget)
         (OneEnds TargetEnds (byte_at line.now at)) line.now at result }
 {
-    if has(line, at, b'(') {
-        let (targets, end) = enclosed(alloc, line, at)?;
+    if has_byte(line, at, b'(') {
+        let (targets, end) = enclosed_items(alloc, line, at)?;
         return Ok((Several::of(targets), end));
     }
     let (only, next) = target(alloc, line, at)?;
@@ -180,8 +180,8 @@ pub(crate) fn set(
     ensures { Told set_of IsSet SetEnds line.now at result }
 {
     let (targets, next) = targets(alloc, line, at)?;
-    if !has(line, next, b'=') {
-        return Err(refused(alloc, Code::ArgumentForm, next));
+    if !has_byte(line, next, b'=') {
+        return Err(refusal_at(alloc, Code::ArgumentForm, next));
     }
     let (value, next) = expression(alloc, Allows::Everything, line, next + 1)?;
     Ok((SetArgument { targets, value }, next))

@@ -7,9 +7,9 @@ ghost use Rattle.mlk_routine_arguments.specs.CommandWords.{has_any};
 ghost use Rattle.mlk_routine_arguments.specs.Kinds.{IsSpaced};
 ghost use Rattle.mlk_routine_arguments.specs.CommandGrammar.{AreSome, ArePerhaps};
 
-use crate::fault::refused;
-use crate::item::{Item, listed};
-use crate::part::has;
+use crate::fault::refusal_at;
+use crate::item::{Item, item_list};
+use crate::part::has_byte;
 use mlk_text::{Code, Failure, Fault};
 use std::alloc::Global;
 
@@ -42,7 +42,7 @@ pub fn is_bare(line: &[u8], at: usize) -> bool
     requires { at ≤ length line.now }
     ensures { result ≡ is_bare_end (drop at line.now) }
 {
-    if has(line, at, b' ') {
+    if has_byte(line, at, b' ') {
         is_command_end(line, at + 1)
     } else {
         is_commands_end(line, at)
@@ -54,18 +54,18 @@ pub fn first_argument(alloc: Global, line: &[u8], at: usize) -> Result<usize, Fa
     requires { at ≤ length line.now }
     ensures { IsSpaced line.now at result }
 {
-    if !has(line, at, b' ') {
-        return Err(refused(alloc, Code::Spacing, at));
+    if !has_byte(line, at, b' ') {
+        return Err(refusal_at(alloc, Code::Spacing, at));
     }
-    if has(line, at + 1, b' ') {
-        return Err(refused(alloc, Code::Spacing, at + 1));
+    if has_byte(line, at + 1, b' ') {
+        return Err(refusal_at(alloc, Code::Spacing, at + 1));
     }
     Ok(at + 1)
 }
 
 /// Reads a list of arguments after one space: the arguments, and the byte after them.
 #[inline(always)]
-pub fn some<T: Item>(
+pub fn required_arguments<T: Item>(
     alloc: Global,
     line: &[u8],
     at: usize,
@@ -74,16 +74,16 @@ pub fn some<T: Item>(
     ensures { Told (λ v. map T.seen v.items) (AreSome T.is) (λ items. StopEnds true) line.now at result }
 {
     let first = first_argument(alloc, line, at)?;
-    let (items, next) = listed(alloc, line, first)?;
+    let (items, next) = item_list(alloc, line, first)?;
     if !is_command_end(line, next) {
-        return Err(refused(alloc, Code::Spacing, next));
+        return Err(refusal_at(alloc, Code::Spacing, next));
     }
     Ok((items, next))
 }
 
 /// Reads a list of arguments after one space, or none: the arguments, and the byte after them.
 #[inline(always)]
-pub fn perhaps<T: Item>(
+pub fn optional_arguments<T: Item>(
     alloc: Global,
     line: &[u8],
     at: usize,
@@ -94,5 +94,5 @@ pub fn perhaps<T: Item>(
     if is_bare(line, at) {
         return Ok((Vec::new(alloc), at));
     }
-    some(alloc, line, at)
+    required_arguments(alloc, line, at)
 }

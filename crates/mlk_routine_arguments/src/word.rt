@@ -8,7 +8,7 @@ ghost use Rattle.mlk_routine_arguments.specs.Faults.{IsFaulty};
 ghost use Rattle.mlk_routine_arguments.specs.CommandWords.{is_for};
 ghost use Rattle.mlk_routine_arguments.specs.Kinds.{first_word, word_of, has_condition, IsNamed, WordEnds};
 
-use crate::fault::{no_command, refused};
+use crate::fault::{no_command, refusal_at};
 use mlk_expr_tokens::words::is_either;
 use mlk_text::lexeme::word_at;
 use mlk_text::{Code, Failure, Fault, Value};
@@ -56,7 +56,7 @@ fn if_either(found: Word, short: &[u8], whole: &[u8], word: &[u8]) -> Option<Wor
 }
 
 #[tactic(auto, unfolding(crate::specs::Kinds::word_of, crate::specs::Kinds::is_written))]
-fn halting(word: &[u8]) -> Option<Word>
+fn halt_or_hang(word: &[u8]) -> Option<Word>
     ensures { result ≡ first_word (command.HaltOrHang ∷ command.Halt ∷ command.Hang ∷ []) word.now }
 {
     if is_either(b"H", b"H", word) {
@@ -81,7 +81,7 @@ fn word_of(word: &[u8]) -> Option<Word>
     match first.to_ascii_uppercase() {
         b'D' => if_either(Word::Do, b"D", b"DO", word),
         b'E' => if_either(Word::Else, b"E", b"ELSE", word),
-        b'H' => halting(word),
+        b'H' => halt_or_hang(word),
         b'I' => if_either(Word::If, b"I", b"IF", word),
         b'J' => if_either(Word::Job, b"J", b"JOB", word),
         b'K' => if_either(Word::Kill, b"K", b"KILL", word),
@@ -153,7 +153,7 @@ fn no_word(alloc: Global, word: &[u8], at: usize) -> Failure<Fault>
     ensures { (line : List ℕ) → at ≤ length line → IsFaulty line result }
 {
     let Some(whole) = left_out(word) else {
-        return refused(alloc, Code::UnknownCommand, at);
+        return refusal_at(alloc, Code::UnknownCommand, at);
     };
     match in_upper_case(alloc, whole) {
         Ok(shown) => no_command(alloc, shown, at),

@@ -123,7 +123,7 @@ fn covered_by(rules: &RuleLists, reference: &Lent<'_>, held: &[LockTerm]) -> Res
     Ok(())
 }
 
-/// `covered`, for a reference whose parts are borrowed.
+/// `check_reference`, for a reference whose parts are borrowed.
 pub fn covered_lent(rules: &Rules, reference: &Lent<'_>, held: &[LockTerm]) -> Result<(), Code>
     ensures ok { OnOk result (IsAnswer rules.now held.now reference.now None) }
     ensures err { IfErr result (λ code. IsAnswer rules.now held.now reference.now (Some code)) }
@@ -136,7 +136,7 @@ pub fn covered_lent(rules: &Rules, reference: &Lent<'_>, held: &[LockTerm]) -> R
 
 /// Checks `reference`: each rule that it may meet must be satisfied by `held`, and some rule must hold for all of it.
 /// Otherwise the first code of what is wrong. Looks only at the rules of the reference's global, and allocates nothing.
-pub fn covered(rules: &Rules, reference: &Reference, held: &[LockTerm]) -> Result<(), Code>
+pub fn check_reference(rules: &Rules, reference: &Reference, held: &[LockTerm]) -> Result<(), Code>
     ensures ok { OnOk result (IsAnswer rules.now held.now reference.now None) }
     ensures err { IfErr result (λ code. IsAnswer rules.now held.now reference.now (Some code)) }
 {

@@ -41,7 +41,11 @@ fn cut_subs(alloc: Global, parts: &[TemplatePart], symbols: &[Sym]) -> Result<Te
 }
 
 // The rule's lock for `reference`, up to the first subscript that is missing or unknown.
-fn cut(alloc: Global, lock: &Template, reference: &Reference) -> Result<LockTerm, AllocError>
+fn cut_template(
+    alloc: Global,
+    lock: &Template,
+    reference: &Reference,
+) -> Result<LockTerm, AllocError>
     ensures { IfOk result (λ t. t ≡ cut_template lock.now reference.now) }
 {
     Ok(LockTerm {
@@ -51,7 +55,7 @@ fn cut(alloc: Global, lock: &Template, reference: &Reference) -> Result<LockTerm
 }
 
 // Whether `cover` may be met and is not satisfied by `held`.
-fn lacks(cover: &Cover, reference: &Reference, held: &[LockTerm]) -> bool
+fn is_unmet(cover: &Cover, reference: &Reference, held: &[LockTerm]) -> bool
     ensures { IsTrue result ↔ Lacks held.now reference.now cover.now }
 {
     may_meet(&cover.pattern, reference) && !is_satisfied(cover, &Lent::of(reference), held)
@@ -68,7 +72,7 @@ fn add_missing(
     ensures { OnOk result (Gained (AreMissing held.now reference.now (lock.now ∷ [])) found.old.items found.new.items) }
 {
     if !holds_lock(held, lock, &Lent::of(reference)) {
-        found.push(cut(alloc, lock, reference)?)?;
+        found.push(cut_template(alloc, lock, reference)?)?;
     }
     Ok(())
 }
@@ -95,7 +99,7 @@ fn add_asked(
 }
 
 // Adds the missing locks of `cover`.
-fn add_lacking(
+fn add_unmet(
     alloc: Global,
     found: &mut Vec<LockTerm>,
     cover: &Cover,
@@ -104,13 +108,13 @@ fn add_lacking(
 ) -> Result<(), AllocError>
     ensures { OnOk result (Gained (AreLackingOf held.now reference.now cover.now) found.old.items found.new.items) }
 {
-    if !lacks(cover, reference, held) {
+    if !is_unmet(cover, reference, held) {
         return Ok(());
     }
     add_asked(alloc, found, cover, reference, held)
 }
 
-fn lacking(
+fn missing_locks(
     alloc: Global,
     covers: &[Cover],
     reference: &Reference,
@@ -120,7 +124,7 @@ fn lacking(
 {
     let mut found = Vec::new(alloc);
     for cover in covers {
-        add_lacking(alloc, &mut found, cover, reference, held)?;
+        add_unmet(alloc, &mut found, cover, reference, held)?;
     }
     Ok(found)
 }
@@ -136,7 +140,7 @@ pub fn templates(
     ensures { IfOk result (λ v. AreLacking held.now reference.now rules.now.covers v.items) }
 {
     match rules.group(&reference.root) {
-        Some(group) => lacking(alloc, group.covers.as_slice(), reference, held),
+        Some(group) => missing_locks(alloc, group.covers.as_slice(), reference, held),
         None => Ok(Vec::new(alloc)),
     }
 }

@@ -17,7 +17,7 @@ mod rules;
 mod sound;
 mod template;
 
-pub use check::{covered, covered_lent};
+pub use check::{check_reference, covered_lent};
 pub use cover::{Cover, ReadPolicy};
 pub use family::Family;
 pub use lacking::templates;

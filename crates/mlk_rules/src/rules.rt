@@ -56,11 +56,11 @@ impl Rules {
         if !is_sound(&lists) {
             return Ok(None);
         }
-        Ok(Some(Rules::sound(alloc, lists)?))
+        Ok(Some(Rules::from_sound(alloc, lists)?))
     }
 
     /// The rules of `lists`, which are known to be sound.
-    pub fn sound(alloc: Global, lists: RuleLists) -> Result<Rules, AllocError>
+    pub fn from_sound(alloc: Global, lists: RuleLists) -> Result<Rules, AllocError>
         requires { IsSound lists }
         ensures { IfOk result (λ r. r ≡ lists) }
     {

@@ -203,7 +203,7 @@ impl<'p, 'a> Walker<'p, 'a> {
     }
 
     // Walks the steps of a line once.
-    fn pass(
+    fn walk_steps(
         &mut self,
         unit: UnitId,
         steps: &'p [Step<'a>],
@@ -237,7 +237,7 @@ impl<'p, 'a> Walker<'p, 'a> {
         let is_noting = self.is_noting;
         self.is_noting = false;
         for _ in 0..MOST_PASSES {
-            let flow = self.pass(unit, steps, state, rounds)?;
+            let flow = self.walk_steps(unit, steps, state, rounds)?;
             rounds = flow.rounds;
             if !flow.has_grown {
                 break;
@@ -257,7 +257,7 @@ impl<'p, 'a> Walker<'p, 'a> {
         returned: &mut State,
     ) -> Result<State, AllocError> {
         let rounds = self.rounds(unit, steps, state)?;
-        let flow = self.pass(unit, steps, state, rounds)?;
+        let flow = self.walk_steps(unit, steps, state, rounds)?;
         let _ = returned.join(&mut self.tables, &flow.returned)?;
         flow.ended.copy(self.alloc)
     }

@@ -34,7 +34,7 @@ impl<'a> Draft<'a> {
     }
 
     /// The place of `column` on the line.
-    pub(crate) fn at(&self, column: Column) -> Position<'a> {
+    pub(crate) fn position_at(&self, column: Column) -> Position<'a> {
         Position {
             routine: self.routine,
             line: self.line,
@@ -57,7 +57,7 @@ impl<'a> Draft<'a> {
             extent,
             access,
         };
-        let position = self.at(column);
+        let position = self.position_at(column);
         self.push(Step::Touch(position, reference))
     }
 
@@ -105,7 +105,7 @@ impl<'a> Draft<'a> {
         for actual in actuals {
             self.add_actual(&mut call, actual)?;
         }
-        let position = self.at(column);
+        let position = self.position_at(column);
         self.push(Step::Call(position, call))
     }
 
@@ -122,7 +122,7 @@ impl<'a> Draft<'a> {
             actuals: Vec::new(self.alloc),
             by_reference: Vec::new(self.alloc),
         };
-        let position = self.at(column);
+        let position = self.position_at(column);
         self.push(Step::Call(position, call))
     }
 
@@ -150,8 +150,8 @@ impl<'a> Draft<'a> {
     // The position of an argument of LOCK, which is that of its first name.
     fn lock_position(&self, argument: &LockArgument) -> Position<'a> {
         match argument.names.first() {
-            Some(name) => self.at(name.column),
-            None => self.at(Column::new(1)),
+            Some(name) => self.position_at(name.column),
+            None => self.position_at(Column::new(1)),
         }
     }
 

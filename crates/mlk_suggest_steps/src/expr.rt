@@ -111,7 +111,7 @@ fn add_function<'a>(
 }
 
 // The subscripts of the node above; a global without subscripts has none above it.
-fn above(subscripts: &[Subscript]) -> &[Subscript] {
+fn subscripts_above(subscripts: &[Subscript]) -> &[Subscript] {
     match subscripts.split_last() {
         Some((_, front)) => front,
         None => subscripts,
@@ -130,7 +130,13 @@ fn add_read<'a>(
         Function::Name => Ok(()),
         Function::Data => draft.touch(column, name, subscripts, Extent::Tree, Access::Reads),
         Function::Order => {
-            draft.touch(column, name, above(subscripts), Extent::Tree, Access::Reads)
+            draft.touch(
+                column,
+                name,
+                subscripts_above(subscripts),
+                Extent::Tree,
+                Access::Reads,
+            )
         }
         Function::Query => draft.touch(column, name, &[], Extent::Tree, Access::Reads),
         _ => draft.touch(column, name, subscripts, Extent::Node, Access::Reads),

@@ -28,7 +28,7 @@ impl<'a> Held<'a> {
     }
 
     // Adds a name, if necessary in place of the one that is held longest.
-    fn hold(&mut self, name: &'a Variable) -> Result<(), AllocError> {
+    fn add_name(&mut self, name: &'a Variable) -> Result<(), AllocError> {
         if self.names.len() >= MOST_HELD {
             self.names.remove(0);
         }
@@ -38,7 +38,7 @@ impl<'a> Held<'a> {
     // Adds the names of one argument.
     fn hold_all(&mut self, names: &'a [Variable]) -> Result<(), AllocError> {
         for name in names {
-            self.hold(name)?;
+            self.add_name(name)?;
         }
         Ok(())
     }
@@ -68,17 +68,15 @@ impl<'a> Held<'a> {
     }
 
     /// Applies a mention. A label forgets everything that was claimed before it.
-    pub(crate) fn meet(&mut self, at: &MentionAt<'a>) -> Result<(), AllocError> {
+    pub(crate) fn apply_mention(&mut self, at: &MentionAt<'a>) -> Result<(), AllocError> {
         match at.mention {
             Mention::Begin | Mention::Unlock => {
                 self.names.clear();
                 Ok(())
             }
             Mention::Lock(argument) => self.lock(argument),
-            Mention::Touch(_)
-            | Mention::Call(_, _)
-            | Mention::Job(_)
-            | Mention::SkippedCall(_) => Ok(()),
+            Mention::Touch(_) | Mention::Call(_, _) | Mention::Job(_) | Mention::SkippedCall(_) =>
+                Ok(()),
         }
     }
 }

@@ -14,7 +14,7 @@ pub struct LockUse<'a> {
 }
 
 // The names that an argument of LOCK claims.
-fn claimed(argument: &LockArgument) -> &[Variable] {
+fn claimed_names(argument: &LockArgument) -> &[Variable] {
     match argument.sign {
         Sign::None | Sign::Plus => argument.names.as_slice(),
         Sign::Minus => &[],
@@ -32,14 +32,14 @@ fn add_roots<'a>(roots: &mut Tally<LockRoot<'a>>, names: &'a [Variable]) -> Resu
 }
 
 // The number of claims of each root.
-fn counted<'a>(
+fn count_claims<'a>(
     alloc: Global,
     mentions: &[MentionAt<'a>],
 ) -> Result<Vec<(LockRoot<'a>, usize)>, AllocError> {
     let mut roots = Tally::new(alloc);
     for at in mentions {
         if let Mention::Lock(argument) = at.mention {
-            add_roots(&mut roots, claimed(argument))?;
+            add_roots(&mut roots, claimed_names(argument))?;
         }
     }
     roots.in_order(alloc)
@@ -51,7 +51,7 @@ pub(crate) fn locks_in<'a>(
     mentions: &[MentionAt<'a>],
 ) -> Result<Vec<LockUse<'a>>, AllocError> {
     let mut locks = Vec::new(alloc);
-    for (root, claims) in counted(alloc, mentions)? {
+    for (root, claims) in count_claims(alloc, mentions)? {
         push_sparing(&mut locks, LockUse { root, claims })?;
     }
     Ok(locks)

@@ -15,7 +15,7 @@ pub struct MissingCall<'a> {
 }
 
 // The call at `at`, if it is one of a callee that is not given.
-fn missing<'a>(given: &Given<'a>, at: &MentionAt<'a>) -> Option<MissingCall<'a>> {
+fn missing_call<'a>(given: &Given<'a>, at: &MentionAt<'a>) -> Option<MissingCall<'a>> {
     let Mention::Call(column, callee) = at.mention else {
         return None;
     };
@@ -26,7 +26,7 @@ fn missing<'a>(given: &Given<'a>, at: &MentionAt<'a>) -> Option<MissingCall<'a>>
             called,
             lack,
             calls: 1,
-            first: at.at(column),
+            first: at.position_at(column),
         }),
     }
 }
@@ -39,7 +39,7 @@ fn single_calls<'a>(
 ) -> Result<Vec<MissingCall<'a>>, AllocError> {
     let mut calls = Vec::new(alloc);
     for at in mentions {
-        if let Some(call) = missing(given, at) {
+        if let Some(call) = missing_call(given, at) {
             push_sparing(&mut calls, call)?;
         }
     }
@@ -57,7 +57,7 @@ fn counted_before(joined: &[MissingCall<'_>], call: &MissingCall<'_>) -> usize {
 }
 
 // Joins the calls of each callee into one, and keeps the last of them here.
-fn joined<'a>(
+fn join_calls<'a>(
     alloc: Global,
     calls: Vec<MissingCall<'a>>,
 ) -> Result<Vec<MissingCall<'a>>, AllocError> {
@@ -81,5 +81,5 @@ pub(crate) fn missing_in<'a>(
     given: &Given<'a>,
     mentions: &[MentionAt<'a>],
 ) -> Result<Vec<MissingCall<'a>>, AllocError> {
-    joined(alloc, single_calls(alloc, given, mentions)?)
+    join_calls(alloc, single_calls(alloc, given, mentions)?)
 }

@@ -59,7 +59,7 @@ fn claimed_under<'a>(at: &MentionAt<'a>) -> &'a [Variable] {
 }
 
 // How often each root is claimed while each other is held.
-fn counted<'a>(
+fn count_pairs<'a>(
     alloc: Global,
     mentions: &[MentionAt<'a>],
 ) -> Result<Vec<(LockPair<'a>, usize)>, AllocError> {
@@ -67,7 +67,7 @@ fn counted<'a>(
     let mut pairs = Tally::new(alloc);
     for at in mentions {
         add_claims(&mut pairs, held.names(), claimed_under(at))?;
-        held.meet(at)?;
+        held.apply_mention(at)?;
     }
     pairs.in_order(alloc)
 }
@@ -78,7 +78,7 @@ pub(crate) fn orders_in<'a>(
     mentions: &[MentionAt<'a>],
 ) -> Result<Vec<LockOrder<'a>>, AllocError> {
     let mut orders = Vec::new(alloc);
-    for (pair, claims) in counted(alloc, mentions)? {
+    for (pair, claims) in count_pairs(alloc, mentions)? {
         let LockPair { held, claimed } = pair;
         push_sparing(
             &mut orders,

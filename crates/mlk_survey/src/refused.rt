@@ -60,7 +60,7 @@ fn counted_before(counts: &[RefusalCount<'_>], routine: &RefusedRoutine<'_>) -> 
 }
 
 // The number of routines that are refused with each code and word, in the order of `refused`.
-fn counted<'a>(
+fn count_refusals<'a>(
     alloc: Global,
     refused: &[RefusedRoutine<'a>],
 ) -> Result<Vec<RefusalCount<'a>>, AllocError> {
@@ -86,7 +86,7 @@ pub(crate) fn refusal_counts<'a>(
     refused: &[RefusedRoutine<'a>],
 ) -> Result<Vec<RefusalCount<'a>>, AllocError> {
     let ordered = by_reason(alloc, refused)?;
-    let mut counts = counted(alloc, ordered.as_slice())?;
+    let mut counts = count_refusals(alloc, ordered.as_slice())?;
     counts.sort_by(|count, other| other.routines.cmp(&count.routines))?;
     Ok(counts)
 }

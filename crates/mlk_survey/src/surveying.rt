@@ -23,7 +23,7 @@ fn sort_refused<'a>(refused: &mut Vec<RefusedRoutine<'a>>) -> Result<(), AllocEr
 }
 
 // The routines that were read, and those that were refused.
-fn parted<'a>(
+fn split_answers<'a>(
     alloc: Global,
     answers: &'a [Result<Routine, Failure<Fault>>],
 ) -> Result<(Vec<&'a Routine>, Vec<RefusedRoutine<'a>>), AllocError>
@@ -41,14 +41,14 @@ fn parted<'a>(
     Ok((routines, refused))
 }
 
-// `parted`, in order.
-fn parted_in_order<'a>(
+// `split_answers`, in order.
+fn split_in_order<'a>(
     alloc: Global,
     answers: &'a [Result<Routine, Failure<Fault>>],
 ) -> Result<(Vec<&'a Routine>, Vec<RefusedRoutine<'a>>), AllocError>
     ensures { IfOk result (λ p. length p.0.items + length p.1.items ≡ length answers.now) }
 {
-    let (mut routines, mut refused) = parted(alloc, answers)?;
+    let (mut routines, mut refused) = split_answers(alloc, answers)?;
     sort_routines(&mut routines)?;
     sort_refused(&mut refused)?;
     Ok((routines, refused))
@@ -87,7 +87,7 @@ pub fn survey<'a>(
 ) -> Result<Facts<'a>, AllocError>
     ensures { IfOk result (λ f. f.read + length f.refused.items ≡ length answers.now) }
 {
-    let (routines, refused) = parted_in_order(alloc, answers)?;
+    let (routines, refused) = split_in_order(alloc, answers)?;
     let refusal_counts = refusal_counts(alloc, refused.as_slice())?;
     let further = further_in_order(alloc, further)?;
     let found = found_in(alloc, routines.as_slice(), refused.as_slice())?;

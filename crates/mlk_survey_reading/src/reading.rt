@@ -46,7 +46,7 @@ fn rests_behind(
         let Err(Failure::Refused(fault)) = answer else {
             continue;
         };
-        if let Some(behind) = rest.behind(alloc, fault)? {
+        if let Some(behind) = rest.rest_behind(alloc, fault)? {
             left.push(behind)?;
         }
     }
@@ -64,7 +64,7 @@ fn add_faults(
             continue;
         };
         match failure {
-            Failure::Refused(fault) => further.push(rest.placed(fault))?,
+            Failure::Refused(fault) => further.push(rest.place_fault(fault))?,
             Failure::OutOfMemory => return Err(AllocError),
         }
     }
@@ -113,7 +113,7 @@ fn first_rests(
             continue;
         };
         let rest = Rest::of(alloc, source)?;
-        if let Some(behind) = rest.behind(alloc, fault)? {
+        if let Some(behind) = rest.rest_behind(alloc, fault)? {
             left.push(behind)?;
         }
     }

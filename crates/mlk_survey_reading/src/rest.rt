@@ -74,7 +74,7 @@ impl Rest {
     }
 
     /// Moves a fault of this text to its place in the routine.
-    pub(crate) fn placed(&self, fault: Fault) -> Fault {
+    pub(crate) fn place_fault(&self, fault: Fault) -> Fault {
         let line = LineNumber::new(u32::try_from(self.line_of(&fault)).unwrap_or(u32::MAX));
         let Fault {
             code,
@@ -98,7 +98,11 @@ impl Rest {
     }
 
     /// Copies what comes after the line of a fault; `None` if nothing is left to read, or the fault is of no line.
-    pub(crate) fn behind(&self, alloc: Global, fault: &Fault) -> Result<Option<Rest>, AllocError> {
+    pub(crate) fn rest_behind(
+        &self,
+        alloc: Global,
+        fault: &Fault,
+    ) -> Result<Option<Rest>, AllocError> {
         let line = self.line_of(fault);
         let left = after_lines(self.text.as_slice(), line.saturating_sub(self.before));
         let level = first_level(left);

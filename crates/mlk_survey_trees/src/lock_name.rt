@@ -132,7 +132,7 @@ pub(crate) fn subscripts_of(variable: &Variable) -> &[Subscript] {
 }
 
 // Whether both are constants, and differ.
-fn differ(subscript: &Subscript, other: &Subscript) -> bool {
+fn are_different_constants(subscript: &Subscript, other: &Subscript) -> bool {
     match (&subscript.value, &other.value) {
         (Expr::Lit(value), Expr::Lit(another)) => *value != *another,
         _ => false,
@@ -141,10 +141,9 @@ fn differ(subscript: &Subscript, other: &Subscript) -> bool {
 
 // Whether two different constants are at the same index.
 fn have_different_constants(subscripts: &[Subscript], others: &[Subscript]) -> bool {
-    subscripts
-        .iter()
-        .zip(others)
-        .any(|(subscript, other)| differ(subscript, other))
+    subscripts.iter().zip(others).any(|(subscript, other)| are_different_constants(
+        subscript, other,
+    ))
 }
 
 /// How two lock names compare, as far as the text shows.

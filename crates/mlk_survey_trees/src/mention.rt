@@ -68,7 +68,7 @@ pub struct MentionAt<'a> {
 
 impl<'a> MentionAt<'a> {
     /// The place at `column` of the mention's line.
-    pub fn at(&self, column: Column) -> Position<'a> {
+    pub fn position_at(&self, column: Column) -> Position<'a> {
         Position {
             routine: self.routine,
             line: self.line,

@@ -37,7 +37,7 @@ impl<T: Drop, E> From<AllocFailed<T>> for Failure<E> {
 /// Drops `_read`, which was read before the failure, and returns `failure`. The value is freed here and not in the reader,
 /// because a function clears all its slots on entry, those for dropping included.
 #[inline(always)]
-pub fn giving_up<T: Drop, E: Drop>(_read: T, failure: E) -> E
+pub fn drop_and_return<T: Drop, E: Drop>(_read: T, failure: E) -> E
     ensures { result ≡ failure }
 {
     failure

@@ -23,7 +23,7 @@ mod value;
 
 pub use code::Code;
 pub use copy::copy_of;
-pub use failure::{Failure, giving_up};
+pub use failure::{Failure, drop_and_return};
 pub use fault::{Fault, LeftOut};
 pub use law::{entries_written, one_code};
 pub use list::{List, are_equal, likely_length, make_room, push_sparing};
@@ -31,7 +31,7 @@ pub use name::Name;
 pub use operator::{Op, Relation, UnaryOp};
 pub use place::{Column, LineNumber, Place};
 pub use root::Root;
-pub use sequence::{Items, separated};
+pub use sequence::{Items, separated_items};
 pub use spelling::NotThere;
 pub use subscripts::Subscripts;
 pub use value::Value;

@@ -10,7 +10,7 @@ use crate::failure::Failure;
 use crate::lexeme::{byte_of, digits, is_text_byte};
 use crate::limit::{MOST_DIGITS, MOST_SIGNIFICANT, MOST_SUBSCRIPTS};
 use crate::list::List;
-use crate::sequence::{Items, separated};
+use crate::sequence::{Items, separated_items};
 use crate::spelling::NotThere;
 use crate::value::Value;
 use std::alloc::Global;
@@ -104,7 +104,7 @@ fn quoted_after<'a>(
 /// Reads the value up to the closing quote: the value, and the rest. `NotThere` if it is not closed.
 #[tactic(auto, using(crate::proofs::Quoted::inside_once, crate::proofs::Quoted::inside_plain))]
 #[inline(always)]
-pub fn quoted(alloc: Global, bytes: &[u8]) -> Result<(Value, &[u8]), Failure<NotThere>>
+pub fn quoted_value(alloc: Global, bytes: &[u8]) -> Result<(Value, &[u8]), Failure<NotThere>>
     ensures { Reads (λ x. (x.0, x.1.now)) result (inside bytes.now) }
 {
     let (plain, rest) = bytes.split_at(plain_bytes(bytes));
@@ -125,7 +125,7 @@ pub fn literal(alloc: Global, bytes: &[u8]) -> Result<(Value, &[u8]), Failure<No
         return Err(Failure::Refused(NotThere));
     };
     if *first == b'"' {
-        return quoted(alloc, after);
+        return quoted_value(alloc, after);
     }
     number(alloc, bytes)
 }
@@ -163,7 +163,7 @@ impl Items for Literals {
 fn list(alloc: Global, bytes: &[u8]) -> Result<(Vec<Value>, &[u8]), Failure<NotThere>>
     ensures { Reads (λ x. (x.0.items, x.1.now)) result (list_at bytes.now) }
 {
-    let (items, rest) = separated(alloc, &Literals, bytes)?;
+    let (items, rest) = separated_items(alloc, &Literals, bytes)?;
     let Some(rest) = byte_of(b')', rest) else {
         return Err(Failure::Refused(NotThere));
     };

@@ -33,7 +33,7 @@ pub trait Items {
 }
 
 /// Reads one or more items: the items, and the rest. Each separator must be followed by an item.
-pub fn separated<'a, R: Items>(
+pub fn separated_items<'a, R: Items>(
     alloc: Global,
     items: &R,
     bytes: &'a [u8],

@@ -53,7 +53,7 @@ fn add_begin(
     ensures { OnOk result (faults.new ≡ faults.old ++ begin_faults (scope_of scope.now) line formals.now) }
 {
     let case = begin_case(alloc, scope.summary(), formals)?;
-    if is_listed(scope.listed(line, 0), &case) {
+    if is_listed(scope.listed_cases(line, 0), &case) {
         return Ok(());
     }
     let fault = Fault {
@@ -68,7 +68,7 @@ fn add_begin(
 fn add_need(scope: &Scope, line: LineNumber, faults: &mut Faults) -> Result<(), AllocError>
     ensures { OnOk result (faults.new ≡ faults.old ++ need_faults (scope_of scope.now) line) }
 {
-    if !scope.declared() || scope.summary().need.as_slice().len() == 0 {
+    if !scope.is_entry_declared() || scope.summary().need.as_slice().len() == 0 {
         return Ok(());
     }
     let fault = Fault {
@@ -95,7 +95,7 @@ fn some_leaves(exits: &[ExitCase]) -> bool
 fn add_exits(scope: &Scope, line: LineNumber, faults: &mut Faults) -> Result<(), AllocError>
     ensures { OnOk result (faults.new ≡ faults.old ++ exit_faults (scope_of scope.now) line) }
 {
-    if !scope.declared() || !some_leaves(scope.summary().exits.as_slice()) {
+    if !scope.is_entry_declared() || !some_leaves(scope.summary().exits.as_slice()) {
         return Ok(());
     }
     let fault = Fault {

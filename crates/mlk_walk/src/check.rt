@@ -49,7 +49,7 @@ pub fn verdict_by(
 }
 
 // The fault of an entry without a block.
-fn uncertified(program: &Program, entry: EntryId) -> Fault
+fn entry_fault(program: &Program, entry: EntryId) -> Fault
     ensures { result ≡ fault_at (entry_number (line_of_entry (map routine_of program.now) entry)) 1 NoCertificate }
 {
     Fault {
@@ -69,7 +69,7 @@ pub fn verdict_of(alloc: Global, checks: &Checks<'_>, entry: EntryId) -> Result<
         return verdict_by(alloc, checks, entry, block);
     }
     let mut verdict = Verdict::new(alloc);
-    verdict.put(uncertified(checks.program, entry), Note::of(Mend::Nothing))?;
+    verdict.put(entry_fault(checks.program, entry), Note::of(Mend::Nothing))?;
     Ok(verdict)
 }
 

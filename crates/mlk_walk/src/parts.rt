@@ -22,7 +22,7 @@ use std::thread::Threads;
 /// An observer of the lists of lines into which a walk is cut.
 pub trait Pieces {
     /// Called when the walk of a list that is not cut further begins; `line` is the list's first line.
-    fn begun(&self, line: LineNumber);
+    fn on_begin(&self, line: LineNumber);
 }
 
 /// An observer that ignores everything.
@@ -30,7 +30,7 @@ pub trait Pieces {
 pub struct Unseen;
 
 impl Pieces for Unseen {
-    fn begun(&self, _line: LineNumber) {}
+    fn on_begin(&self, _line: LineNumber) {}
 }
 
 /// Consecutive lines of one level.
@@ -93,7 +93,7 @@ fn only_line(lines: &[Line]) -> Option<&Line>
 }
 
 // Joins the results of two parts, the first before the second.
-fn joined(front: PartWalk, back: PartWalk) -> Result<PartWalk, AllocError>
+fn join_parts(front: PartWalk, back: PartWalk) -> Result<PartWalk, AllocError>
     ensures { IfOk result (IsJoined front back) }
 {
     let PartWalk {
@@ -224,7 +224,7 @@ fn walk_halves<'a, P: Pieces + Sync, R: Threads + Sync>(
     let (front, back) = walk_both(rt, alloc, scope, first, second, depth, pieces);
     let front = front?;
     let back = back?;
-    joined(front, back)
+    join_parts(front, back)
 }
 
 /// Walks a part. It is cut into halves, which are walked in parallel and cut again, up to `depth` times; if a single line is
@@ -244,7 +244,7 @@ pub(crate) fn walk_part<'a, P: Pieces + Sync, R: Threads + Sync>(
         return walk_halves(rt, alloc, scope, part, depth - 1, pieces);
     }
     if let Some(first) = part.lines.first() {
-        pieces.begun(first.number);
+        pieces.on_begin(first.number);
     }
     match only_line(part.lines) {
         Some(line) if depth > 0 => walk_one(rt, alloc, scope, part, line, depth, pieces),

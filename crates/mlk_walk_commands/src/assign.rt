@@ -15,7 +15,9 @@ use crate::variable::{capture_variable, change_local, change_locals, count_of};
 use mlk_calls::State;
 use mlk_names::{Access, Extent, Sym};
 use mlk_syntax::{Expr, SetArgument, Target, Variable};
-use mlk_walk_exprs::{Spot, Touch, Transfer, Walk, covered_or, each, forget, value, values};
+use mlk_walk_exprs::{
+    Spot, Touch, Transfer, Walk, apply_to_states, covered_or, forget_captured, value, values,
+};
 use std::alloc::AllocError;
 
 fn variable_in(target: &Target) -> &Variable
@@ -94,9 +96,9 @@ impl<'a> TouchAt<'a> {
             (symbols_at self.now.from self.now.count s) s) walk.old) }
     {
         if self.are_covered(walk.going.as_slice()) {
-            return walk.once(self.spot.alloc);
+            return walk.remove_duplicates(self.spot.alloc);
         }
-        each(self.spot.alloc, self, walk)
+        apply_to_states(self.spot.alloc, self, walk)
     }
 }
 
@@ -140,7 +142,7 @@ impl<'a> Transfer for ReadPart<'a> {
                 };
                 transfer.make(state, walk)
             }
-            _ => walk.go(state),
+            _ => walk.add_live(state),
         }
     }
 }
@@ -161,7 +163,7 @@ fn read_target<'a>(
                 from,
                 variable,
             };
-            each(spot.alloc, &transfer, walk)
+            apply_to_states(spot.alloc, &transfer, walk)
         }
     }
 }
@@ -199,7 +201,7 @@ impl<'a> Transfer for Write<'a> {
             Expr::Local(name, subscripts) => {
                 change_local(spot, self.variable.column, name, subscripts, state, walk)
             }
-            _ => walk.go(state),
+            _ => walk.add_live(state),
         }
     }
 }
@@ -240,7 +242,7 @@ fn write_in_each<'a>(
                 from,
                 variable,
             };
-            each(spot.alloc, &transfer, walk)
+            apply_to_states(spot.alloc, &transfer, walk)
         }
     }
 }
@@ -288,5 +290,5 @@ pub fn set_argument<'a>(
     capture_targets(spot, argument.targets.as_slice(), walk)?;
     value(spot, &argument.value, walk)?;
     let count = assign_all(spot, argument.targets.as_slice(), walk)?;
-    forget(spot.alloc, count, walk)
+    forget_captured(spot.alloc, count, walk)
 }

@@ -13,8 +13,8 @@ use mlk_calls::{Calling, State, at_job};
 use mlk_syntax::{Actual, Call, DoArgument, Expr};
 use mlk_text::Failure;
 use mlk_walk_exprs::{
-    CallTransfer, Mend, Note, Spot, Transfer, Walk, capture_actuals, each, forget, value,
-    where_it_holds,
+    CallTransfer, Mend, Note, Spot, Transfer, Walk, apply_to_states, capture_actuals,
+    forget_captured, value, where_it_holds,
 };
 use std::alloc::AllocError;
 
@@ -37,7 +37,7 @@ fn capture_given<'a>(spot: &'a Spot<'a>, call: &'a Call, walk: &mut Walk) -> Res
 fn forget_given(spot: &Spot, call: &Call, walk: &mut Walk) -> Result<(), AllocError>
     ensures { OnOk result (walk.new ≡ forget_given (call_of call.now) walk.old) }
 {
-    forget(spot.alloc, given_of(call).len(), walk)
+    forget_captured(spot.alloc, given_of(call).len(), walk)
 }
 
 // A call whose actuals were captured last.
@@ -74,7 +74,7 @@ fn call_where<'a>(
         (each (do_row (spot_of spot.now) (call_of call.now))) (forget_given (call_of call.now)) walk.old) }
 {
     let failed = where_it_holds(spot, condition, walk)?;
-    each(spot.alloc, &Calls { spot, call }, walk)?;
+    apply_to_states(spot.alloc, &Calls { spot, call }, walk)?;
     if walk.over {
         return Ok(());
     }
@@ -94,7 +94,7 @@ pub fn do_argument<'a>(
     let call = &argument.call;
     capture_given(spot, call, walk)?;
     match &argument.condition {
-        None => each(spot.alloc, &Calls { spot, call }, walk),
+        None => apply_to_states(spot.alloc, &Calls { spot, call }, walk),
         Some(condition) => {
             value(spot, condition, walk)?;
             call_where(spot, call, condition, walk)
@@ -115,7 +115,7 @@ impl<'a> Transfer for Begins<'a> {
     fn make(&self, state: State, walk: &mut Walk) -> Result<(), AllocError> {
         let spot = self.spot;
         match at_job(spot.scope, &self.call.callee, given_of(self.call), state) {
-            Ok(state) => walk.go(state),
+            Ok(state) => walk.add_live(state),
             Err(Failure::OutOfMemory) => Err(AllocError),
             Err(Failure::Refused(refusal)) => {
                 let note = Note::in_case(Mend::Nothing, &refusal.state.case)?;
@@ -138,5 +138,5 @@ pub fn job_argument<'a>(
         spot,
         call: argument,
     };
-    each(spot.alloc, &transfer, walk)
+    apply_to_states(spot.alloc, &transfer, walk)
 }

@@ -11,7 +11,7 @@ ghost use Rattle.mlk_walk_commands.specs.Arguments.{if_outcomes, if_argument};
 use mlk_calls::{State, truth_of};
 use mlk_cert_parts::Test;
 use mlk_syntax::Expr;
-use mlk_walk_exprs::{Spot, Transfer, Walk, each, value};
+use mlk_walk_exprs::{Spot, Transfer, Walk, apply_to_states, value};
 use std::alloc::AllocError;
 
 // Sets `$TEST` to the truth of the condition; if it may be false, the rest of the line is skipped.
@@ -27,12 +27,12 @@ impl<'a> Transfer for ByTruth<'a> {
 
     fn make(&self, state: State, walk: &mut Walk) -> Result<(), AllocError> {
         match truth_of(self.spot.alloc, self.spot.scope, &state, self.condition)? {
-            Some(true) => walk.go(state.tested(Test::One)),
-            Some(false) => walk.skip(state.tested(Test::Zero).case),
+            Some(true) => walk.add_live(state.with_test(Test::One)),
+            Some(false) => walk.skip(state.with_test(Test::Zero).case),
             None => {
                 let other = state.copy()?;
-                walk.go(other.tested(Test::One))?;
-                walk.skip(state.tested(Test::Zero).case)
+                walk.add_live(other.with_test(Test::One))?;
+                walk.skip(state.with_test(Test::Zero).case)
             }
         }
     }
@@ -51,5 +51,5 @@ pub fn if_argument<'a>(
         spot,
         condition: argument,
     };
-    each(spot.alloc, &transfer, walk)
+    apply_to_states(spot.alloc, &transfer, walk)
 }

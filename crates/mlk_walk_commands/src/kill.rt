@@ -14,7 +14,7 @@ use mlk_cert_parts::NameSet;
 use mlk_names::{Access, Extent};
 use mlk_syntax::{Expr, KillArgument, Variable};
 use mlk_text::{List, Name};
-use mlk_walk_exprs::{Spot, Touch, TouchLast, Transfer, Walk, each};
+use mlk_walk_exprs::{Spot, Touch, TouchLast, Transfer, Walk, apply_to_states};
 use std::alloc::AllocError;
 
 /// The KILL of a variable whose subscripts were captured last.
@@ -49,7 +49,7 @@ impl<'a> Transfer for Kill<'a> {
                 let state = state.without_last(subscripts.len());
                 change_local(spot, self.variable.column, name, subscripts, state, walk)
             }
-            _ => walk.go(state),
+            _ => walk.add_live(state),
         }
     }
 }
@@ -77,7 +77,7 @@ pub fn kill_argument<'a>(
     match argument {
         KillArgument::One(variable) => {
             capture_variable(spot, variable, walk)?;
-            each(spot.alloc, &Kill { spot, variable }, walk)
+            apply_to_states(spot.alloc, &Kill { spot, variable }, walk)
         }
         KillArgument::AllBut(names) => kill_all_but(spot, names, walk),
     }

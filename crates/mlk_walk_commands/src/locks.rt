@@ -12,13 +12,13 @@ ghost use Rattle.mlk_walk_commands.specs.Holding.{held_quickly};
 ghost use Rattle.mlk_walk_commands.specs.Locks.{known_names, is_timed, column_at, granted, claim, claim_after, give_back, by_sign, lock_row, lock_argument, release};
 
 use crate::names::{capture_names, names_fault, symbols_of, terms_of, without_names};
-use mlk_calls::{State, claimed, may_take, release_all, release_one};
+use mlk_calls::{State, claim_unchecked, may_take, release_all, release_one};
 use mlk_cert_parts::{Shared, Test};
 use mlk_names::LockTerm;
 use mlk_rules::rank_of;
 use mlk_syntax::{Expr, LockArgument, Sign, Variable};
 use mlk_text::{Code, Column, Failure, copy_of};
-use mlk_walk_exprs::{Mend, Note, Spot, Transfer, Walk, each, value_if};
+use mlk_walk_exprs::{Mend, Note, Spot, Transfer, Walk, apply_to_states, value_if};
 use std::alloc::{AllocError, Global};
 
 // The check that the subscripts of names, which were captured last, are known.
@@ -34,7 +34,7 @@ impl<'a> Transfer for Known<'a> {
     fn make(&self, state: State, walk: &mut Walk) -> Result<(), AllocError> {
         let names = self.argument.names.as_slice();
         match names_fault(self.spot, &state, names, symbols_of(names, &state)) {
-            None => walk.go(state),
+            None => walk.add_live(state),
             Some((column, code)) => {
                 let note = Note::in_case(Mend::Nothing, &state.case)?;
                 walk.refuse(self.spot.line, column, code, note)
@@ -72,13 +72,13 @@ fn with_held(alloc: Global, terms: &[LockTerm], state: State) -> Result<State, A
     Ok(state)
 }
 
-fn hold(alloc: Global, terms: &[LockTerm], state: State) -> Result<State, AllocError>
+fn hold_terms(alloc: Global, terms: &[LockTerm], state: State) -> Result<State, AllocError>
     ensures { IfOk result (λ s. s ≡ held_quickly terms.now state) }
 {
     if terms.len() > 16 {
         return with_held(alloc, terms, state);
     }
-    claimed(alloc, terms, state)
+    claim_unchecked(alloc, terms, state)
 }
 
 fn grant(
@@ -91,13 +91,13 @@ fn grant(
     ensures { OnOk result (walk.new ≡ add_all (granted held_quickly timed terms.now state) walk.old) }
 {
     if !timed {
-        let state = hold(alloc, terms, state)?;
-        return walk.go(state);
+        let state = hold_terms(alloc, terms, state)?;
+        return walk.add_live(state);
     }
     let other = state.copy()?;
-    let state = hold(alloc, terms, state)?;
-    walk.go(state.tested(Test::One))?;
-    walk.go(other.tested(Test::Zero))
+    let state = hold_terms(alloc, terms, state)?;
+    walk.add_live(state.with_test(Test::One))?;
+    walk.add_live(other.with_test(Test::Zero))
 }
 
 fn claim_mend(spot: &Spot, code: Code, term: Option<&LockTerm>) -> Mend {
@@ -120,7 +120,7 @@ fn release_mend(code: Code) -> Mend {
     }
 }
 
-fn lacking(alloc: Global, term: &LockTerm) -> Result<Mend, AllocError> {
+fn missing_lock(alloc: Global, term: &LockTerm) -> Result<Mend, AllocError> {
     let mut locks = Vec::new(alloc);
     locks.push(copy_of(term)?)?;
     Ok(Mend::Locks(locks))
@@ -185,7 +185,7 @@ fn give_back(
     let mut left = terms;
     for name in names {
         let Some((term, others)) = left.split_first() else {
-            return walk.go(state);
+            return walk.add_live(state);
         };
         match release_one(spot.alloc, term, state) {
             Ok(after) => {
@@ -193,13 +193,13 @@ fn give_back(
             }
             Err(Failure::OutOfMemory) => return Err(AllocError),
             Err(Failure::Refused(refusal)) => {
-                let note = Note::in_case(lacking(spot.alloc, term)?, &refusal.state.case)?;
+                let note = Note::in_case(missing_lock(spot.alloc, term)?, &refusal.state.case)?;
                 return walk.refuse(spot.line, name.column, refusal.code, note);
             }
         }
         left = others;
     }
-    walk.go(state)
+    walk.add_live(state)
 }
 
 fn is_timed(timeout: &Option<Expr>) -> bool
@@ -272,10 +272,10 @@ pub fn lock_argument<'a>(
 {
     let names = argument.names.as_slice();
     capture_names(spot, names, walk)?;
-    each(spot.alloc, &Known { spot, argument }, walk)?;
+    apply_to_states(spot.alloc, &Known { spot, argument }, walk)?;
     value_if(spot, argument.timeout.as_ref(), walk)?;
-    each(spot.alloc, &Locks { spot, argument }, walk)?;
-    walk.few(spot.alloc, spot.line, spot.word)
+    apply_to_states(spot.alloc, &Locks { spot, argument }, walk)?;
+    walk.limit_states(spot.alloc, spot.line, spot.word)
 }
 
 /// The release of all locks, by LOCK without arguments.
@@ -290,7 +290,7 @@ impl<'a> Transfer for Release<'a> {
     fn make(&self, state: State, walk: &mut Walk) -> Result<(), AllocError> {
         let spot = self.spot;
         match release_all(spot.alloc, spot.scope, state) {
-            Ok(state) => walk.go(state),
+            Ok(state) => walk.add_live(state),
             Err(Failure::OutOfMemory) => Err(AllocError),
             Err(Failure::Refused(refusal)) => {
                 let note = Note::in_case(release_mend(refusal.code), &refusal.state.case)?;

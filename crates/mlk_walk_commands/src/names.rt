@@ -111,7 +111,7 @@ fn subs_fault(
 }
 
 // Splits `symbols` after the first `count`.
-fn parted(symbols: &[Sym], count: usize) -> (&[Sym], &[Sym])
+fn split_at_most(symbols: &[Sym], count: usize) -> (&[Sym], &[Sym])
     ensures first { result.0.now ≡ take count symbols.now }
     ensures rest { result.1.now ≡ drop count symbols.now }
 {
@@ -130,7 +130,7 @@ pub(crate) fn names_fault(
 {
     let mut left = symbols;
     for name in names {
-        let (own, others) = parted(left, count_of(name));
+        let (own, others) = split_at_most(left, count_of(name));
         if let Some(fault) = subs_fault(spot, state, subscripts_of(name), own) {
             return Some(fault);
         }
@@ -150,7 +150,7 @@ fn root_of(alloc: Global, name: &Expr) -> Result<Root, AllocError>
     }
 }
 
-fn known(alloc: Global, symbols: &[Sym]) -> Result<Option<TermSubs>, AllocError>
+fn known_subscripts(alloc: Global, symbols: &[Sym]) -> Result<Option<TermSubs>, AllocError>
     ensures { IfOk result (λ o. o ≡ all_known symbols.now) }
 {
     let mut subs = Subscripts::new(alloc);
@@ -168,7 +168,7 @@ fn known(alloc: Global, symbols: &[Sym]) -> Result<Option<TermSubs>, AllocError>
 fn term_of(alloc: Global, name: &Expr, symbols: &[Sym]) -> Result<Option<LockTerm>, AllocError>
     ensures { IfOk result (λ t. t ≡ term_of (tree_of name.now) symbols.now) }
 {
-    let Some(subs) = known(alloc, symbols)? else {
+    let Some(subs) = known_subscripts(alloc, symbols)? else {
         return Ok(None);
     };
     let root = root_of(alloc, name)?;
@@ -187,7 +187,7 @@ pub(crate) fn terms_of(
     let mut terms = Vec::new(alloc);
     let mut left = symbols;
     for name in names {
-        let (own, others) = parted(left, count_of(name));
+        let (own, others) = split_at_most(left, count_of(name));
         let Some(term) = term_of(alloc, &name.name, own)? else {
             return Ok(None);
         };

@@ -10,24 +10,28 @@ ghost use Rattle.mlk_walk_commands.specs.News.{renewed, with_own, renew};
 ghost use Rattle.mlk_walk_commands.specs.Arguments.{new_all_but, new_argument};
 
 use crate::order::{in_order, put_own};
-use mlk_calls::{RefusedState, State, changed, mention};
+use mlk_calls::{RefusedState, State, change_unchecked, mention_any};
 use mlk_cert_parts::{NameSet, Own, Shared};
 use mlk_syntax::NewArgument;
 use mlk_text::{Code, Column, Failure, List, Name, copy_of};
-use mlk_walk_exprs::{Mend, Note, Spot, Transfer, Walk, each};
+use mlk_walk_exprs::{Mend, Note, Spot, Transfer, Walk, apply_to_states};
 use std::alloc::{AllocError, Global};
 
 // The state after NEW of `names`: refused if a held term mentions one of them. The summary need not list these changes.
-fn renewed(alloc: Global, names: &[NameSet], state: State) -> Result<State, Failure<RefusedState>>
+fn renew_in_state(
+    alloc: Global,
+    names: &[NameSet],
+    state: State,
+) -> Result<State, Failure<RefusedState>>
     ensures { AnswersOf state (λ s. s) result (renewed names.now state) }
 {
-    if mention(names, state.case.held.as_slice()) {
+    if mention_any(names, state.case.held.as_slice()) {
         return Err(Failure::Refused(RefusedState {
             code: Code::Pinned,
             state,
         }));
     }
-    Ok(changed(alloc, names, state)?)
+    Ok(change_unchecked(alloc, names, state)?)
 }
 
 fn with_own(alloc: Global, item: Own, state: State) -> Result<State, AllocError>
@@ -53,14 +57,14 @@ impl<'a> Transfer for Renewal<'a> {
     fn make(&self, state: State, walk: &mut Walk) -> Result<(), AllocError> {
         let spot = self.spot;
         let names = [copy_of(self.names)?];
-        match renewed(spot.alloc, &names, state) {
+        match renew_in_state(spot.alloc, &names, state) {
             Ok(state) => {
                 let item = Own {
                     level: spot.level,
                     names: copy_of(self.names)?,
                 };
                 let state = with_own(spot.alloc, item, state)?;
-                walk.go(state)
+                walk.add_live(state)
             }
             Err(Failure::OutOfMemory) => Err(AllocError),
             Err(Failure::Refused(refusal)) => {
@@ -84,7 +88,7 @@ fn renew<'a>(
         column,
         names,
     };
-    each(spot.alloc, &transfer, walk)
+    apply_to_states(spot.alloc, &transfer, walk)
 }
 
 /// The NEW of all locals except `names`, at the column of the word.

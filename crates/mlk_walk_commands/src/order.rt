@@ -25,7 +25,7 @@ fn put_name(alloc: Global, found: &mut BTreeSet<Vec<u8>>, name: &Name) -> Result
     Ok(())
 }
 
-fn ordered(alloc: Global, names: &[Name]) -> Result<BTreeSet<Vec<u8>>, AllocError>
+fn sorted_names(alloc: Global, names: &[Name]) -> Result<BTreeSet<Vec<u8>>, AllocError>
     ensures { IfOk result (λ s. map (λ k. k.items) s.keys ≡ in_order names.now) }
 {
     let mut found = BTreeSet::new(alloc);
@@ -40,7 +40,7 @@ pub fn in_order(alloc: Global, names: &[Name]) -> Result<List<Name>, AllocError>
     ensures { IfOk result (λ l. l ≡ in_order names.now) }
 {
     let mut found = List::new(alloc);
-    for bytes in ordered(alloc, names)? {
+    for bytes in sorted_names(alloc, names)? {
         found.push(Name::of(alloc, bytes.as_slice())?)?;
     }
     Ok(found)
@@ -123,7 +123,7 @@ fn is_before(alloc: Global, item: &Own, other: &Own) -> Result<bool, AllocError>
     Ok(!own_below(alloc, item, other)?)
 }
 
-fn before(alloc: Global, own: &[Own], item: &Own) -> Result<Vec<Own>, AllocError>
+fn own_before(alloc: Global, own: &[Own], item: &Own) -> Result<Vec<Own>, AllocError>
     ensures { IfOk result (λ v. v.items ≡ filter (is_before item.now) own.now) }
 {
     let room = Vec::with_capacity(alloc, own.len().saturating_add(1))?;
@@ -136,7 +136,7 @@ fn before(alloc: Global, own: &[Own], item: &Own) -> Result<Vec<Own>, AllocError
     Ok(found.into_vec())
 }
 
-fn after(alloc: Global, own: &[Own], item: &Own) -> Result<Vec<Own>, AllocError>
+fn own_after(alloc: Global, own: &[Own], item: &Own) -> Result<Vec<Own>, AllocError>
     ensures { IfOk result (λ v. v.items ≡ filter (own_below item.now) own.now) }
 {
     let mut found = List::new(alloc);
@@ -152,8 +152,8 @@ fn after(alloc: Global, own: &[Own], item: &Own) -> Result<Vec<Own>, AllocError>
 pub(crate) fn put_own(alloc: Global, own: &[Own], item: Own) -> Result<Vec<Own>, AllocError>
     ensures { IfOk result (λ v. v.items ≡ put_own item own.now) }
 {
-    let mut all = before(alloc, own, &item)?;
-    let mut others = after(alloc, own, &item)?;
+    let mut all = own_before(alloc, own, &item)?;
+    let mut others = own_after(alloc, own, &item)?;
     all.push(item)?;
     all.append(&mut others)?;
     Ok(all)

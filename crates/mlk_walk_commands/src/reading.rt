@@ -14,7 +14,7 @@ use mlk_calls::State;
 use mlk_cert_parts::Test;
 use mlk_names::{Access, Extent};
 use mlk_syntax::{Expr, MergeArgument, ReadArgument, Variable, WriteArgument};
-use mlk_walk_exprs::{Spot, Touch, TouchLast, Transfer, Walk, each, value, value_if};
+use mlk_walk_exprs::{Spot, Touch, TouchLast, Transfer, Walk, apply_to_states, value, value_if};
 use std::alloc::AllocError;
 
 // With a timeout, `$TEST` is then 1 or 0.
@@ -28,11 +28,11 @@ impl<'a> Transfer for InTime<'a> {
 
     fn make(&self, state: State, walk: &mut Walk) -> Result<(), AllocError> {
         match self.timeout {
-            None => walk.go(state),
+            None => walk.add_live(state),
             Some(_) => {
                 let other = state.copy()?;
-                walk.go(other.tested(Test::One))?;
-                walk.go(state.tested(Test::Zero))
+                walk.add_live(other.with_test(Test::One))?;
+                walk.add_live(state.with_test(Test::Zero))
             }
         }
     }
@@ -51,7 +51,7 @@ impl<'a> Transfer for Read<'a> {
     #[tactic(auto, using(crate::proofs::Opened::counted, crate::proofs::Opened::local_read))]
     fn make(&self, state: State, walk: &mut Walk) -> Result<(), AllocError> {
         let Expr::Local(name, subscripts) = &self.variable.name else {
-            return walk.go(state);
+            return walk.add_live(state);
         };
         let state = state.without_last(subscripts.len());
         change_local(
@@ -78,8 +78,8 @@ fn read_variable<'a>(
     capture_variable(spot, variable, walk)?;
     value_if(spot, most, walk)?;
     value_if(spot, timeout, walk)?;
-    each(spot.alloc, &Read { spot, variable }, walk)?;
-    each(spot.alloc, &InTime { timeout }, walk)
+    apply_to_states(spot.alloc, &Read { spot, variable }, walk)?;
+    apply_to_states(spot.alloc, &InTime { timeout }, walk)
 }
 
 /// READ: evaluates the subscripts, the length and the timeout; then the local changes, and with a timeout `$TEST` is 1 or 0.
@@ -129,7 +129,7 @@ impl<'a> Transfer for ReadTree<'a> {
                 };
                 transfer.make(state, walk)
             }
-            _ => walk.go(state.without_last(count_of(self.variable))),
+            _ => walk.add_live(state.without_last(count_of(self.variable))),
         }
     }
 }
@@ -154,8 +154,8 @@ pub fn merge_argument<'a>(
         spot,
         variable: target,
     };
-    each(spot.alloc, &reads, walk)?;
-    each(spot.alloc, &writes, walk)
+    apply_to_states(spot.alloc, &reads, walk)?;
+    apply_to_states(spot.alloc, &writes, walk)
 }
 
 /// WRITE: evaluates its expressions.

@@ -15,7 +15,7 @@ use mlk_calls::{RefusedState, State, change, change_in_place, is_allowed, short_
 use mlk_cert_parts::NameSet;
 use mlk_syntax::{Expr, Subscript, Variable};
 use mlk_text::{Code, Column, Failure, Name};
-use mlk_walk_exprs::{Mend, Note, Spot, Transfer, Walk, capture_subs, each};
+use mlk_walk_exprs::{Mend, Note, Spot, Transfer, Walk, apply_to_states, capture_subs};
 use std::alloc::AllocError;
 use std::slice;
 
@@ -112,7 +112,7 @@ impl<'a> Change<'a> {
         if self.is_allowed(walk.going.as_slice()) {
             return self.make_in_place(walk);
         }
-        each(self.spot.alloc, self, walk)
+        apply_to_states(self.spot.alloc, self, walk)
     }
 }
 
@@ -121,7 +121,7 @@ impl<'a> Transfer for Change<'a> {
 
     fn make(&self, state: State, walk: &mut Walk) -> Result<(), AllocError> {
         match self.changed(state) {
-            Ok(state) => walk.go(state),
+            Ok(state) => walk.add_live(state),
             Err(Failure::OutOfMemory) => Err(AllocError),
             Err(Failure::Refused(refusal)) => {
                 let mend = self.mend(&refusal)?;
@@ -161,7 +161,7 @@ pub(crate) fn change_locals<'a>(
         (subs_from (sub_trees subscripts.now))) walk.old) }
 {
     if let Some(_) = subscripts.split_first() {
-        return walk.once(spot.alloc);
+        return walk.remove_duplicates(spot.alloc);
     }
     let names = NameSet::Only(name.copy()?);
     let change = Change {
@@ -185,7 +185,7 @@ pub(crate) fn change_local(
         (subs_from (sub_trees subscripts.now)) state) walk.old) }
 {
     if let Some(_) = subscripts.split_first() {
-        return walk.go(state);
+        return walk.add_live(state);
     }
     let names = NameSet::Only(name.copy()?);
     let transfer = Change {

@@ -76,7 +76,7 @@ impl<'a> Transfer for CallTransfer<'a> {
             self.given,
             state,
         ) {
-            Ok(states) => walk.go_all(states),
+            Ok(states) => walk.add_all_live(states),
             Err(Failure::OutOfMemory) => Err(AllocError),
             Err(Failure::Refused(refusal)) => {
                 let mend = self.mend(&refusal)?;

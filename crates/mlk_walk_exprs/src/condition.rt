@@ -77,7 +77,7 @@ pub fn where_it_holds(
 }
 
 // The waiting states and the live ones, in one list.
-fn gathered(waiting: Vec<List<State>>, going: List<State>) -> Result<List<State>, AllocError>
+fn gather_states(waiting: Vec<List<State>>, going: List<State>) -> Result<List<State>, AllocError>
     ensures { IfOk result (λ all. all ≡ gathered waiting.items going) }
 {
     let mut left = waiting.into_iter();
@@ -98,6 +98,6 @@ pub fn join_all(alloc: Global, waiting: Vec<List<State>>, walk: &mut Walk) -> Re
         return Ok(());
     }
     let going = walk.take_going(alloc);
-    walk.going = gathered(waiting, going)?;
+    walk.going = gather_states(waiting, going)?;
     Ok(())
 }

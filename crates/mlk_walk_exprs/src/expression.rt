@@ -14,7 +14,7 @@ use crate::call::CallTransfer;
 use crate::condition::{join_all, where_it_holds};
 use crate::reference::{ReadLast, Use, use_of};
 use crate::spot::Spot;
-use crate::transfer::{each, forget};
+use crate::transfer::{apply_to_states, forget_captured};
 use crate::walk::Walk;
 use mlk_calls::{Calling, State, symbol_of};
 use mlk_names::Sym;
@@ -82,7 +82,7 @@ fn forget_subs(spot: &Spot, subscripts: &[Subscript], walk: &mut Walk) -> Result
     if subscripts.is_empty() {
         return Ok(());
     }
-    forget(spot.alloc, subscripts.len(), walk)
+    forget_captured(spot.alloc, subscripts.len(), walk)
 }
 
 fn read<'a>(
@@ -121,8 +121,8 @@ fn extrinsic<'a>(
         callee,
         given,
     };
-    each(spot.alloc, &transfer, walk)?;
-    walk.few(spot.alloc, spot.line, spot.word)
+    apply_to_states(spot.alloc, &transfer, walk)?;
+    walk.limit_states(spot.alloc, spot.line, spot.word)
 }
 
 /// Evaluates an expression; if it is a name, it is used as `how` says.

@@ -11,7 +11,7 @@ ghost use Rattle.mlk_walk_exprs.specs.References.{use_of, reference, checked, co
 ghost use Rattle.mlk_walk_exprs.specs.Spots.{spot_of};
 
 use crate::spot::Spot;
-use crate::transfer::{Transfer, each, forget};
+use crate::transfer::{Transfer, apply_to_states, forget_captured};
 use crate::walk::{Mend, Note, Walk};
 use mlk_calls::State;
 use mlk_names::{Access, Extent, LockTerm, Reference, Sym};
@@ -178,7 +178,7 @@ pub fn covered_or(
         (covered_or (option_map (λ x. x.0) fault) spot.now.line column state) walk.old) }
 {
     match fault {
-        None => walk.go(state),
+        None => walk.add_live(state),
         Some((code, mend)) => {
             let note = Note::in_case(mend, &state.case)?;
             walk.refuse(spot.line, column, code, note)
@@ -283,9 +283,9 @@ impl<'a> ReadLast<'a> {
             self.now.name.now self.now.count) walk.old) }
     {
         if self.are_covered(walk.going.as_slice()) {
-            return forget(self.spot.alloc, self.count, walk);
+            return forget_captured(self.spot.alloc, self.count, walk);
         }
-        each(self.spot.alloc, self, walk)
+        apply_to_states(self.spot.alloc, self, walk)
     }
 }
 

@@ -20,7 +20,11 @@ pub trait Transfer {
 
 /// Applies the transfer function to each live state. Usually there is one, and its slot is reused.
 #[inline(always)]
-pub fn each<T: Transfer>(alloc: Global, transfer: &T, walk: &mut Walk) -> Result<(), AllocError>
+pub fn apply_to_states<T: Transfer>(
+    alloc: Global,
+    transfer: &T,
+    walk: &mut Walk,
+) -> Result<(), AllocError>
     ensures { OnOk result (walk.new ≡ each (T.outcomes transfer.now) walk.old) }
 {
     if let Some(state) = walk.take_only() {
@@ -34,11 +38,11 @@ pub fn each<T: Transfer>(alloc: Global, transfer: &T, walk: &mut Walk) -> Result
 }
 
 /// Removes the last `count` captured symbols of each live state.
-pub fn forget(alloc: Global, count: usize, walk: &mut Walk) -> Result<(), AllocError>
+pub fn forget_captured(alloc: Global, count: usize, walk: &mut Walk) -> Result<(), AllocError>
     ensures { OnOk result (walk.new ≡ each_changed (without_last count) walk.old) }
 {
     if count == 0 {
-        return walk.once(alloc);
+        return walk.remove_duplicates(alloc);
     }
     let mut states = walk.take_going(alloc).into_vec();
     for state in states.iter_mut() {

@@ -223,18 +223,18 @@ pub fn too_many(states: &[State]) -> bool
 impl Walk {
     /// Adds a live state.
     #[inline(always)]
-    pub fn go(&mut self, state: State) -> Result<(), AllocError>
+    pub fn add_live(&mut self, state: State) -> Result<(), AllocError>
         ensures { OnOk result (self.new ≡ add (Goes state) self.old) }
     {
         put(&mut self.going, state)
     }
 
     /// Adds live states.
-    pub fn go_all(&mut self, states: Vec<State>) -> Result<(), AllocError>
+    pub fn add_all_live(&mut self, states: Vec<State>) -> Result<(), AllocError>
         ensures { OnOk result (self.new ≡ add_all (map Goes states.items) self.old) }
     {
         for state in states {
-            self.go(state)?;
+            self.add_live(state)?;
         }
         Ok(())
     }
@@ -253,7 +253,7 @@ impl Walk {
     }
 
     /// Removes duplicates among the live states.
-    pub fn once(&mut self, alloc: Global) -> Result<(), AllocError>
+    pub fn remove_duplicates(&mut self, alloc: Global) -> Result<(), AllocError>
         ensures { OnOk result (self.new ≡ with_states (put_states self.old.going []) self.old) }
     {
         let states = self.take_going(alloc);
@@ -312,7 +312,12 @@ impl Walk {
     /// Ends the walk of the line if there are too many states, with a fault at the command's word.
     #[tactic(auto, unfolding(crate::specs::Walks::few))]
     #[inline(always)]
-    pub fn few(&mut self, alloc: Global, line: LineNumber, word: Column) -> Result<(), AllocError>
+    pub fn limit_states(
+        &mut self,
+        alloc: Global,
+        line: LineNumber,
+        word: Column,
+    ) -> Result<(), AllocError>
         ensures { OnOk result (self.new ≡ few line word self.old) }
     {
         if !too_many(self.going.as_slice()) {

@@ -11,7 +11,7 @@ ghost use Rattle.mlk_walk_exprs.specs.Walks.{Outcome, add_all};
 ghost use Rattle.mlk_walk_lines.specs.Commands.{if_row, else_row, halt_row, quit_row, do_calls, if_all, kill_each, lock_each, new_each, act};
 ghost use Rattle.mlk_walk_lines.specs.Counting.{counted};
 
-use crate::argument::{conditions_in_turn, in_turn};
+use crate::argument::{walk_arguments, walk_conditions};
 use crate::block::do_block;
 use mlk_calls::State;
 use mlk_cert_parts::Test;
@@ -19,7 +19,7 @@ use mlk_names::LockTerm;
 use mlk_syntax::{Action, DoArgument, Expr, KillArgument, LockArgument, NewArgument};
 use mlk_text::{Code, List};
 use mlk_walk_commands::{Release, kill_all_but, new_all_but};
-use mlk_walk_exprs::{Mend, Note, Spot, Transfer, Walk, each, value_if};
+use mlk_walk_exprs::{Mend, Note, Spot, Transfer, Walk, apply_to_states, value_if};
 use std::alloc::{AllocError, Global};
 
 // IF without arguments: if `$TEST` is 0, the rest of the line is skipped; if it is not known, both ways are taken, and it is
@@ -32,12 +32,12 @@ impl Transfer for IfTest {
 
     fn make(&self, state: State, walk: &mut Walk) -> Result<(), AllocError> {
         match state.case.test {
-            Test::One => walk.go(state.tested(Test::One)),
-            Test::Zero => walk.skip(state.tested(Test::Zero).case),
+            Test::One => walk.add_live(state.with_test(Test::One)),
+            Test::Zero => walk.skip(state.with_test(Test::Zero).case),
             Test::Any => {
                 let other = state.copy()?;
-                walk.go(other.tested(Test::One))?;
-                walk.skip(state.tested(Test::Zero).case)
+                walk.add_live(other.with_test(Test::One))?;
+                walk.skip(state.with_test(Test::Zero).case)
             }
         }
     }
@@ -54,16 +54,16 @@ impl Transfer for ElseTest {
 
     fn make(&self, state: State, walk: &mut Walk) -> Result<(), AllocError> {
         match state.case.test {
-            Test::One => walk.skip(state.tested(Test::One).case),
+            Test::One => walk.skip(state.with_test(Test::One).case),
             Test::Zero => {
-                let state = State::at_rest(self.alloc, &state.tested(Test::Zero).case)?;
-                walk.go(state)
+                let state = State::at_rest(self.alloc, &state.with_test(Test::Zero).case)?;
+                walk.add_live(state)
             }
             Test::Any => {
                 let other = state.copy()?;
-                walk.skip(other.tested(Test::One).case)?;
-                let state = State::at_rest(self.alloc, &state.tested(Test::Zero).case)?;
-                walk.go(state)
+                walk.skip(other.with_test(Test::One).case)?;
+                let state = State::at_rest(self.alloc, &state.with_test(Test::Zero).case)?;
+                walk.add_live(state)
             }
         }
     }
@@ -122,7 +122,7 @@ fn do_action<'a>(
 {
     match calls.split_first() {
         None => do_block(spot, walk),
-        Some(_) => in_turn(spot, calls, walk),
+        Some(_) => walk_arguments(spot, calls, walk),
     }
 }
 
@@ -134,8 +134,8 @@ fn if_action<'a>(
     ensures { OnOk result (walk.new ≡ if_all (spot_of spot.now) (trees conditions.now) walk.old) }
 {
     match conditions.split_first() {
-        None => each(spot.alloc, &IfTest, walk),
-        Some(_) => conditions_in_turn(spot, conditions, walk),
+        None => apply_to_states(spot.alloc, &IfTest, walk),
+        Some(_) => walk_conditions(spot, conditions, walk),
     }
 }
 
@@ -148,7 +148,7 @@ fn kill_action<'a>(
 {
     match kills.split_first() {
         None => kill_all_but(spot, &List::new(spot.alloc), walk),
-        Some(_) => in_turn(spot, kills, walk),
+        Some(_) => walk_arguments(spot, kills, walk),
     }
 }
 
@@ -160,8 +160,8 @@ fn lock_action<'a>(
     ensures { OnOk result (walk.new ≡ lock_each (spot_of spot.now) (map lock_of locks.now) walk.old) }
 {
     match locks.split_first() {
-        None => each(spot.alloc, &Release { spot }, walk),
-        Some(_) => in_turn(spot, locks, walk),
+        None => apply_to_states(spot.alloc, &Release { spot }, walk),
+        Some(_) => walk_arguments(spot, locks, walk),
     }
 }
 
@@ -174,7 +174,7 @@ fn new_action<'a>(
 {
     match news.split_first() {
         None => new_all_but(spot, &List::new(spot.alloc), walk),
-        Some(_) => in_turn(spot, news, walk),
+        Some(_) => walk_arguments(spot, news, walk),
     }
 }
 
@@ -186,7 +186,7 @@ fn quit_action<'a>(
     ensures { OnOk result (walk.new ≡ act (spot_of spot.now) (tree.Quit (option_map (λ b. tree_of b.value) given.now)) walk.old) }
 {
     value_if(spot, given.as_deref(), walk)?;
-    each(spot.alloc, &QuitTransfer { spot }, walk)
+    apply_to_states(spot.alloc, &QuitTransfer { spot }, walk)
 }
 
 /// The effect of a command, without its postconditional. If there are more than 17 states, only the first 17 may be kept, so
@@ -201,18 +201,18 @@ pub(crate) fn act<'a>(
 {
     match action {
         Action::Do(calls) => do_action(spot, calls, walk),
-        Action::Else => each(spot.alloc, &ElseTest { alloc: spot.alloc }, walk),
-        Action::Halt => each(spot.alloc, &HaltTransfer { spot }, walk),
-        Action::Hang(times) => in_turn(spot, times, walk),
+        Action::Else => apply_to_states(spot.alloc, &ElseTest { alloc: spot.alloc }, walk),
+        Action::Halt => apply_to_states(spot.alloc, &HaltTransfer { spot }, walk),
+        Action::Hang(times) => walk_arguments(spot, times, walk),
         Action::If(conditions) => if_action(spot, conditions, walk),
-        Action::Job(calls) => in_turn(spot, calls, walk),
+        Action::Job(calls) => walk_arguments(spot, calls, walk),
         Action::Kill(kills) => kill_action(spot, kills, walk),
         Action::Lock(locks) => lock_action(spot, locks, walk),
-        Action::Merge(merges) => in_turn(spot, merges, walk),
+        Action::Merge(merges) => walk_arguments(spot, merges, walk),
         Action::New(news) => new_action(spot, news, walk),
         Action::Quit(value) => quit_action(spot, value, walk),
-        Action::Read(reads) => in_turn(spot, reads, walk),
-        Action::Set(sets) => in_turn(spot, sets, walk),
-        Action::Write(writes) => in_turn(spot, writes, walk),
+        Action::Read(reads) => walk_arguments(spot, reads, walk),
+        Action::Set(sets) => walk_arguments(spot, sets, walk),
+        Action::Write(writes) => walk_arguments(spot, writes, walk),
     }
 }

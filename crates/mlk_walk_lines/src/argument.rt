@@ -39,7 +39,7 @@ pub(crate) trait Argument {
 }
 
 // Applies one argument, then checks that there are not too many states.
-fn turn<'a, A: Argument>(
+fn apply_argument<'a, A: Argument>(
     spot: &'a Spot<'a>,
     argument: &'a A,
     walk: &mut Walk,
@@ -47,11 +47,11 @@ fn turn<'a, A: Argument>(
     ensures { OnOk result (walk.new ≡ turn A.made (spot_of spot.now) walk.old (A.tree argument.now)) }
 {
     argument.make(spot, walk)?;
-    walk.few(spot.alloc, spot.line, spot.word)
+    walk.limit_states(spot.alloc, spot.line, spot.word)
 }
 
 /// Applies arguments one after another.
-pub(crate) fn in_turn<'a, A: Argument>(
+pub(crate) fn walk_arguments<'a, A: Argument>(
     spot: &'a Spot<'a>,
     arguments: &'a [A],
     walk: &mut Walk,
@@ -59,7 +59,7 @@ pub(crate) fn in_turn<'a, A: Argument>(
     ensures { OnOk result (walk.new ≡ in_turn A.made (spot_of spot.now) (map A.tree arguments.now) walk.old) }
 {
     for argument in arguments {
-        turn(spot, argument, walk)?;
+        apply_argument(spot, argument, walk)?;
     }
     Ok(())
 }
@@ -187,7 +187,7 @@ impl Argument for Expr {
 }
 
 /// Applies conditions of IF one after another.
-pub(crate) fn conditions_in_turn<'a>(
+pub(crate) fn walk_conditions<'a>(
     spot: &'a Spot<'a>,
     conditions: &'a [Expr],
     walk: &mut Walk,
@@ -196,7 +196,7 @@ pub(crate) fn conditions_in_turn<'a>(
 {
     for condition in conditions {
         if_argument(spot, condition, walk)?;
-        walk.few(spot.alloc, spot.line, spot.word)?;
+        walk.limit_states(spot.alloc, spot.line, spot.word)?;
     }
     Ok(())
 }

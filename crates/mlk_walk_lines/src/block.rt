@@ -15,7 +15,7 @@ use mlk_walk_exprs::{Block, Mend, Note, Spot, Walk, put};
 use std::alloc::{AllocError, Global};
 
 // The case with its `$TEST` saved.
-fn entering(alloc: Global, case: Case) -> Result<Case, AllocError>
+fn save_test(alloc: Global, case: Case) -> Result<Case, AllocError>
     ensures { IfOk result (λ c. c ≡ entering case) }
 {
     let mut saved = Vec::from_slice(alloc, case.saved.as_slice())?;
@@ -34,8 +34,8 @@ fn enter(spot: &Spot, block: &Block, state: State, walk: &mut Walk) -> Result<bo
     ensures enters { IfOk result (λ e. e ≡ enters (spot_of spot.now) block.now state) }
     ensures walk { OnOk result (walk.new ≡ add_all (enter_row (spot_of spot.now) block.now state) walk.old) }
 {
-    let case = entering(spot.alloc, state.case)?;
-    if is_listed(spot.scope.listed(block.first, 0), &case) {
+    let case = save_test(spot.alloc, state.case)?;
+    if is_listed(spot.scope.listed_cases(block.first, 0), &case) {
         return Ok(true);
     }
     let mend = Mend::Listed(block.first, 0, case);
@@ -98,7 +98,7 @@ fn block_ends(alloc: Global, entered: bool, block: &Block) -> Result<List<State>
     ends_of(alloc, block)
 }
 
-fn through(spot: &Spot, block: &Block, walk: &mut Walk) -> Result<(), AllocError>
+fn walk_through(spot: &Spot, block: &Block, walk: &mut Walk) -> Result<(), AllocError>
     ensures { OnOk result (counted walk.new ≡ counted (do_block (spot_of spot.now) (Some block.now) walk.old)) }
 {
     let going = walk.take_going(spot.alloc);
@@ -114,6 +114,6 @@ pub(crate) fn do_block(spot: &Spot, walk: &mut Walk) -> Result<(), AllocError>
 {
     match spot.block {
         None => Ok(()),
-        Some(block) => through(spot, block, walk),
+        Some(block) => walk_through(spot, block, walk),
     }
 }

@@ -43,7 +43,7 @@ fn where_true<'a>(
     with_aside(spot.alloc, aside, walk)
 }
 
-fn conditioned<'a>(
+fn apply_if_true<'a>(
     spot: &'a Spot<'a>,
     command: &'a Command,
     walk: &mut Walk,
@@ -67,6 +67,6 @@ pub(crate) fn perform<'a>(
     ensures { OnOk result (walk.new ≡ result_of (spot_of spot.now) (option_map (λ b. tree_of b.value) command.now.condition)
         (action_of command.now.action) walk.old) }
 {
-    conditioned(spot, command, walk)?;
-    walk.few(spot.alloc, spot.line, spot.word)
+    apply_if_true(spot, command, walk)?;
+    walk.limit_states(spot.alloc, spot.line, spot.word)
 }

@@ -10,7 +10,7 @@ ghost use Rattle.mlk_walk_lines.specs.Loops.{rounds_of, parameters, controlled, 
 
 use crate::block::are_many;
 use crate::conditioned::perform;
-use crate::rounds::{Rounds, after_round, begin_rounds, parameter};
+use crate::rounds::{Rounds, after_round, begin_rounds, walk_parameter};
 use mlk_calls::State;
 use mlk_cert_parts::{Case, NameSet};
 use mlk_syntax::{Command, Commands, Control, Parameter};
@@ -19,7 +19,7 @@ use mlk_walk_exprs::{Faults, Quit, Spot, Walk, put, put_all};
 use std::alloc::{AllocError, Global};
 
 // The cases that skipped, as states with nothing captured.
-fn resting(alloc: Global, cases: List<Case>) -> Result<Vec<State>, AllocError>
+fn resting_states(alloc: Global, cases: List<Case>) -> Result<Vec<State>, AllocError>
     ensures { IfOk result (λ v. v.items ≡ map at_rest cases) }
 {
     let mut states = Vec::new(alloc);
@@ -83,14 +83,14 @@ fn and_states(alloc: Global, states: Vec<State>, walk: &mut Walk) -> Result<(), 
 }
 
 // Ends the walk of the line.
-fn over_too(alloc: Global, walk: &mut Walk)
+fn end_walk(alloc: Global, walk: &mut Walk)
     ensures { walk.new ≡ over_too walk.old }
 {
     let _ = walk.take_going(alloc);
     walk.over = true;
 }
 
-fn parameters<'a>(
+fn walk_parameters<'a>(
     spot: &'a Spot<'a>,
     rounds: &Rounds<'a>,
     given: &'a [Parameter],
@@ -99,13 +99,13 @@ fn parameters<'a>(
     ensures { OnOk result (walk.new ≡ parameters (spot_of spot.now) (rounds_of rounds.now) (map parameter_of given.now) walk.old) }
 {
     for one in given {
-        parameter(spot, rounds, one, walk)?;
+        walk_parameter(spot, rounds, one, walk)?;
     }
     Ok(())
 }
 
 // A FOR without a parameter.
-fn endless<'a>(
+fn walk_endless<'a>(
     spot: &'a Spot<'a>,
     index: usize,
     cases: &'a [Case],
@@ -119,7 +119,7 @@ fn endless<'a>(
     begin_rounds(spot, index, cases, walk)
 }
 
-fn controlled<'a>(
+fn walk_controlled<'a>(
     spot: &'a Spot<'a>,
     control: &'a Control,
     index: usize,
@@ -137,7 +137,7 @@ fn controlled<'a>(
         cases,
         ended,
     };
-    parameters(spot, &rounds, control.parameters.as_slice(), walk)
+    walk_parameters(spot, &rounds, control.parameters.as_slice(), walk)
 }
 
 fn for_rounds<'a>(
@@ -151,8 +151,8 @@ fn for_rounds<'a>(
     ensures { OnOk result (walk.new ≡ controlled (spot_of spot.now) (option_map control_of control.now) cases.now ended.now walk.old) }
 {
     match control {
-        None => endless(spot, index, cases, ended, walk),
-        Some(control) => controlled(spot, control, index, cases, ended, walk),
+        None => walk_endless(spot, index, cases, ended, walk),
+        Some(control) => walk_controlled(spot, control, index, cases, ended, walk),
     }
 }
 
@@ -179,13 +179,13 @@ fn after_rounds<'a>(
     } = inner;
     add_faults(faults, walk)?;
     if over {
-        over_too(spot.alloc, walk);
+        end_walk(spot.alloc, walk);
         return Ok(());
     }
-    let ended = put_all(going, resting(spot.alloc, skips)?)?;
+    let ended = put_all(going, resting_states(spot.alloc, skips)?)?;
     for_rounds(spot, control, index, cases, ended.as_slice(), walk)?;
     and_states(spot.alloc, resting_quits(spot.alloc, quits)?, walk)?;
-    walk.few(spot.alloc, spot.line, spot.word)
+    walk.limit_states(spot.alloc, spot.line, spot.word)
 }
 
 fn at_word<'a>(spot: &Spot<'a>, word: Column) -> Spot<'a>
@@ -213,7 +213,11 @@ fn one_command<'a>(
 }
 
 // Applies the commands before the first FOR, one after another.
-fn before<'a>(spot: &'a Spot<'a>, given: &'a [Command], walk: &mut Walk) -> Result<(), AllocError>
+fn apply_before_for<'a>(
+    spot: &'a Spot<'a>,
+    given: &'a [Command],
+    walk: &mut Walk,
+) -> Result<(), AllocError>
     ensures { OnOk result (walk.new ≡ fold (one_command (spot_of spot.now)) walk.old (map command_of given.now)) }
 {
     for command in given {
@@ -262,11 +266,11 @@ pub(crate) fn commands<'a>(
 ) -> Result<(), AllocError>
     ensures { OnOk result (walk.new ≡ commands (spot_of spot.now) (commands_of given.now) walk.old) }
 {
-    before(spot, given.before.as_slice(), walk)?;
+    apply_before_for(spot, given.before.as_slice(), walk)?;
     let Some(last) = &given.last else {
         return Ok(());
     };
-    let cases = spot.scope.listed(spot.line, last.index);
+    let cases = spot.scope.listed_cases(spot.line, last.index);
     let mut inner = begin(spot.alloc, cases)?;
     commands(spot, &last.rest, &mut inner)?;
     let here = at_word(spot, last.column);

@@ -64,7 +64,7 @@ fn walk_head<'a>(
         block: block.as_ref(),
         word: Column::new(1),
     };
-    let mut walk = begin(alloc, scope.listed(line.number, 0))?;
+    let mut walk = begin(alloc, scope.listed_cases(line.number, 0))?;
     commands(&spot, &line.commands, &mut walk)?;
     let end = LineEnd {
         alloc,
@@ -185,7 +185,7 @@ pub fn walk_lines<'a>(
         if here.is_past(line.number) && line.block.as_slice().is_empty() {
             continue;
         }
-        here = here.advanced(line.number);
+        here = here.starting_at(line.number);
         let mut ends = walk_line(alloc, &here, line, around, next_of(later, after), found)?;
         all.append(&mut ends)?;
     }

@@ -9,7 +9,7 @@ ghost use Rattle.mlk_walk_lines.specs.Endings.{end_of, around_of, head_of, into_
 
 use crate::action::holds_some;
 use crate::ending::Ends;
-use mlk_calls::{Scope, State, is_among, is_exit, is_listed, is_own, mention};
+use mlk_calls::{Scope, State, is_among, is_exit, is_listed, is_own, mention_any};
 use mlk_cert_parts::{Case, ExitCase, Own, Shared, Test};
 use mlk_names::{KnownSym, LockTerm};
 use mlk_syntax::Line;
@@ -47,7 +47,7 @@ fn is_at_level(level: usize, item: &Own) -> bool
 fn escapes_block(level: usize, case: &Case, item: &Own) -> bool
     ensures { result ≡ escapes_block level case.now item.now }
 {
-    is_at_level(level, item) && mention(slice::from_ref(&item.names), case.held.as_slice())
+    is_at_level(level, item) && mention_any(slice::from_ref(&item.names), case.held.as_slice())
 }
 
 fn some_escape(level: usize, case: &Case) -> bool
@@ -85,7 +85,7 @@ fn split_last(saved: &[Test]) -> Option<(Test, &[Test])>
 }
 
 // The case after its block, where `test` was the saved `$TEST`, and `saved` were saved before it.
-fn restored(
+fn restore_test(
     alloc: Global,
     level: usize,
     test: Test,
@@ -111,7 +111,7 @@ fn escapes(case: &Case, name: &Name) -> bool
     is_own(case.own.as_slice(), name) && !is_among(case.kept.as_slice(), name)
 }
 
-fn is_such(case: &Case, symbol: &KnownSym) -> bool
+fn is_escaping(case: &Case, symbol: &KnownSym) -> bool
     ensures { result ≡ is_such (escapes case.now) symbol.now }
 {
     match symbol {
@@ -120,10 +120,10 @@ fn is_such(case: &Case, symbol: &KnownSym) -> bool
     }
 }
 
-fn has_such(case: &Case, symbols: &[KnownSym]) -> bool
+fn any_escapes(case: &Case, symbols: &[KnownSym]) -> bool
     ensures { result ≡ list_any (is_such (escapes case.now)) symbols.now }
 {
-    symbols.iter().any(|symbol| is_such(case, symbol))
+    symbols.iter().any(|symbol| is_escaping(case, symbol))
 }
 
 // Whether a held term mentions an own name that is not kept.
@@ -133,7 +133,7 @@ fn some_name_escapes(case: &Case) -> bool
     case.held
         .as_slice()
         .iter()
-        .any(|term| has_such(case, term.subs.as_slice()))
+        .any(|term| any_escapes(case, term.subs.as_slice()))
 }
 
 // The exit that corresponds to the case.
@@ -152,7 +152,7 @@ impl<'a> LineEnd<'a> {
     {
         match self.next {
             None => &[],
-            Some(head) => self.scope.listed(head.number, 0),
+            Some(head) => self.scope.listed_cases(head.number, 0),
         }
     }
 
@@ -201,14 +201,14 @@ impl<'a> LineEnd<'a> {
             let note = Note::in_case(Mend::Nothing, &case)?;
             return ends.refuse(self.line, column, Code::NameEscapes, note);
         }
-        ends.leave(restored(self.alloc, self.level, test, saved, case)?)
+        ends.leave(restore_test(self.alloc, self.level, test, saved, case)?)
     }
 
     // Ends the frame in a case.
     fn frame_end(&self, column: Column, case: Case, ends: &mut Ends) -> Result<(), AllocError>
         ensures { OnOk result (ends.new ≡ add_ending ends.old (frame_end (end_of self.now) column case)) }
     {
-        if self.scope.declared() && holds_some(case.held.as_slice()) {
+        if self.scope.is_entry_declared() && holds_some(case.held.as_slice()) {
             let note = Note::in_case(Mend::Nothing, &case)?;
             return ends.refuse(self.line, column, Code::HeldAtEnd, note);
         }

@@ -13,7 +13,7 @@ use mlk_cert_parts::{Case, NameSet};
 use mlk_syntax::Parameter;
 use mlk_text::{Code, Column, List};
 use mlk_walk_commands::Change;
-use mlk_walk_exprs::{Mend, Note, Spot, Transfer, Walk, each, value};
+use mlk_walk_exprs::{Mend, Note, Spot, Transfer, Walk, apply_to_states, value};
 use std::alloc::{AllocError, Global};
 
 /// The rounds of a FOR, whose word is at the spot's column: its variable with the column of its name, the number of the FOR on
@@ -66,14 +66,14 @@ impl<'a> Transfer for RoundOrAfter<'a> {
 
     fn make(&self, state: State, walk: &mut Walk) -> Result<(), AllocError> {
         if is_listed(self.cases, &state.case) {
-            return walk.go(state);
+            return walk.add_live(state);
         }
         refuse_round(self.spot, self.index, state.case, walk)
     }
 }
 
 // Copies of states.
-fn copies(alloc: Global, states: &[State]) -> Result<List<State>, AllocError>
+fn copy_states(alloc: Global, states: &[State]) -> Result<List<State>, AllocError>
     ensures { IfOk result (λ l. l ≡ states.now) }
 {
     let mut all = List::of(Vec::with_capacity(alloc, states.len())?);
@@ -90,7 +90,7 @@ pub(crate) fn after_round(alloc: Global, ended: &[State], walk: &mut Walk) -> Re
     if walk.over {
         return Ok(());
     }
-    walk.going = copies(alloc, ended)?;
+    walk.going = copy_states(alloc, ended)?;
     Ok(())
 }
 
@@ -119,7 +119,7 @@ pub(crate) fn begin_rounds<'a>(
     ensures { OnOk result (walk.new ≡ each (begin_round (spot_of spot.now) cases.now) walk.old) }
 {
     let transfer = BeginRound { spot, index, cases };
-    each(spot.alloc, &transfer, walk)
+    apply_to_states(spot.alloc, &transfer, walk)
 }
 
 // After each round, changes the variable and begins another round.
@@ -150,20 +150,24 @@ fn round_or_after<'a>(
         index: rounds.index,
         cases: rounds.cases,
     };
-    each(spot.alloc, &transfer, walk)
+    apply_to_states(spot.alloc, &transfer, walk)
 }
 
-fn limited<'a>(spot: &'a Spot<'a>, rounds: &Rounds<'a>, walk: &mut Walk) -> Result<(), AllocError>
+fn walk_limited<'a>(
+    spot: &'a Spot<'a>,
+    rounds: &Rounds<'a>,
+    walk: &mut Walk,
+) -> Result<(), AllocError>
     ensures { OnOk result (walk.new ≡ limited (spot_of spot.now) (rounds_of rounds.now) walk.old) }
 {
-    let without_round = copies(spot.alloc, walk.going.as_slice())?;
+    let without_round = copy_states(spot.alloc, walk.going.as_slice())?;
     step_again(spot, rounds, walk)?;
     after_round(spot.alloc, rounds.ended, walk)?;
     walk.join(spot.alloc, without_round)
 }
 
 /// Walks one parameter, from the states that reach it.
-pub(crate) fn parameter<'a>(
+pub(crate) fn walk_parameter<'a>(
     spot: &'a Spot<'a>,
     rounds: &Rounds<'a>,
     given: &'a Parameter,
@@ -190,7 +194,7 @@ pub(crate) fn parameter<'a>(
             value(spot, step, walk)?;
             value(spot, limit, walk)?;
             round_or_after(spot, rounds, walk)?;
-            limited(spot, rounds, walk)
+            walk_limited(spot, rounds, walk)
         }
     }
 }

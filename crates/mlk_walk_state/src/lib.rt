@@ -15,8 +15,10 @@ pub use law::{
 };
 pub use listed::{is_exit, is_listed};
 pub use mlk_cert_parts::copy_case;
-pub use names::{have, is_among, is_own, is_same_own, may_change, take_out};
+pub use names::{any_has_name, is_among, is_own, is_same_own, may_change, take_out};
 pub use scope::{Entries, Scope};
 pub use state::{RefusedState, State, before_last, last_of};
 pub use symbol::{symbol_of, truth_of};
-pub use term::{copies, first_missing, is_within, mention, put_all, rank, take_all, take_one};
+pub use term::{
+    copy_terms, first_missing, is_within, mention_any, put_all, rank, take_all, take_one,
+};

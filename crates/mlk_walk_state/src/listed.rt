@@ -7,13 +7,13 @@ ghost use Rattle.mlk_walk_state.specs.Cases.{says_no_more, pairwise, includes, i
 
 use crate::names::are_among;
 use crate::term::is_same;
-use mlk_cert_parts::{Case, ExitCase, Test, included};
+use mlk_cert_parts::{Case, ExitCase, Test, is_included};
 use mlk_names::LockTerm;
 
 fn includes(case: &Case, listed: &Case) -> bool
     ensures { result ≡ includes case.now listed.now }
 {
-    included(case, listed)
+    is_included(case, listed)
 }
 
 /// Whether one of the listed `cases` says no more than `case`. Allocates nothing.

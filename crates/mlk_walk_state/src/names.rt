@@ -20,7 +20,7 @@ pub fn is_among(names: &[Name], name: &Name) -> bool
 
 // Whether `set` has `name`: it is that name, or all names but some others.
 #[inline(always)]
-fn has(set: &NameSet, name: &Name) -> bool
+fn has_name(set: &NameSet, name: &Name) -> bool
     ensures { result ≡ has set.now name.now }
 {
     match set {
@@ -31,10 +31,10 @@ fn has(set: &NameSet, name: &Name) -> bool
 
 /// Whether one of `sets` has `name`.
 #[tactic(auto, unfolding(crate::specs::Names::have))]
-pub fn have(sets: &[NameSet], name: &Name) -> bool
+pub fn any_has_name(sets: &[NameSet], name: &Name) -> bool
     ensures { result ≡ have sets.now name.now }
 {
-    sets.iter().any(|set| has(set, name))
+    sets.iter().any(|set| has_name(set, name))
 }
 
 /// Whether `name` is own: one of the items has it, at any level. Allocates nothing.
@@ -42,7 +42,7 @@ pub fn have(sets: &[NameSet], name: &Name) -> bool
 pub fn is_own(own: &[Own], name: &Name) -> bool
     ensures { result ≡ is_own own.now name.now }
 {
-    own.iter().any(|item| has(&item.names, name))
+    own.iter().any(|item| has_name(&item.names, name))
 }
 
 fn is_equal_own(first: &Own, second: &Own) -> bool
@@ -93,7 +93,7 @@ pub fn may_change(own: &[Own], mods: &[NameSet], set: &NameSet) -> bool
     ensures { result ≡ may_change own.now mods.now set.now }
 {
     match set {
-        NameSet::Only(name) => is_own(own, name) || have(mods, name),
+        NameSet::Only(name) => is_own(own, name) || any_has_name(mods, name),
         NameSet::AllBut(names) => {
             let names = names.as_slice();
             own_spares(names, own) || one_spares(names, mods)
@@ -104,7 +104,7 @@ pub fn may_change(own: &[Own], mods: &[NameSet], set: &NameSet) -> bool
 fn has_some(changed: &[NameSet], names: &[Name]) -> bool
     ensures { result ≡ list_any (have changed.now) names.now }
 {
-    names.iter().any(|name| have(changed, name))
+    names.iter().any(|name| any_has_name(changed, name))
 }
 
 fn left_without(alloc: Global, changed: &[NameSet], names: &[Name]) -> Result<Vec<Name>, AllocError>
@@ -112,7 +112,7 @@ fn left_without(alloc: Global, changed: &[NameSet], names: &[Name]) -> Result<Ve
 {
     let mut left = Vec::new(alloc);
     for name in names {
-        if !have(changed, name) {
+        if !any_has_name(changed, name) {
             left.push(name.copy()?)?;
         }
     }

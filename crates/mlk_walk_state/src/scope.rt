@@ -204,13 +204,13 @@ impl<'a> Scope<'a> {
         ensures { scope_of result
             ≡ scope_with (map routine_of program.now) rules.now entries.now entry block.now }
     {
-        Scope::counting(program, rules, entries, entry, block, &[])
+        Scope::with_counted(program, rules, entries, entry, block, &[])
     }
 
     /// The input of a walk in which the names `counted` count as own, besides those of a state, when shared names are looked up:
     /// it shows what would be found in a state in which they are not own. Allocates nothing, and looks once at each of the
     /// block's points.
-    pub fn counting(
+    pub fn with_counted(
         program: &'a Program<'a>,
         rules: &'a Rules,
         entries: &'a Entries<'a>,
@@ -235,7 +235,7 @@ impl<'a> Scope<'a> {
     }
 
     /// The same input for a walk that continues at `line`: cases listed from there on are found faster. Allocates nothing.
-    pub fn advanced(&self, line: LineNumber) -> Scope<'a>
+    pub fn starting_at(&self, line: LineNumber) -> Scope<'a>
         ensures { scope_of result ≡ scope_of self.now }
     {
         Scope {
@@ -265,7 +265,7 @@ impl<'a> Scope<'a> {
     }
 
     /// Whether the entry that is walked is declared. Allocates nothing.
-    pub fn declared(&self) -> bool
+    pub fn is_entry_declared(&self) -> bool
         ensures { result ≡ (scope_of self.now).declared }
     {
         self.entries.is_declared(self.entry)
@@ -273,7 +273,7 @@ impl<'a> Scope<'a> {
 
     /// The cases that are listed at a line or at one of its rounds. If the block's points are in order, the search is binary, or
     /// starts at the line that the walk has reached; otherwise it is linear. Allocates nothing.
-    pub fn listed(&self, line: LineNumber, round: usize) -> &'a [Case]
+    pub fn listed_cases(&self, line: LineNumber, round: usize) -> &'a [Case]
         ensures { result.now ≡ listed (scope_of self.now) line round }
     {
         let points = self.block.points.as_slice();

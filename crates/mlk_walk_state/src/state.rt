@@ -86,7 +86,7 @@ impl State {
     }
 
     /// The state with the held terms `held`.
-    pub fn holding(self, held: Shared<LockTerm>) -> State
+    pub fn with_held(self, held: Shared<LockTerm>) -> State
         ensures { result ≡ holding held self }
     {
         let State { case, captured } = self;
@@ -108,7 +108,7 @@ impl State {
     }
 
     /// The state with `test` for `$TEST`.
-    pub fn tested(mut self, test: Test) -> State
+    pub fn with_test(mut self, test: Test) -> State
         ensures { result ≡ tested test self }
     {
         self.case.test = test;

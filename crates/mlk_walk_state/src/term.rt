@@ -6,7 +6,7 @@ ghost use Rattle.mlk_rules.specs.Computed.{is_prefix};
 ghost use Rattle.mlk_walk_state.specs.Names.{have};
 ghost use Rattle.mlk_walk_state.specs.Terms.{same_term, add_term, add_terms, taken, all_taken, first_missing, is_such, mention, is_within, rank_of};
 
-use crate::names::have;
+use crate::names::any_has_name;
 use mlk_cert_parts::{NameSet, place_of_term};
 use mlk_names::{KnownSym, LockTerm, prefix};
 use mlk_rules::{Rules, rank_of};
@@ -46,28 +46,28 @@ pub fn rank(rules: &Rules, term: &LockTerm) -> Option<u32>
     rank_of(rules, term)
 }
 
-fn is_such(names: &[NameSet], symbol: &KnownSym) -> bool
+fn is_in_names(names: &[NameSet], symbol: &KnownSym) -> bool
     ensures { result ≡ is_such (have names.now) symbol.now }
 {
     match symbol {
-        KnownSym::Local(name) => have(names, name),
+        KnownSym::Local(name) => any_has_name(names, name),
         KnownSym::Const(_) | KnownSym::Job => false,
     }
 }
 
-fn has_such(names: &[NameSet], symbols: &[KnownSym]) -> bool
+fn any_in_names(names: &[NameSet], symbols: &[KnownSym]) -> bool
     ensures { result ≡ list_any (is_such (have names.now)) symbols.now }
 {
-    symbols.iter().any(|symbol| is_such(names, symbol))
+    symbols.iter().any(|symbol| is_in_names(names, symbol))
 }
 
 /// Whether some term mentions one of the names in a subscript. Allocates nothing.
-pub fn mention(names: &[NameSet], terms: &[LockTerm]) -> bool
+pub fn mention_any(names: &[NameSet], terms: &[LockTerm]) -> bool
     ensures { result ≡ mention names.now terms.now }
 {
     terms
         .iter()
-        .any(|term| has_such(names, term.subs.as_slice()))
+        .any(|term| any_in_names(names, term.subs.as_slice()))
 }
 
 fn place_in(held: &[LockTerm], term: &LockTerm) -> Option<usize>
@@ -135,7 +135,7 @@ pub fn put_all(
 ) -> Result<Vec<LockTerm>, AllocError>
     ensures { IfOk result (λ v. v.items ≡ add_terms terms.now held.now) }
 {
-    let mut all = copies(alloc, held)?;
+    let mut all = copy_terms(alloc, held)?;
     let mut left = terms;
     while let Some((term, others)) = left.split_first() {
         put(alloc, &mut all, copy_of(term)?)?;
@@ -145,7 +145,7 @@ pub fn put_all(
 }
 
 /// Copies `terms`.
-pub fn copies(alloc: Global, terms: &[LockTerm]) -> Result<Vec<LockTerm>, AllocError>
+pub fn copy_terms(alloc: Global, terms: &[LockTerm]) -> Result<Vec<LockTerm>, AllocError>
     ensures { IfOk result (λ v. v.items ≡ terms.now) }
 {
     Vec::from_clones(alloc, terms)

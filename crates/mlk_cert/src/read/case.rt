@@ -11,7 +11,7 @@ ghost use Rattle.mlk_cert_parts.specs.Reading.{sign_at, saved_at, own_at, names_
 
 use crate::read::fit::{Fit, fit_both, fit_of};
 use crate::read::memory::{Memories, Memory, NoTests};
-use mlk_cert_lexemes::{front_of, listed, word_of};
+use mlk_cert_lexemes::{front_of, item_list, word_of};
 use mlk_cert_parts::limit::{MOST_KEPT, MOST_MODS, MOST_OWN, MOST_TERMS};
 use mlk_cert_parts::{
     Case, ExitCase, NameSet, Own, Shared, Test, ascend_inside, ascend_inside_own,
@@ -54,7 +54,7 @@ fn more_signs(
 }
 
 #[tactic(auto, unfolding(mlk_cert_parts::specs::Reading::saved_at))]
-fn saved<'a>(
+fn saved_tests<'a>(
     alloc: Global,
     none: &mut NoTests,
     bytes: &'a [u8],
@@ -79,7 +79,7 @@ pub(crate) fn terms(
     ensures read { Reads (λ x. (x.0.items, x.2.now)) result (listed_at term_at bytes.now) }
     ensures fit { IfOk result (λ x. passes x.1 ≡ fit_terms x.0.items) }
 {
-    let (found, ordered, rest) = listed::<LockTerm>(alloc, bytes)?;
+    let (found, ordered, rest) = item_list::<LockTerm>(alloc, bytes)?;
     let fit = fit_of(found.len() <= MOST_TERMS, ordered);
     Ok((found, fit, rest))
 }
@@ -92,7 +92,7 @@ pub(crate) fn mods(
     ensures read { Reads (λ x. (x.0.items, x.2.now)) result (listed_at names_at bytes.now) }
     ensures fit { IfOk result (λ x. passes x.1 ≡ fit_mods x.0.items) }
 {
-    let (found, ordered, rest) = listed::<NameSet>(alloc, bytes)?;
+    let (found, ordered, rest) = item_list::<NameSet>(alloc, bytes)?;
     let inside = ascend_inside(found.as_slice());
     let fit = fit_of(found.len() <= MOST_MODS, inside && ordered);
     Ok((found, fit, rest))
@@ -102,7 +102,7 @@ fn new_names(alloc: Global, bytes: &[u8]) -> Result<(Vec<Own>, Fit, &[u8]), Fail
     ensures read { Reads (λ x. (x.0.items, x.2.now)) result (listed_at own_at bytes.now) }
     ensures fit { IfOk result (λ x. passes x.1 ≡ fit_own x.0.items) }
 {
-    let (found, ordered, rest) = listed::<Own>(alloc, bytes)?;
+    let (found, ordered, rest) = item_list::<Own>(alloc, bytes)?;
     let inside = ascend_inside_own(found.as_slice());
     let fit = fit_of(found.len() <= MOST_OWN, inside && ordered);
     Ok((found, fit, rest))
@@ -112,7 +112,7 @@ fn kept_names(alloc: Global, bytes: &[u8]) -> Result<(Vec<Name>, Fit, &[u8]), Fa
     ensures read { Reads (λ x. (x.0.items, x.2.now)) result (listed_at name_at bytes.now) }
     ensures fit { IfOk result (λ x. passes x.1 ≡ fit_kept x.0.items) }
 {
-    let (found, ordered, rest) = listed::<Name>(alloc, bytes)?;
+    let (found, ordered, rest) = item_list::<Name>(alloc, bytes)?;
     let fit = fit_of(found.len() <= MOST_KEPT, ordered);
     Ok((found, fit, rest))
 }
@@ -207,7 +207,7 @@ fn saved_part<'a>(
     let Some(rest) = word_of(b" S=", bytes) else {
         return Err(Failure::Refused(NotThere));
     };
-    let (found, rest) = saved(alloc, none, rest)?;
+    let (found, rest) = saved_tests(alloc, none, rest)?;
     Ok((found, rest))
 }
 

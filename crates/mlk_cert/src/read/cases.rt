@@ -13,7 +13,7 @@ use crate::read::fault::{BlockFault, other_form};
 use crate::read::fit::{Fit, fit_both, fit_of};
 use crate::read::line::{is_above, line_end};
 use crate::read::memory::Memories;
-use mlk_cert_lexemes::{both, counted, front_of, word_of};
+use mlk_cert_lexemes::{are_both, front_of, positive_number, word_of};
 use mlk_cert_parts::Case;
 use mlk_cert_parts::limit::GREATEST_CASE;
 use mlk_text::Failure;
@@ -72,7 +72,7 @@ fn numbered_case<'a>(
         (option_map (λ x. x.now) last.entry)) bytes.now) }
     ensures text { IfOk result (λ x. x.1.now ≡ case_text x.0.1) }
 {
-    let Some((number, rest)) = counted(GREATEST_CASE, bytes) else {
+    let Some((number, rest)) = positive_number(GREATEST_CASE, bytes) else {
         return Err(number_refused(alloc, memories, bytes));
     };
     let Some(start) = byte_of(b' ', rest) else {
@@ -81,7 +81,7 @@ fn numbered_case<'a>(
     match case(alloc, memories, start) {
         Ok((found, fit, rest)) => {
             let text = front_of(start, rest);
-            let next = fit_of(true, both(is_next(count, number), is_above(last, text)));
+            let next = fit_of(true, are_both(is_next(count, number), is_above(last, text)));
             let (numbered, rest) = line_end((number, found), fit_both(fit, next), rest, bytes)?;
             Ok((numbered, text, rest))
         }

@@ -18,7 +18,7 @@ use crate::read::fit::{Fit, fit_both, fit_of};
 use crate::read::line::{is_above, line_end};
 use crate::read::memory::Memories;
 use crate::read::numbered::numbered_points;
-use mlk_cert_lexemes::{counted, front_of, number, word_of};
+use mlk_cert_lexemes::{front_of, number, positive_number, word_of};
 use mlk_cert_parts::limit::{GREATEST_LINE, GREATEST_ROUND, MOST_CASES};
 use mlk_cert_parts::{Case, Point};
 use mlk_text::lexeme::byte_of;
@@ -30,7 +30,7 @@ use std::alloc::{AllocError, Global};
 pub(crate) fn place(bytes: &[u8]) -> Option<((u32, u32), &[u8])>
     ensures { option_map (λ x. (x.0, x.1.now)) result ≡ place_at bytes.now }
 {
-    let Some((line, rest)) = counted(GREATEST_LINE, bytes) else {
+    let Some((line, rest)) = positive_number(GREATEST_LINE, bytes) else {
         return None;
     };
     let Some(rest) = byte_of(b'.', rest) else {

@@ -40,7 +40,7 @@ fn first_unset(marks: &[bool]) -> Option<usize>
 }
 
 /// The index of the first case to which none of `numbers` refers, or `None`.
-pub(crate) fn unnamed(
+pub(crate) fn first_unnamed(
     alloc: Global,
     cases: &[Case],
     numbers: &[CaseNumber],

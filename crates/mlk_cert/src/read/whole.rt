@@ -18,7 +18,7 @@ use crate::number::CaseNumber;
 use crate::read::block::blocks;
 use crate::read::cases::cases;
 use crate::read::fault::{BlockFault, CertFault, other_form};
-use crate::read::unnamed::unnamed;
+use crate::read::unnamed::first_unnamed;
 use mlk_cert_lexemes::word_of;
 use mlk_cert_parts::limit::LONGEST_TEXT;
 use mlk_cert_parts::{Case, Certificate, EntryCert};
@@ -125,7 +125,7 @@ fn all_named(
     requires numbers { texts_by cases.now named.now ≡ cases_of_blocks found.items }
     ensures { Reads (λ x. x.items) result (all_named cases.now found.items) }
 {
-    match unnamed(alloc, cases, named)? {
+    match first_unnamed(alloc, cases, named)? {
         None => Ok(found),
         Some(place) => Err(Failure::Refused(BlockFault {
             code: Code::CaseUnused,

@@ -12,7 +12,7 @@ ghost use Rattle.mlk_text.specs.Failures.{Reads};
 use crate::context::{Context, Passing};
 use crate::part::{callee, list_room, name};
 use crate::read::chain;
-use crate::refusal::{Offence, Wrong, no_actual, no_actuals_end, no_call, refused};
+use crate::refusal::{Offence, Wrong, no_actual, no_actuals_end, no_call, refusal_at};
 use mlk_expr_tokens::lexeme::{column_of, is_missing};
 use mlk_syntax::{Actual, Expr};
 use mlk_text::lexeme::byte_of;
@@ -32,7 +32,7 @@ fn actual<'a>(
 {
     if let Some(after) = byte_of(b'.', bytes) {
         match name(alloc, after) {
-            Ok(_) if !passing.lends() => return Err(refused(Wrong::Lent, bytes)),
+            Ok(_) if !passing.is_by_reference() => return Err(refusal_at(Wrong::Lent, bytes)),
             Ok((name, rest)) => {
                 return Ok((Actual::ByRef(column_of(context.end, bytes), name), rest));
             }

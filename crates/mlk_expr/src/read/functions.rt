@@ -11,17 +11,17 @@ ghost use Rattle.mlk_expr.specs.Touches.{calls_may};
 ghost use Rattle.mlk_text.specs.Failures.{Reads};
 
 use crate::context::{Allows, Context};
-use crate::part::{asks_subscript, has_subscript, list_room, named};
+use crate::part::{asks_subscript, has_subscript, list_room, most_after_name};
 use crate::read::actuals::call;
 use crate::read::{atom, chain};
 use crate::refusal::{
-    Offence, Wrong, no_arguments_end, no_end, no_function, no_operand, no_word, refused,
+    Offence, Wrong, no_arguments_end, no_end, no_function, no_operand, no_word, refusal_at,
 };
 use mlk_expr_tokens::lexeme::starts_reference;
 use mlk_expr_tokens::words::{function_of, is_select, special_of};
 use mlk_syntax::{Expr, Function};
 use mlk_text::lexeme::{byte_of, word_at};
-use mlk_text::{Failure, giving_up, make_room};
+use mlk_text::{Failure, drop_and_return, make_room};
 use std::alloc::Global;
 
 // Reads expressions up to the closing parenthesis.
@@ -70,7 +70,7 @@ fn exprs_rest<'a>(
 
 // Reads the arguments after a first one that is a name, at most `most`.
 #[cycle(reading)]
-fn others<'a>(
+fn later_arguments<'a>(
     alloc: Global,
     context: &Context,
     most: usize,
@@ -89,7 +89,7 @@ fn others<'a>(
     let mut rest = bytes;
     while let Some(after) = byte_of(b',', rest) {
         if found.len() > most {
-            return Err(refused(Wrong::Form, rest));
+            return Err(refusal_at(Wrong::Form, rest));
         }
         make_room(&mut found)?;
         let (item, after) = chain(alloc, context, after)?;
@@ -111,7 +111,7 @@ fn arguments<'a>(
     ensures { Reads (λ x. (trees x.0.items, x.1.now)) result
         (arguments_with (atom_in context.now) (nested_in context.now) (nested_in (quiet context.now)) function bytes.now) }
 {
-    let Some(most) = named(function) else {
+    let Some(most) = most_after_name(function) else {
         return exprs(alloc, context, bytes);
     };
     if !starts_reference(bytes) {
@@ -119,14 +119,14 @@ fn arguments<'a>(
     }
     let (first, rest) = atom(alloc, context, bytes)?;
     if asks_subscript(function) && !has_subscript(&first) {
-        return Err(giving_up(first, refused(Wrong::Form, rest)));
+        return Err(drop_and_return(first, refusal_at(Wrong::Form, rest)));
     }
     let room = list_room(alloc, rest)?;
     let quiet = Context {
         allows: Allows::NoTouches,
         ..*context
     };
-    let (args, rest) = others(alloc, &quiet, most, room, first, rest)?;
+    let (args, rest) = later_arguments(alloc, &quiet, most, room, first, rest)?;
     let Some(rest) = byte_of(b')', rest) else {
         return Err(no_arguments_end(&args, rest));
     };
@@ -144,11 +144,11 @@ fn choice<'a>(
 {
     let (condition, rest) = chain(alloc, context, bytes)?;
     let Some(rest) = byte_of(b':', rest) else {
-        return Err(giving_up(condition, no_end(rest)));
+        return Err(drop_and_return(condition, no_end(rest)));
     };
     match chain(alloc, context, rest) {
         Ok((value, rest)) => Ok(((condition, value), rest)),
-        Err(failure) => Err(giving_up(condition, failure)),
+        Err(failure) => Err(drop_and_return(condition, failure)),
     }
 }
 

@@ -12,7 +12,7 @@ ghost use Rattle.mlk_text.specs.Failures.{Reads};
 use crate::context::Context;
 use crate::part::{global_name, list_room, name};
 use crate::read::chain;
-use crate::refusal::{Offence, Wrong, no_end, refused};
+use crate::refusal::{Offence, Wrong, no_end, refusal_at};
 use mlk_expr_tokens::lexeme::column_of;
 use mlk_syntax::{Expr, Subscript};
 use mlk_text::lexeme::byte_of;
@@ -72,7 +72,7 @@ fn subs_rest<'a>(
     let mut rest = bytes;
     while let Some(after) = byte_of(b',', rest) {
         if found.len() == MOST_SUBSCRIPTS {
-            return Err(refused(Wrong::Form, rest));
+            return Err(refusal_at(Wrong::Form, rest));
         }
         make_room(&mut found)?;
         let (item, after) = subscript(alloc, context, after)?;

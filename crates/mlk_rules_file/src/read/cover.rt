@@ -7,7 +7,7 @@ ghost use Rattle.mlk_rules_file.specs.RuleTexts.{spelling_of};
 ghost use Rattle.mlk_rules_file.specs.RuleKinds.{place_of, part_of, parts_of, template_of, second_template};
 ghost use Rattle.mlk_rules_file.specs.RuleSections.{cover_placed, cover_kinds, cover_by, cover_of};
 
-use crate::read::fault::{RulesFault, Section, refused};
+use crate::read::fault::{RulesFault, Section, refusal_at};
 use crate::read::kinds::{
     SpelledItem, Spelling, is_item, is_long, is_long_second, is_pattern, is_second_template,
     is_template,
@@ -100,10 +100,10 @@ fn cover_placed(
     ensures { Answers (λ x. x) result (cover_placed index p.now l.now second.now reads) }
 {
     let Some(lock) = template_of(alloc, p.items.as_slice(), l)? else {
-        return Err(refused(Code::TemplateVariable, Section::Cover, index));
+        return Err(refusal_at(Code::TemplateVariable, Section::Cover, index));
     };
     let Some(also) = second_template(alloc, p.items.as_slice(), second)? else {
-        return Err(refused(Code::TemplateVariable, Section::Cover, index));
+        return Err(refusal_at(Code::TemplateVariable, Section::Cover, index));
     };
     Ok(Cover {
         pattern: pattern(alloc, p)?,
@@ -124,7 +124,7 @@ fn cover_kinds(
     ensures { Answers (λ x. x) result (cover_kinds index p.now l.now second.now reads) }
 {
     if !is_pattern(Section::Cover, p) || !is_template(l) || !is_second_template(second) {
-        return Err(refused(Code::Pattern, Section::Cover, index));
+        return Err(refusal_at(Code::Pattern, Section::Cover, index));
     }
     cover_placed(alloc, index, p, l, second, reads)
 }
@@ -141,17 +141,17 @@ fn cover_by(
     ensures { Answers (λ x. x) result (cover_by index pattern lock also reads) }
 {
     if is_long(&pattern) || is_long(&lock) || is_long_second(&also) {
-        return Err(refused(Code::RulesLimit, Section::Cover, index));
+        return Err(refusal_at(Code::RulesLimit, Section::Cover, index));
     }
     let Some(p) = pattern else {
-        return Err(refused(Code::Pattern, Section::Cover, index));
+        return Err(refusal_at(Code::Pattern, Section::Cover, index));
     };
     let Some(l) = lock else {
-        return Err(refused(Code::Pattern, Section::Cover, index));
+        return Err(refusal_at(Code::Pattern, Section::Cover, index));
     };
     match also {
         None => cover_kinds(alloc, index, &p, &l, &None, reads),
-        Some(None) => Err(refused(Code::Pattern, Section::Cover, index)),
+        Some(None) => Err(refusal_at(Code::Pattern, Section::Cover, index)),
         Some(second) => cover_kinds(alloc, index, &p, &l, &second, reads),
     }
 }
@@ -176,7 +176,7 @@ pub fn cover(
     ensures { Answers (λ x. x) result (cover_of index (view element.now)) }
 {
     let Some(keys) = cover_keys(element) else {
-        return Err(refused(Code::Key, Section::Cover, index));
+        return Err(refusal_at(Code::Key, Section::Cover, index));
     };
     let pattern = spelled_pattern(alloc, keys.global.as_bytes())?;
     let lock = spelled_name(alloc, keys.lock.as_bytes())?;

@@ -7,7 +7,7 @@ ghost use Rattle.mlk_text.specs.Failures.{Answers};
 ghost use Rattle.mlk_rules_file.specs.RuleSections.{all_of, family_of, cover_of, rule_pattern_of, entry_of, lists_of, IsDocument, NoTable, SaysRules, RefusesRules};
 ghost use Rattle.mlk_rules_file.specs.declared.read.fault.Section.TheVariants.{Lock, Cover as CoverSection, Entry};
 
-use crate::read::fault::{RulesFault, Section, refused};
+use crate::read::fault::{RulesFault, Section, refusal_at};
 use crate::read::sections::{covers, entries, families, patterns, section_of};
 use crate::read::tables::has_only;
 use mlk_rules::{Cover, Family, Pattern, RuleLists, Rules, first_meeting};
@@ -25,7 +25,7 @@ fn table_of(alloc: Global, bytes: &[u8]) -> Result<Table, Failure<RulesFault>>
             if error.is_memory() {
                 Err(Failure::OutOfMemory)
             } else {
-                Err(refused(Code::Toml, Section::File, 0))
+                Err(refusal_at(Code::Toml, Section::File, 0))
             }
         }
     }
@@ -68,7 +68,7 @@ fn lists_of(alloc: Global, table: &Table) -> Result<RuleLists, Failure<RulesFaul
     ensures { Answers (λ x. x) result (lists_of (table_view table.now)) }
 {
     if !has_only(Section::File, table) {
-        return Err(refused(Code::Key, Section::File, 0));
+        return Err(refusal_at(Code::Key, Section::File, 0));
     }
     let families = families_in(alloc, table)?;
     let covers = covers_in(alloc, table)?;
@@ -97,8 +97,8 @@ pub fn read_rules(alloc: Global, bytes: &[u8]) -> Result<Rules, Failure<RulesFau
     let table = table_of(alloc, bytes)?;
     let lists = lists_of(alloc, &table)?;
     if let Some(index) = first_meeting(lists.families.as_slice()) {
-        return Err(refused(Code::FamiliesMeet, Section::Lock, index));
+        return Err(refusal_at(Code::FamiliesMeet, Section::Lock, index));
     }
-    let rules = Rules::sound(alloc, lists)?;
+    let rules = Rules::from_sound(alloc, lists)?;
     Ok(rules)
 }

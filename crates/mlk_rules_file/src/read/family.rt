@@ -6,7 +6,7 @@ ghost use Rattle.mlk_text.specs.Failures.{Answers};
 ghost use Rattle.mlk_rules_file.specs.RuleKinds.{values_of, family_name};
 ghost use Rattle.mlk_rules_file.specs.RuleSections.{rank_of, family_by, family_of};
 
-use crate::read::fault::{RulesFault, Section, refused};
+use crate::read::fault::{RulesFault, Section, refusal_at};
 use crate::read::kinds::{SpelledItem, Spelling, is_family_name, is_long};
 use crate::read::spelling::spelled_name;
 use crate::read::tables::family_keys;
@@ -58,16 +58,16 @@ fn family_by(
     ensures { Answers (λ x. x) result (family_by index name rank) }
 {
     if is_long(&name) {
-        return Err(refused(Code::RulesLimit, Section::Lock, index));
+        return Err(refusal_at(Code::RulesLimit, Section::Lock, index));
     }
     let Some(rank) = rank_of(rank) else {
-        return Err(refused(Code::RulesLimit, Section::Lock, index));
+        return Err(refusal_at(Code::RulesLimit, Section::Lock, index));
     };
     let Some(s) = name else {
-        return Err(refused(Code::Pattern, Section::Lock, index));
+        return Err(refusal_at(Code::Pattern, Section::Lock, index));
     };
     if !is_family_name(&s) {
-        return Err(refused(Code::Pattern, Section::Lock, index));
+        return Err(refusal_at(Code::Pattern, Section::Lock, index));
     }
     Ok(Family {
         name: family_name(alloc, &s)?,
@@ -85,7 +85,7 @@ pub fn family(
     ensures { Answers (λ x. x) result (family_of index (view element.now)) }
 {
     let Some((name, rank)) = family_keys(element) else {
-        return Err(refused(Code::Key, Section::Lock, index));
+        return Err(refusal_at(Code::Key, Section::Lock, index));
     };
     let name = spelled_name(alloc, name.as_bytes())?;
     family_by(alloc, index, name, rank)

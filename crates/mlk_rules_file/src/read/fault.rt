@@ -59,7 +59,7 @@ impl Display for Section {
 }
 
 // The refusal `code` at a place of the file.
-pub(crate) fn refused(code: Code, section: Section, index: usize) -> Failure<RulesFault>
+pub(crate) fn refusal_at(code: Code, section: Section, index: usize) -> Failure<RulesFault>
     ensures { result ≡ Refused (record { code = code; section = section; index = index }) }
 {
     Failure::Refused(RulesFault {

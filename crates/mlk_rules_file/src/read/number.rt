@@ -4,7 +4,7 @@ ghost use Rattle.std.specs.Prelude.{◌≡◌, ◌≤◌, ◌∷◌, [], length,
 ghost use Rattle.mlk_text.specs.Failures.{Reads};
 ghost use Rattle.mlk_rules_file.specs.RuleNumbers.{fraction_len, numeral_len, literal_value_at, negative, negative_at};
 
-use mlk_numbers::canonical;
+use mlk_numbers::canonical_text;
 use mlk_text::lexeme::digits;
 use mlk_text::{Failure, NotThere, Value};
 use std::alloc::{AllocError, Global};
@@ -37,7 +37,7 @@ pub fn number(alloc: Global, bytes: &[u8]) -> Result<(Value, &[u8]), Failure<Not
     ensures { Reads (λ x. (x.0, x.1.now)) result (literal_value_at bytes.now) }
 {
     let (text, rest) = bytes.split_at(numeral_len(bytes));
-    match canonical(alloc, text)? {
+    match canonical_text(alloc, text)? {
         Some(value) => Ok((value, rest)),
         None => Err(Failure::Refused(NotThere)),
     }

@@ -6,7 +6,7 @@ ghost use Rattle.mlk_text.specs.Failures.{Answers};
 ghost use Rattle.mlk_rules_file.specs.RuleKinds.{elements_of, name_of, pattern};
 ghost use Rattle.mlk_rules_file.specs.RuleSections.{pattern_by, rule_pattern_of};
 
-use crate::read::fault::{RulesFault, Section, refused};
+use crate::read::fault::{RulesFault, Section, refusal_at};
 use crate::read::kinds::{SpelledItem, Spelling, is_long, is_pattern};
 use crate::read::spelling::spelled_pattern;
 use crate::read::tables::text_key;
@@ -59,13 +59,13 @@ fn pattern_by(
     ensures { Answers (λ x. x) result (pattern_by section index found) }
 {
     if is_long(&found) {
-        return Err(refused(Code::RulesLimit, section, index));
+        return Err(refusal_at(Code::RulesLimit, section, index));
     }
     let Some(s) = found else {
-        return Err(refused(Code::Pattern, section, index));
+        return Err(refusal_at(Code::Pattern, section, index));
     };
     if !is_pattern(section, &s) {
-        return Err(refused(Code::Pattern, section, index));
+        return Err(refusal_at(Code::Pattern, section, index));
     }
     Ok(pattern(alloc, &s)?)
 }
@@ -81,7 +81,7 @@ pub fn rule_pattern(
     ensures { Answers (λ x. x) result (rule_pattern_of section index (view element.now)) }
 {
     let Some(global) = text_key(section, "global", element) else {
-        return Err(refused(Code::Key, section, index));
+        return Err(refusal_at(Code::Key, section, index));
     };
     let found = spelled_pattern(alloc, global.as_bytes())?;
     pattern_by(alloc, section, index, found)

@@ -8,7 +8,7 @@ use mlk_text::{Failure, NotThere, Value};
 use std::alloc::Global;
 
 /// Reads the value up to the closing quote: the value, and the rest. Any byte is allowed in it.
-pub fn quoted(alloc: Global, bytes: &[u8]) -> Result<(Value, &[u8]), Failure<NotThere>>
+pub fn quoted_value(alloc: Global, bytes: &[u8]) -> Result<(Value, &[u8]), Failure<NotThere>>
     ensures { Reads (λ x. (x.0, x.1.now)) result (quoted bytes.now) }
 {
     let mut value = Vec::new(alloc);

@@ -9,7 +9,7 @@ ghost use Rattle.mlk_rules_file.specs.RuleSections.{is_tables, tables_in, elemen
 use crate::read::cover::cover;
 use crate::read::entry::entry;
 use crate::read::family::family;
-use crate::read::fault::{RulesFault, Section, refused};
+use crate::read::fault::{RulesFault, Section, refusal_at};
 use crate::read::pattern::rule_pattern;
 use mlk_rules::{Cover, Family, Pattern};
 use mlk_text::{Code, Failure, List, Value as Text};
@@ -63,10 +63,10 @@ pub fn section_of(section: Section, table: &Table) -> Result<&[Value], Failure<R
     ensures { Answers (λ s. items_view s.now) result (section_of section (table_view table.now)) }
 {
     let Some(values) = elements_in(table, section.key()) else {
-        return Err(refused(Code::Key, section, 0));
+        return Err(refusal_at(Code::Key, section, 0));
     };
     if count(values) > MOST_ELEMENTS {
-        return Err(refused(Code::RulesLimit, section, 0));
+        return Err(refusal_at(Code::RulesLimit, section, 0));
     }
     Ok(values)
 }

@@ -6,11 +6,11 @@ ghost use Rattle.mlk_rules_file.specs.RuleTexts.{item_at, comma_at, end_of, list
 
 use crate::read::kinds::{SpelledItem, Spelling};
 use crate::read::number::{negative_number, number};
-use crate::read::quoted::quoted;
+use crate::read::quoted::quoted_value;
 use mlk_names::Extent;
 use mlk_text::lexeme::{byte_of, is_digit};
 use mlk_text::spelling::{name, root};
-use mlk_text::{Failure, Items, List, NotThere, separated};
+use mlk_text::{Failure, Items, List, NotThere, separated_items};
 use std::alloc::{AllocError, Global};
 
 fn is_same(bytes: &[u8], text: &[u8]) -> bool
@@ -37,7 +37,7 @@ fn item(alloc: Global, bytes: &[u8]) -> Result<(SpelledItem, &[u8]), Failure<Not
         return Ok((SpelledItem::Literal(value), rest));
     }
     if *first == b'"' {
-        let (value, rest) = quoted(alloc, after)?;
+        let (value, rest) = quoted_value(alloc, after)?;
         return Ok((SpelledItem::Literal(value), rest));
     }
     if *first == b'.' || is_digit(*first) {
@@ -105,7 +105,7 @@ fn list(alloc: Global, bytes: &[u8]) -> Result<(List<SpelledItem>, Extent), Fail
     if is_same(bytes, b"...)") {
         return Ok((List::new(alloc), Extent::Tree));
     }
-    let (items, rest) = separated(alloc, &PatternItems, bytes)?;
+    let (items, rest) = separated_items(alloc, &PatternItems, bytes)?;
     let Some(extent) = end(rest) else {
         return Err(Failure::Refused(NotThere));
     };

@@ -5,14 +5,14 @@ use Rattle.mlk_cert.proofs.Equal.{block-equal}
 use Rattle.mlk_cert.proofs.ReadAgain.{blocks-kept, blocks-refused}
 use Rattle.mlk_cert.proofs.checked.are_certificate.Goals as goal
 
-pub same-requires : goal.same-requires
-same-requires c = block-equal
+pub are_same_lists-requires : goal.are_same_lists-requires
+are_same_lists-requires c = block-equal
 
 pub returns-in-Ok : goal.returns-in-Ok
 returns-in-Ok c =
     let text = c.as_bytes.ensures ∙ c.in_ok-push.ensures ∙ ap (λ z. z ++ end_line) (c.in_ok-push_flat.ensures ∙ ap (λ z. z ++ flat block_text c.args.made.now) c.new-text.ensures) in
-    blocks-kept c.args.made.now c.in-Ok.found.items c.as_bytes.result.now c.same.result text c.in-Ok.ensures
-    (rw c.as_slice.ensures.value at c.same.ensures)
+    blocks-kept c.args.made.now c.in-Ok.found.items c.as_bytes.result.now c.are_same_lists.result text c.in-Ok.ensures
+    (rw c.as_slice.ensures.value at c.are_same_lists.ensures)
 
 pub returns : goal.returns
 returns c =

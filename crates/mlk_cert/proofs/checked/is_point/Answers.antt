@@ -6,14 +6,14 @@ use Rattle.mlk_cert.proofs.Equal.{point-equal}
 use Rattle.mlk_cert.proofs.ReadAgain.{point-kept, point-refused}
 use Rattle.mlk_cert.proofs.checked.is_point.Goals as goal
 
-pub same-requires : goal.same-requires
-same-requires c = point-equal
+pub are_same_lists-requires : goal.are_same_lists-requires
+are_same_lists-requires c = point-equal
 
 pub returns-in-Ok : goal.returns-in-Ok
 returns-in-Ok c =
     let text = c.as_bytes.ensures ∙ c.in_ok-push_flat.ensures ∙ ap (λ z. z ++ flat point_text c.from_ref.result.now) c.new-text.ensures ∙ ap (flat point_text) c.from_ref.ensures.value in
-    point-kept c.args.made.now c.in-Ok.found c.as_bytes.result.now c.in-Ok.field-0-1.now c.same.result text c.in-Ok.ensures
-    (rw (c.as_slice.ensures, c.from_ref-in-Ok.ensures.value) at c.same.ensures)
+    point-kept c.args.made.now c.in-Ok.found c.as_bytes.result.now c.in-Ok.field-0-1.now c.are_same_lists.result text c.in-Ok.ensures
+    (rw (c.as_slice.ensures, c.from_ref-in-Ok.ensures.value) at c.are_same_lists.ensures)
 
 pub returns : goal.returns
 returns c =

@@ -23,7 +23,7 @@ loop-next-preserved g c =
       reading = many_goes (byte_at c.args.between) (next g.T.Item.reads) (c.loop-next.found.items ++ c.loop-next.last ∷ []) c.loop-next.invariant.reading.0 c.loop-next.rest.now _ c.args.between c.in-Some.next.now c.in_ok-item.item c.in_ok-item.after.now
           (sym c.in-Some.ensures) c.in_ok-item.ensures.read shorter c.loop-next.invariant.reading.1 c.loop-next.invariant.reading.2;
       last = text;
-      order = c.both-ordered.ensures ∙ ap (λ b. b && c.is_before.result) c.loop-next.invariant.order
+      order = c.are_both-ordered.ensures ∙ ap (λ b. b && c.is_before.result) c.loop-next.invariant.order
           ∙ ap (λ b. ascends g.T.Item.before (c.loop-next.found.items ++ c.loop-next.last ∷ []) && b) c.is_before.ensures
           ∙ sym (ascends-push g.T.Item.before c.loop-next.found.items c.loop-next.last c.in_ok-item.item);
     })

@@ -76,7 +76,7 @@ names::subs_rest-returns-then-len-eq-MOST_SUBSCRIPTS t c =
     let size : length (sub_trees c.loop-after.found.items) ≡ vec_len c.loop-after.found = omega (arith, c.loop-after.found.ok, length-map c.loop-after.found.items sub_of) in
     let counted = c.len.ensures in
     let full = c.if-len-eq-MOST_SUBSCRIPTS.true in
-    refused_fails c.refused.result _ c.refused.ensures
+    refused_fails c.refusal_at.result _ c.refusal_at.ensures
     (surplus (byte_at 44) (next (placed c.args.context.now.end (nested_in c.args.context.now))) (sub_trees c.loop-after.found.items) c.loop-after.invariant.0 c.loop-after.rest.now _ 32 44 c.in-Some.after.now
     (sym c.in-Some.ensures) c.loop-after.invariant.1 (omega arith) c.loop-after.invariant.2)
 
@@ -119,26 +119,26 @@ names::subs-returns-in_err-found t c =
     rw (p.1, p.2) (few-fail (placed c.args.context.now.end (nested_in c.args.context.now)) 32 c.args.bytes.now (sub_of c.in_ok-first.first) c.in_ok-first.rest.now c.in_err-found.field-0.0
     c.in_ok-first.ensures c.in_err-found.ensures)
 
-pub functions::others-returns-in_err-item : goal.functions::others-returns-in_err-item
-functions::others-returns-in_err-item t c =
+pub functions::later_arguments-returns-in_err-item : goal.functions::later_arguments-returns-in_err-item
+functions::later_arguments-returns-in_err-item t c =
     let p = err_from_is_err_and c.from_residual-in_err-item.result c.from_residual-in_err-item.ensures.1 in
     rw (p.1, p.2) (then_fails c.in_err-item.field-0.0 _ (at_most (suc c.args.most)) (loop_fails (byte_at 44) (next (nested_in c.args.context.now)) _ c.loop-after.invariant.0 c.loop-after.rest.now _ 44 c.in-Some.after.now c.in_err-item.field-0.0
     (sym c.in-Some.ensures) c.in_err-item.ensures c.loop-after.invariant.1 c.loop-after.invariant.2))
 
-pub functions::others-returns-then-len-most : goal.functions::others-returns-then-len-most
-functions::others-returns-then-len-most t c =
+pub functions::later_arguments-returns-then-len-most : goal.functions::later_arguments-returns-then-len-most
+functions::later_arguments-returns-then-len-most t c =
     let size : length (trees c.loop-after.found.items) ≡ vec_len c.loop-after.found = omega (arith, c.loop-after.found.ok, length-map c.loop-after.found.items tree_of) in
     let counted = c.len.ensures in
     let full = c.if-len-most.true in
-    refused_fails c.refused.result _ c.refused.ensures
+    refused_fails c.refusal_at.result _ c.refusal_at.ensures
     (surplus (byte_at 44) (next (nested_in c.args.context.now)) (trees c.loop-after.found.items) c.loop-after.invariant.0 c.loop-after.rest.now _ (suc c.args.most) 44 c.in-Some.after.now
     (sym c.in-Some.ensures) c.loop-after.invariant.1 (omega arith) c.loop-after.invariant.2)
 
-pub functions::others-loop-after-smaller : goal.functions::others-loop-after-smaller
-functions::others-loop-after-smaller t c = item-shorter (nested_in c.args.context.now) (IsNestedIn c.args.context.now) (nested_in-exact c.args.context.now) (tree_of c.in_ok-item.item) c.loop-after.rest.now c.in-Some.after.now c.in_ok-item.after.now (sym c.in-Some.ensures) c.in_ok-item.ensures
+pub functions::later_arguments-loop-after-smaller : goal.functions::later_arguments-loop-after-smaller
+functions::later_arguments-loop-after-smaller t c = item-shorter (nested_in c.args.context.now) (IsNestedIn c.args.context.now) (nested_in-exact c.args.context.now) (tree_of c.in_ok-item.item) c.loop-after.rest.now c.in-Some.after.now c.in_ok-item.after.now (sym c.in-Some.ensures) c.in_ok-item.ensures
 
-pub functions::others-loop-after-preserved : goal.functions::others-loop-after-preserved
-functions::others-loop-after-preserved t c =
+pub functions::later_arguments-loop-after-preserved : goal.functions::later_arguments-loop-after-preserved
+functions::later_arguments-loop-after-preserved t c =
     let less = item-shorter (nested_in c.args.context.now) (IsNestedIn c.args.context.now) (nested_in-exact c.args.context.now) (tree_of c.in_ok-item.item) c.loop-after.rest.now c.in-Some.after.now c.in_ok-item.after.now (sym c.in-Some.ensures) c.in_ok-item.ensures in
     let more = many_goes (byte_at 44) (next (nested_in c.args.context.now)) (trees c.loop-after.found.items) c.loop-after.invariant.0 c.loop-after.rest.now _ 44 c.in-Some.after.now
     (tree_of c.in_ok-item.item) c.in_ok-item.after.now (sym c.in-Some.ensures) c.in_ok-item.ensures less c.loop-after.invariant.1 c.loop-after.invariant.2 in
@@ -146,8 +146,8 @@ functions::others-loop-after-preserved t c =
     (let same = c.if-len-most.false in let counted = c.len.ensures in let grown = length-append c.loop-after.found.items (c.in_ok-item.item ∷ []) in omega (arith, c.loop-after.found.ok)) in
     rw (c.push_reserved-in-Some.ensures.items, c.in_ok-make_room.ensures.same, map-append) (more.0, more.1, more.2, room)
 
-pub functions::others-returns : goal.functions::others-returns
-functions::others-returns t c =
+pub functions::later_arguments-returns : goal.functions::later_arguments-returns
+functions::later_arguments-returns t c =
     let size = length-map c.loop-after.found.items tree_of in
     let few = c.loop-after.invariant.3 in
     let whole = many_stops (byte_at 44) (next (nested_in c.args.context.now)) (trees c.loop-after.found.items) c.loop-after.invariant.0 c.loop-after.rest.now _ (sym c.in_default.ensures) c.loop-after.invariant.1 c.loop-after.invariant.2 in

@@ -9,8 +9,8 @@ use Rattle.mlk_expr.proofs.read.+reading.Given as goal
 abbrev pub decreases-atom : goal.decreases-atom
 decreases-atom l = 24 * l.context.now.left + 0
 
-abbrev pub decreases-right : goal.decreases-right
-decreases-right l = 24 * l.context.now.left + 1
+abbrev pub decreases-right_operand : goal.decreases-right_operand
+decreases-right_operand l = 24 * l.context.now.left + 1
 
 abbrev pub decreases-chain_rest : goal.decreases-chain_rest
 decreases-chain_rest l = 24 * l.context.now.left + 2
@@ -18,8 +18,8 @@ decreases-chain_rest l = 24 * l.context.now.left + 2
 abbrev pub decreases-chain_after : goal.decreases-chain_after
 decreases-chain_after l = 24 * l.context.now.left + 3
 
-abbrev pub decreases-going_on : goal.decreases-going_on
-decreases-going_on l = 24 * l.context.now.left + 4
+abbrev pub decreases-call_chain_after : goal.decreases-call_chain_after
+decreases-call_chain_after l = 24 * l.context.now.left + 4
 
 abbrev pub decreases-chain : goal.decreases-chain
 decreases-chain l = 24 * l.context.now.left + 5
@@ -66,8 +66,8 @@ decreases-actuals::actuals l = 24 * l.context.now.left + 9
 abbrev pub decreases-actuals::some_actuals : goal.decreases-actuals::some_actuals
 decreases-actuals::some_actuals l = 24 * l.context.now.left + 8
 
-abbrev pub decreases-functions::others : goal.decreases-functions::others
-decreases-functions::others l = 24 * l.context.now.left + 6
+abbrev pub decreases-functions::later_arguments : goal.decreases-functions::later_arguments
+decreases-functions::later_arguments l = 24 * l.context.now.left + 6
 
 abbrev pub decreases-functions::arguments : goal.decreases-functions::arguments
 decreases-functions::arguments l = 24 * l.context.now.left + 8
@@ -87,14 +87,14 @@ decreases-names::local l = 24 * l.context.now.left + 11
 abbrev pub decreases-names::global : goal.decreases-names::global
 decreases-names::global l = 24 * l.context.now.left + 11
 
-abbrev pub decreases-enclosed : goal.decreases-enclosed
-decreases-enclosed l = 24 * l.context.now.left + 6
+abbrev pub decreases-enclosed_expr : goal.decreases-enclosed_expr
+decreases-enclosed_expr l = 24 * l.context.now.left + 6
 
-abbrev pub decreases-prefixed : goal.decreases-prefixed
-decreases-prefixed l = 24 * l.context.now.left + 1
+abbrev pub decreases-unary_expr : goal.decreases-unary_expr
+decreases-unary_expr l = 24 * l.context.now.left + 1
 
-abbrev pub decreases-signed : goal.decreases-signed
-decreases-signed l = 24 * l.context.now.left + 2
+abbrev pub decreases-call_unary_expr : goal.decreases-call_unary_expr
+decreases-call_unary_expr l = 24 * l.context.now.left + 2
 
 abbrev pub decreases-operand : goal.decreases-operand
 decreases-operand l = 24 * l.context.now.left + 23
@@ -113,12 +113,12 @@ invariant-functions::exprs_rest-loop-after l =
 abbrev pub decreases-functions::exprs_rest-loop-after : goal.decreases-functions::exprs_rest-loop-after
 decreases-functions::exprs_rest-loop-after l = length l.rest
 
-abbrev pub invariant-functions::others-loop-after : goal.invariant-functions::others-loop-after
-invariant-functions::others-loop-after l =
+abbrev pub invariant-functions::later_arguments-loop-after : goal.invariant-functions::later_arguments-loop-after
+invariant-functions::later_arguments-loop-after l =
     (n : ℕ) × (length l.rest < n) × (put (trees l.found.items) (many (byte_at 44) (next (nested_in l.context)) n l.rest) ≡ put (tree_of l.fn.first ∷ []) (many (byte_at 44) (next (nested_in l.context)) (suc (length l.bytes)) l.bytes)) × (length l.found.items ≤ suc l.most)
 
-abbrev pub decreases-functions::others-loop-after : goal.decreases-functions::others-loop-after
-decreases-functions::others-loop-after l = length l.rest
+abbrev pub decreases-functions::later_arguments-loop-after : goal.decreases-functions::later_arguments-loop-after
+decreases-functions::later_arguments-loop-after l = length l.rest
 
 abbrev pub invariant-names::subs_rest-loop-after : goal.invariant-names::subs_rest-loop-after
 invariant-names::subs_rest-loop-after l =

@@ -10,11 +10,11 @@ pub loop-index-preserved : goal.loop-index-preserved
 loop-index-preserved c =
     half_more c.args.program.now c.args.entries.now (map event_of c.args.events.now)
     (map event_of (drop c.loop-index.index c.args.events.now)) (map event_of (drop (c.loop-index.index + 1) c.args.events.now))
-    (event_of c.index-events-index.result) c.loop-index.index (c.loop-index.index + 1) c.loop-index.system c.happen.new.system
+    (event_of c.index-events-index.result) c.loop-index.index (c.loop-index.index + 1) c.loop-index.system c.apply_event.new.system
     c.loop-index.invariant
     (next_event c.args.events.now c.loop-index.index c.index-events-index.result (omega (arith, c.loop-index-test.true))
     c.index-events-index.is)
-    c.in-Ok.ensures.ok c.happen.ensures.same refl
+    c.in-Ok.ensures.ok c.apply_event.ensures.same refl
 
 pub returns-in-Err : goal.returns-in-Err
 returns-in-Err c =

@@ -44,8 +44,8 @@ returns-then-not-is_new-clause-ring g c = λ same. on_path_at (waits_as g.J.Seen
     (subst (λ ms. IsNext (waits_as g.J.Seen.seen) c.args.jobs.now ms c.index-jobs-place.result c.in-Some.next)
     c.as_slice.ensures.value c.in-Some.ensures.found) (ap is_new (sym c.index.ensures) ∙ sym c.is_new.ensures ∙ c.if-not-is_new.true)
 
-pub meet-requires : goal.meet-requires
-meet-requires g c =
+pub visit_job-requires : goal.visit_job-requires
+visit_job-requires g c =
     let l : c.in-Some.next < length c.args.marks.now.items =
     next_within (waits_as g.J.Seen.seen) c.args.jobs.now c.args.marks.now.items c.index-jobs-place.result
     c.in-Some.next (subst (λ ms. IsNext (waits_as g.J.Seen.seen) c.args.jobs.now ms c.index-jobs-place.result c.in-Some.next)
@@ -68,12 +68,12 @@ returns-in-None-clause-met g c = λ same. freed_met (waits_as g.J.Seen.seen) c.a
     c.index-jobs-place.result c.requires.goes c.index-jobs-place.is)
     c.in-None.ensures.none
 
-pub returns-in_ok-meet-in-Some-clause-goes : goal.returns-in_ok-meet-in-Some-clause-goes
-returns-in_ok-meet-in-Some-clause-goes g c = λ same.
+pub returns-in_ok-visit_job-in-Some-clause-goes : goal.returns-in_ok-visit_job-in-Some-clause-goes
+returns-in_ok-visit_job-in-Some-clause-goes g c = λ same.
     let now : Stop = record { place = c.args.stop.place; left = c.next_of.new.left } in
     let last : Stop = c.in_ok-last-in-Some.last in
-    let l = longer c.args.path.now.items c.push.new.self.items c.meet.new.path.items now last
-    c.in_ok-push-in-Some.ensures.items c.in_ok-meet-in-Some.ensures.path in
+    let l = longer c.args.path.now.items c.push.new.self.items c.visit_job.new.path.items now last
+    c.in_ok-push-in-Some.ensures.items c.in_ok-visit_job-in-Some.ensures.path in
     let P : List Mark → List Stop → Type 0 = λ ms path. Searching (waits_as g.J.Seen.seen) c.args.jobs.now ms path in
     let n = subst (λ ms. IsNext (waits_as g.J.Seen.seen) c.args.jobs.now ms c.index-jobs-place.result c.in-Some.next)
     c.as_slice.ensures.value c.in-Some.ensures.found in
@@ -83,31 +83,31 @@ returns-in_ok-meet-in-Some-clause-goes g c = λ same.
     c.index-jobs-place.result c.requires.goes c.index-jobs-place.is) n
     (next_within (waits_as g.J.Seen.seen) c.args.jobs.now c.args.marks.now.items c.index-jobs-place.result c.in-Some.next n)
     refl c.in-Some.ensures.left c.in_ok-last-in-Some.ensures.stop c.in_ok-last-in-Some.ensures.place in
-    let marks : c.meet.new.marks.items ≡ set c.args.marks.now.items c.in-Some.next OnPath =
-    c.in_ok-meet-in-Some.ensures.marks
+    let marks : c.visit_job.new.marks.items ≡ set c.args.marks.now.items c.in-Some.next OnPath =
+    c.in_ok-visit_job-in-Some.ensures.marks
     ∙ ap (λ (i : ℕ). set c.args.marks.now.items i OnPath) c.in_ok-last-in-Some.ensures.place in
-    subst (λ ms. P ms (reverse c.meet.new.path.items)) (sym {A = List Mark} marks)
+    subst (λ ms. P ms (reverse c.visit_job.new.path.items)) (sym {A = List Mark} marks)
     (subst (P (set c.args.marks.now.items c.in-Some.next OnPath)) (sym {A = List Stop} l.0) s)
 
-pub returns-in_ok-meet-in-Some-clause-met : goal.returns-in_ok-meet-in-Some-clause-met
-returns-in_ok-meet-in-Some-clause-met g c = λ same i m.
+pub returns-in_ok-visit_job-in-Some-clause-met : goal.returns-in_ok-visit_job-in-Some-clause-met
+returns-in_ok-visit_job-in-Some-clause-met g c = λ same i m.
     let now : Stop = record { place = c.args.stop.place; left = c.next_of.new.left } in
     let last : Stop = c.in_ok-last-in-Some.last in
-    let l = longer c.args.path.now.items c.push.new.self.items c.meet.new.path.items now last
-    c.in_ok-push-in-Some.ensures.items c.in_ok-meet-in-Some.ensures.path in
+    let l = longer c.args.path.now.items c.push.new.self.items c.visit_job.new.path.items now last
+    c.in_ok-push-in-Some.ensures.items c.in_ok-visit_job-in-Some.ensures.path in
     subst (λ path. IsMet (waits_as g.J.Seen.seen) c.args.jobs.now path i) (sym {A = List Stop} l.0)
     (followed_met (waits_as g.J.Seen.seen) c.args.jobs.now c.args.stop now last (reverse c.args.path.now.items) refl i m)
 
-pub returns-in_ok-meet-in-Some-clause-less : goal.returns-in_ok-meet-in-Some-clause-less
-returns-in_ok-meet-in-Some-clause-less g c = λ same.
+pub returns-in_ok-visit_job-in-Some-clause-less : goal.returns-in_ok-visit_job-in-Some-clause-less
+returns-in_ok-visit_job-in-Some-clause-less g c = λ same.
     let now : Stop = record { place = c.args.stop.place; left = c.next_of.new.left } in
-    let l = longer c.args.path.now.items c.push.new.self.items c.meet.new.path.items now c.in_ok-last-in-Some.last
-    c.in_ok-push-in-Some.ensures.items c.in_ok-meet-in-Some.ensures.path in
+    let l = longer c.args.path.now.items c.push.new.self.items c.visit_job.new.path.items now c.in_ok-last-in-Some.last
+    c.in_ok-push-in-Some.ensures.items c.in_ok-visit_job-in-Some.ensures.path in
     let w = less_by_new c.args.marks.now.items c.in-Some.next (length c.args.path.now.items)
     (new_at (waits_as g.J.Seen.seen) c.args.jobs.now c.args.marks.now.items c.index-jobs-place.result c.in-Some.next
     c.index.result.now (subst (λ ms. IsNext (waits_as g.J.Seen.seen) c.args.jobs.now ms c.index-jobs-place.result c.in-Some.next)
     c.as_slice.ensures.value c.in-Some.ensures.found) (ap is_new (sym c.index.ensures) ∙ sym c.is_new.ensures ∙ c.if-not-is_new.false)) in
-    let m : sum_by weight c.meet.new.marks.items ≡ sum_by weight (set c.args.marks.now.items c.in-Some.next OnPath) =
-    ap (sum_by weight) c.in_ok-meet-in-Some.ensures.marks
+    let m : sum_by weight c.visit_job.new.marks.items ≡ sum_by weight (set c.args.marks.now.items c.in-Some.next OnPath) =
+    ap (sum_by weight) c.in_ok-visit_job-in-Some.ensures.marks
     ∙ ap (λ (i : ℕ). sum_by weight (set c.args.marks.now.items i OnPath)) c.in_ok-last-in-Some.ensures.place in
     omega (arith, w, m, l.1)

@@ -11,17 +11,17 @@ returns-then-not-is_new-clause-free g c = λ same. met_before (waits_as g.J.Seen
     c.args.start c.index.result.now c.requires.begins c.requires.within
     (ap is_new (sym c.index.ensures) ∙ sym c.is_new.ensures ∙ c.if-not-is_new.true)
 
-pub meet-requires : goal.meet-requires
-meet-requires g c = omega (arith, c.requires.within, c.requires.begins.all, c.in_ok-first.ensures.place)
+pub visit_job-requires : goal.visit_job-requires
+visit_job-requires g c = omega (arith, c.requires.within, c.requires.begins.all, c.in_ok-first.ensures.place)
 
 pub loop-stop-init : goal.loop-stop-init
 loop-stop-init g c =
     let first : Stop = c.in_ok-first.first in
-    let e : c.meet.new.path.items ≡ first ∷ [] =
-    ◌∙◌ {A = List Stop} c.in_ok-meet.ensures.path (ap (λ (l : List Stop). l ++ first ∷ []) c.new-path.ensures.items) in
+    let e : c.visit_job.new.path.items ≡ first ∷ [] =
+    ◌∙◌ {A = List Stop} c.in_ok-visit_job.ensures.path (ap (λ (l : List Stop). l ++ first ∷ []) c.new-path.ensures.items) in
     begins_so (waits_as g.J.Seen.seen) c.args.jobs.now c.args.marks.now.items first c.args.start c.requires.begins
     c.in_ok-first.ensures.stop c.in_ok-first.ensures.place c.requires.within
-    c.meet.new.marks.items c.meet.new.path.items c.in_ok-meet.ensures.marks e
+    c.visit_job.new.marks.items c.visit_job.new.path.items c.in_ok-visit_job.ensures.marks e
 
 pub loop-stop-preserved : goal.loop-stop-preserved
 loop-stop-preserved g c =

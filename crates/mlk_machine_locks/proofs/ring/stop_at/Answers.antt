@@ -11,5 +11,5 @@ returns-clause-stop g c = record {
       c.index-jobs-place.is;
   left = waits_from g.J.Seen.seen c.args.jobs.now c.args.table.now c.index-jobs-place.result c.in_ok-left.left.items
       c.requires.covers
-      (subst (λ ns. AreAgainst c.args.table.now ns c.in_ok-left.left.items) c.awaited.ensures c.in_ok-left.ensures);
+      (subst (λ ns. AreAgainst c.args.table.now ns c.in_ok-left.left.items) c.awaited_names.ensures c.in_ok-left.ensures);
 }

@@ -50,13 +50,13 @@ returns-clause-answer c =
     ∙ ap (λ (z : Job). dropped c.count_given-count.result (dropped c.args.skipped z)) c.in_ok-begin_frame.ensures.job)
     ∙ bound_job (job_of c.args.job.now) (frame_of c.args.begin.frame) c.args.begin.routine (line_of c.args.begin.line.now)
     (map line_of c.args.begin.later.now) (map binder_of c.in_ok-found.found.items)
-    (value_at (c.args.job.now.tables.items ++ c.fill.new.table ∷ [])) c.count_given-count.result c.args.skipped
+    (value_at (c.args.job.now.tables.items ++ c.fill_formals.new.table ∷ [])) c.count_given-count.result c.args.skipped
     (actual_trees c.args.given.now) found
-    (table_filled c.args.job.now.tables.items c.fill.new.table c.formals_in-formals.result.now (actual_trees c.args.given.now)
-    c.before-2.result.now (in_table c.new-table.result) c.new-table.ensures c.in_ok-fill.ensures
+    (table_filled c.args.job.now.tables.items c.fill_formals.new.table c.formals_in-formals.result.now (actual_trees c.args.given.now)
+    c.values_below-2.result.now (in_table c.new-table.result) c.new-table.ensures c.in_ok-fill_formals.ensures
     ∙ ap (λ (z : List (List ℕ)). with_actuals (length c.args.job.now.tables.items) z (actual_trees c.args.given.now)
-    c.before-2.result.now (value_at c.args.job.now.tables.items)) formals
+    c.values_below-2.result.now (value_at c.args.job.now.tables.items)) formals
     ∙ ap (λ (z : List (List ℕ)). with_actuals (length c.args.job.now.tables.items) fs (actual_trees c.args.given.now) z
     (value_at c.args.job.now.tables.items))
-    (c.before-2.ensures ∙ ap (λ (n : ℕ). reverse (take n (drop c.args.skipped c.args.job.now.values))) c.count_given-count.ensures))
+    (c.values_below-2.ensures ∙ ap (λ (n : ℕ). reverse (take n (drop c.args.skipped c.args.job.now.values))) c.count_given-count.ensures))
     c.count_given-count.ensures)

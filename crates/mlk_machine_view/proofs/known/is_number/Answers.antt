@@ -7,11 +7,11 @@ use Rattle.mlk_machine_view.proofs.known.is_number.Goals as goal
 pub returns-clause-plus : goal.returns-clause-plus
 returns-clause-plus c =
     c.is_some.ensures
-    ∙ some_plus c.args.text.now c.whole.result
-    (subst (λ l. Finds (λ (z : ℤ). IsWhole z l) c.whole.result) c.as_bytes.ensures c.whole.ensures)
+    ∙ some_plus c.args.text.now c.whole_number.result
+    (subst (λ l. Finds (λ (z : ℤ). IsWhole z l) c.whole_number.result) c.as_bytes.ensures c.whole_number.ensures)
 
 pub returns-clause-minus : goal.returns-clause-minus
 returns-clause-minus c =
     c.is_some.ensures
-    ∙ some_minus c.args.text.now c.whole.result
-    (subst (λ l. Finds (λ (z : ℤ). IsWhole z l) c.whole.result) c.as_bytes.ensures c.whole.ensures)
+    ∙ some_minus c.args.text.now c.whole_number.result
+    (subst (λ l. Finds (λ (z : ℤ). IsWhole z l) c.whole_number.result) c.as_bytes.ensures c.whole_number.ensures)

@@ -9,8 +9,8 @@ of-requires g c =
     tasks_known g.N.Inputs.given (map routine_of c.args.checks.now.program.now) c.args.checks.now.rules.now c.args.checks.now.entries.now c.in_ok-entries.entries.items c.in_ok-tasks.tasks.items
     c.requires.inputs c.in_ok-entries.ensures (c.in_ok-tasks.ensures ∙ ap (filter (is_certified c.args.checks.now.entries.now.0)) c.as_slice.ensures.value)
 
-pub finished-requires-clause-slots : goal.finished-requires-clause-slots
-finished-requires-clause-slots g c =
+pub collect_report-requires-clause-slots : goal.collect_report-requires-clause-slots
+collect_report-requires-clause-slots g c =
     slots_known g.N.Inputs.given (map routine_of c.args.checks.now.program.now) c.args.checks.now.rules.now c.args.checks.now.entries.now c.as_slice-2.result.now c.into_slots-slots.result.items
     c.requires.inputs (c.as_slice-2.ensures.value ∙ c.in_ok-entries.ensures)
     c.into_slots-slots.ensures

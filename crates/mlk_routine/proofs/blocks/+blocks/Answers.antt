@@ -17,14 +17,14 @@ block-loop-line-preserved t c =
     let x : Line-F Line = record { number = o.number; level = o.level; end = o.end; label = o.label; formals = o.formals; commands = o.commands; block = inside } in
     let made = line_roll x ∙ ap (λ h. (h, lines_from (map line_of inside.items))) (sym (head_out l)) in
     let start = map head_of c.args.lines.now.items in
-    let more = map head_of c.deeper.new.lines.items in
-    let left = map head_of c.under.new.lines.items in
+    let more = map head_of c.take_deeper.new.lines.items in
+    let left = map head_of c.block_under.new.lines.items in
     let is : IsBlock (level_of (head_of l)) (lines_from (map line_of inside.items)) more left = subst (λ n. IsBlock n (lines_from (map line_of inside.items)) more left) (sym (level_out l)) c.in-Ok.ensures in
     let items = ap (map line_of) (c.push_reserved.ensures.items ∙ ap (λ l. l ++ roll-Line x ∷ []) c.in-Ok-make_room.ensures.same) ∙ map-append line_of c.loop-line.found.items (roll-Line x ∷ []) ∙ ap (λ p. map line_of c.loop-line.found.items ++ p ∷ []) made in
     subst (λ k. BlocksSoFar c.args.level start k left) (sym items)
     (one_block c.args.level start (map line_of c.loop-line.found.items) (map head_of c.loop-line.lines.items) c.loop-line.invariant (head_of l) more (ap (map head_of) c.in-Some.ensures.0) c.in-Some.ensures.1 (lines_from (map line_of inside.items)) left is)
 
-pub under-returns : goal.under-returns
-under-returns t c =
+pub block_under-returns : goal.block_under-returns
+block_under-returns t c =
     let start = map head_of c.args.lines.now.items in
     rw c.new.ensures.items (blocks_end c.args.level start [] start (blocks_begin c.args.level start c.requires) c.args.lines.now.items refl (c.is_deeper.ensures c.if-is_deeper.false))

@@ -7,8 +7,8 @@ use Rattle.mlk_routine.proofs.blocks.+blocks.Given as goal
 abbrev pub decreases-block : goal.decreases-block
 decreases-block l = 2 * length (map head_of l.lines.now.items)
 
-abbrev pub decreases-under : goal.decreases-under
-decreases-under l = 2 * length (map head_of l.lines.now.items) + 1
+abbrev pub decreases-block_under : goal.decreases-block_under
+decreases-block_under l = 2 * length (map head_of l.lines.now.items) + 1
 
 abbrev pub invariant-block-loop-line : goal.invariant-block-loop-line
 invariant-block-loop-line l = BlocksSoFar l.level (map head_of l.fn.lines.items) (map line_of l.found.items) (map head_of l.lines.items)

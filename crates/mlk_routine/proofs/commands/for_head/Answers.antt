@@ -9,4 +9,4 @@ returns c =
     let few : suc c.args.loops ≤ 255 = omega (arith, c.if-loops-ge-MOST_LOOPS.false) in
     head_told c.args.loops c.args.line.now c.args.at few c.requires.within (c.args.at + length c.word_at.result.0.now)
     (for_found c.args.line.now c.args.at c.word_at.result.0.now c.word_at.result.1.now c.requires.within (c.word_at.ensures ∙ ap word_at c.split_at.ensures.back) c.requires.here)
-    (option_map control_of) c.perhaps_control.result c.perhaps_control.ensures
+    (option_map control_of) c.optional_control.result c.optional_control.ensures

@@ -10,7 +10,7 @@ returns-then-not-branch-clause-read c =
     let keys = c.args.seen.now.texts.keys in
     let text = c.split_at-2.ensures.front ∙ ap (take (c.in_ok-name.next - c.args.at)) c.split_at.ensures.back ∙ text_of c.args.line.now c.args.at c.in_ok-name.name c.in_ok-name.next c.requires c.in_ok-name.ensures.0 in
     let old = ap (λ n. has_name n keys) (sym text) ∙ same_new (has_name c.split_at-2.result.0.now keys) (sym c.if-not-branch.true ∙ c.in_ok-add.ensures.new) in
-    denies (IsUnseen keys) LabelEnds c.args.line.now c.args.at c.refused.result (c.refused.ensures.fault c.args.line.now c.requires refl refl)
+    denies (IsUnseen keys) LabelEnds c.args.line.now c.args.at c.refusal_at.result (c.refusal_at.ensures.fault c.args.line.now c.requires refl refl)
     (seen_before keys c.args.line.now c.args.at c.in_ok-name.name c.in_ok-name.next c.in_ok-name.ensures old)
 
 pub returns-clause-read : goal.returns-clause-read

@@ -7,12 +7,12 @@ use Rattle.mlk_routine.proofs.read.read_routine.Goals as goal
 
 pub returns-in_default-clause-refused : goal.returns-in_default-clause-refused
 returns-in_default-clause-refused c =
-    no_name_routine c.args.stem.now c.args.text.now (subst (IsStemName c.args.stem.now) c.in_default.is c.in_ok-name.ensures) c.whole.result
+    no_name_routine c.args.stem.now c.args.text.now (subst (IsStemName c.args.stem.now) c.in_default.is c.in_ok-name.ensures) c.routine_refusal.result
 
 pub returns-then-text-gt-MOST_BYTES-clause-refused : goal.returns-then-text-gt-MOST_BYTES-clause-refused
 returns-then-text-gt-MOST_BYTES-clause-refused c =
     let more = c.if-text-gt-MOST_BYTES.true in
-    long_routine c.args.stem.now c.args.text.now (omega (arith, more)) c.whole-then-text-gt-MOST_BYTES.result
+    long_routine c.args.stem.now c.args.text.now (omega (arith, more)) c.routine_refusal-then-text-gt-MOST_BYTES.result
 
 pub returns-then-len-gt-MOST_LINES-clause-refused : goal.returns-then-len-gt-MOST_LINES-clause-refused
 returns-then-len-gt-MOST_LINES-clause-refused c =
@@ -20,7 +20,7 @@ returns-then-len-gt-MOST_LINES-clause-refused c =
     let more = c.if-len-gt-MOST_LINES.true in
     let size = texts_size texts.items in
     let same = ap length c.in_ok-texts.ensures in
-    many_routine c.args.stem.now c.args.text.now (omega (arith, more, c.len.ensures, texts.ok, size, same)) c.whole-then-len-gt-MOST_LINES.result
+    many_routine c.args.stem.now c.args.text.now (omega (arith, more, c.len.ensures, texts.ok, size, same)) c.routine_refusal-then-len-gt-MOST_LINES.result
 
 pub returns-in_err-left-clause-refused : goal.returns-in_err-left-clause-refused
 returns-in_err-left-clause-refused c =

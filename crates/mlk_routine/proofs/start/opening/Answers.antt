@@ -9,7 +9,7 @@ returns-then-next-at c = start_found c.args.line.now c.args.at c.requires c.past
 
 pub returns-then-not-is_commands_end : goal.returns-then-not-is_commands_end
 returns-then-not-is_commands_end c =
-    denies IsOpening OpeningEnds c.args.line.now c.args.at c.refused.result (c.refused.ensures.fault c.args.line.now c.requires refl refl)
+    denies IsOpening OpeningEnds c.args.line.now c.args.at c.refusal_at.result (c.refusal_at.ensures.fault c.args.line.now c.requires refl refl)
     (opening_nowhere c.args.line.now c.args.at c.requires c.past_blanks-next.result c.past_blanks-next.ensures c.if-next-at.false (sym c.is_commands_end.ensures ∙ c.if-not-is_commands_end.true))
 
 pub returns : goal.returns

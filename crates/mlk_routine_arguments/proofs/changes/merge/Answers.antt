@@ -18,4 +18,4 @@ returns-in_err-source c =
 pub returns : goal.returns
 returns c =
     both_found (merge_parts c.args.line.now c.args.at) c.requires (variable_of c.in_ok-target.target) (variable_of c.in_ok-source.source) c.in_ok-target.next c.in_ok-source.next c.in_ok-target.ensures
-    (after_found (IsVariable NoCalls) VariableEnds c.args.line.now c.in_ok-target.next 61 (c.if-not-has.ensures.yes refl) (variable_of c.in_ok-source.source) c.in_ok-source.next c.in_ok-source.ensures)
+    (after_found (IsVariable NoCalls) VariableEnds c.args.line.now c.in_ok-target.next 61 (c.if-not-has_byte.ensures.yes refl) (variable_of c.in_ok-source.source) c.in_ok-source.next c.in_ok-source.ensures)

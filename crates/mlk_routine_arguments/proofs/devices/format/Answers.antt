@@ -6,5 +6,5 @@ use Rattle.mlk_routine_arguments.proofs.devices.format.Goals as goal
 
 pub returns : goal.returns
 returns c =
-    format_told c.args.line.now c.args.at c.requires.starts c.after.result (option_map tree_of)
-    (both_told (marked_parts c.args.line.now c.args.at) c.requires.within tt c.past_marks-next.result c.past_marks-next.ensures c.after.result (option_map tree_of) c.after.ensures)
+    format_told c.args.line.now c.args.at c.requires.starts c.expr_after.result (option_map tree_of)
+    (both_told (marked_parts c.args.line.now c.args.at) c.requires.within tt c.past_marks-next.result c.past_marks-next.ensures c.expr_after.result (option_map tree_of) c.expr_after.ensures)

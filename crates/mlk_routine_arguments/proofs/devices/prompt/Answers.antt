@@ -23,5 +23,5 @@ returns-in-Err-Refused c =
     let size = byte_before c.args.line.now c.args.at 34 c.requires in
     let plain = c.text_bytes-plain.ensures.within in
     let back = c.split_at.ensures.back_len in
-    denies IsPrompt PromptEnds c.args.line.now c.args.at c.refused.result (c.refused.ensures.fault c.args.line.now (omega (arith, size, plain, back)) refl refl)
+    denies IsPrompt PromptEnds c.args.line.now c.args.at c.refusal_at.result (c.refusal_at.ensures.fault c.args.line.now (omega (arith, size, plain, back)) refl refl)
     (prompt_nowhere c.args.line.now c.args.at c.requires (subst (λ l. inside l ≡ None) c.split_at.ensures.back none))

@@ -19,19 +19,19 @@ returns-then-starts_format c = turned_found (write_format c.args.line.now c.args
 pub returns-in_err-value : goal.returns-in_err-value
 returns-in_err-value c =
     let p = err_from_is_err_and c.from_residual-in_err-value.result c.from_residual-in_err-value.ensures.1 in
-    rw (p.1, p.2) (turned_denied (write_character c.args.line.now c.args.at (c.if-has.ensures.yes refl)) c.in_err-value.field-0.0
+    rw (p.1, p.2) (turned_denied (write_character c.args.line.now c.args.at (c.if-has_byte.ensures.yes refl)) c.in_err-value.field-0.0
     (after_denied IsValue ExprEnds c.args.line.now c.args.at 42 c.in_err-value.field-0.0 c.in_err-value.ensures))
 
-pub returns-then-has : goal.returns-then-has
-returns-then-has c =
-    turned_found (write_character c.args.line.now c.args.at (c.if-has.ensures.yes refl)) (tree_of c.in_ok-value.value) c.in_ok-value.next
-    (after_found IsValue ExprEnds c.args.line.now c.args.at 42 (c.if-has.ensures.yes refl) (tree_of c.in_ok-value.value) c.in_ok-value.next c.in_ok-value.ensures)
+pub returns-then-has_byte : goal.returns-then-has_byte
+returns-then-has_byte c =
+    turned_found (write_character c.args.line.now c.args.at (c.if-has_byte.ensures.yes refl)) (tree_of c.in_ok-value.value) c.in_ok-value.next
+    (after_found IsValue ExprEnds c.args.line.now c.args.at 42 (c.if-has_byte.ensures.yes refl) (tree_of c.in_ok-value.value) c.in_ok-value.next c.in_ok-value.ensures)
 
 pub returns-in_err-value-2 : goal.returns-in_err-value-2
 returns-in_err-value-2 c =
     let p = err_from_is_err_and c.from_residual-in_err-value-2.result c.from_residual-in_err-value-2.ensures.1 in
-    rw (p.1, p.2) (turned_denied (write_value c.args.line.now c.args.at (sym c.if-starts_format.ensures) (c.if-has.ensures.no refl)) c.in_err-value-2.field-0.0 c.in_err-value-2.ensures)
+    rw (p.1, p.2) (turned_denied (write_value c.args.line.now c.args.at (sym c.if-starts_format.ensures) (c.if-has_byte.ensures.no refl)) c.in_err-value-2.field-0.0 c.in_err-value-2.ensures)
 
 pub returns : goal.returns
 returns c =
-    turned_found (write_value c.args.line.now c.args.at (sym c.if-starts_format.ensures) (c.if-has.ensures.no refl)) (tree_of c.in_ok-value-2.value) c.in_ok-value-2.next c.in_ok-value-2.ensures
+    turned_found (write_value c.args.line.now c.args.at (sym c.if-starts_format.ensures) (c.if-has_byte.ensures.no refl)) (tree_of c.in_ok-value-2.value) c.in_ok-value-2.next c.in_ok-value-2.ensures

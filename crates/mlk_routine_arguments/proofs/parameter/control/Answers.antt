@@ -15,17 +15,17 @@ returns-in_err-variable c =
     let p = err_from_is_err_and c.from_residual.result c.from_residual.ensures.1 in
     rw (p.1, p.2) (denied_first (control_parts c.args.line.now c.args.at) c.requires c.in_err-variable.field-0.0 c.in_err-variable.ensures)
 
-pub returns-then-has : goal.returns-then-has
-returns-then-has c =
+pub returns-then-has_byte : goal.returns-then-has_byte
+returns-then-has_byte c =
     denies IsControl ControlEnds c.args.line.now c.args.at c.leaves_out.result (c.leaves_out.ensures.fault c.args.line.now c.requires)
     (second_nowhere (control_parts c.args.line.now c.args.at) c.requires c.in_ok-variable.variable c.in_ok-variable.next c.in_ok-variable.ensures
-    (after_missing (IsList IsParameter) (AreEnded ParameterEnds) c.args.line.now c.in_ok-variable.next 61 (other_byte c.args.line.now c.in_ok-variable.next (c.if-has.ensures.yes refl))))
+    (after_missing (IsList IsParameter) (AreEnded ParameterEnds) c.args.line.now c.in_ok-variable.next 61 (other_byte c.args.line.now c.in_ok-variable.next (c.if-has_byte.ensures.yes refl))))
 
-pub returns-then-not-has : goal.returns-then-not-has
-returns-then-not-has c =
-    denies IsControl ControlEnds c.args.line.now c.args.at c.refused.result (c.refused.ensures.fault c.args.line.now c.in_ok-variable.ensures.0.within refl refl)
+pub returns-then-not-has_byte : goal.returns-then-not-has_byte
+returns-then-not-has_byte c =
+    denies IsControl ControlEnds c.args.line.now c.args.at c.refusal_at.result (c.refusal_at.ensures.fault c.args.line.now c.in_ok-variable.ensures.0.within refl refl)
     (second_nowhere (control_parts c.args.line.now c.args.at) c.requires c.in_ok-variable.variable c.in_ok-variable.next c.in_ok-variable.ensures
-    (after_missing (IsList IsParameter) (AreEnded ParameterEnds) c.args.line.now c.in_ok-variable.next 61 (c.if-not-has.ensures.no refl)))
+    (after_missing (IsList IsParameter) (AreEnded ParameterEnds) c.args.line.now c.in_ok-variable.next 61 (c.if-not-has_byte.ensures.no refl)))
 
 pub returns-in_err-parameters : goal.returns-in_err-parameters
 returns-in_err-parameters c =
@@ -37,4 +37,4 @@ pub returns : goal.returns
 returns c =
     rw c.at-column.ensures
     (both_found (control_parts c.args.line.now c.args.at) c.requires c.in_ok-variable.variable (map parameter_of c.in_ok-parameters.parameters.items) c.in_ok-variable.next c.in_ok-parameters.next c.in_ok-variable.ensures
-    (after_found (IsList IsParameter) (AreEnded ParameterEnds) c.args.line.now c.in_ok-variable.next 61 (c.if-not-has.ensures.yes refl) (map parameter_of c.in_ok-parameters.parameters.items) c.in_ok-parameters.next c.in_ok-parameters.ensures))
+    (after_found (IsList IsParameter) (AreEnded ParameterEnds) c.args.line.now c.in_ok-variable.next 61 (c.if-not-has_byte.ensures.yes refl) (map parameter_of c.in_ok-parameters.parameters.items) c.in_ok-parameters.next c.in_ok-parameters.ensures))

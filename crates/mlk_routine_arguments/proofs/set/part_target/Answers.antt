@@ -41,18 +41,18 @@ returns-in_err-arguments c =
     (denied_first (closing_parts c.args.line.now open'.next) open'.ensures.0.within c.in_err-arguments.field-0.0
     (denied_second (inner_parts c.args.line.now open'.next) open'.ensures.0.within (variable_of v.variable) v.next v.ensures c.in_err-arguments.field-0.0 c.in_err-arguments.ensures)))
 
-pub returns-then-not-has : goal.returns-then-not-has
-returns-then-not-has c =
+pub returns-then-not-has_byte : goal.returns-then-not-has_byte
+returns-then-not-has_byte c =
     let less = byte_before c.args.line.now c.args.at 36 c.requires in
     let within : c.args.at ≤ length c.args.line.now = omega (arith, less) in
     let open' = c.in_ok-part in
     let v = c.in_ok-variable in
     let a = c.in_ok-arguments in
     let inner = both_found (inner_parts c.args.line.now open'.next) open'.ensures.0.within (variable_of v.variable) (trees a.arguments.items) v.next a.next v.ensures a.ensures in
-    denies IsTarget TargetEnds c.args.line.now c.args.at c.refused.result (c.refused.ensures.fault c.args.line.now c.in_ok-arguments.ensures.0.within refl refl)
+    denies IsTarget TargetEnds c.args.line.now c.args.at c.refusal_at.result (c.refusal_at.ensures.fault c.args.line.now c.in_ok-arguments.ensures.0.within refl refl)
     (second_nowhere (target_parts c.args.line.now c.args.at c.requires) within open'.part open'.next open'.ensures
     (second_nowhere (closing_parts c.args.line.now open'.next) open'.ensures.0.within (variable_of v.variable, trees a.arguments.items) a.next inner
-    (no_byte c.args.line.now a.next 41 (c.if-not-has.ensures.no refl))))
+    (no_byte c.args.line.now a.next 41 (c.if-not-has_byte.ensures.no refl))))
 
 pub returns : goal.returns
 returns c =
@@ -66,4 +66,4 @@ returns c =
     let boxed = ap variable_of c.in_ok-variable-2.ensures.ok in
     subst (λ v. Found IsTarget TargetEnds c.args.line.now c.args.at (SetPart open'.part v (trees a.arguments.items)) (a.next + 1)) (sym boxed)
     (both_found (target_parts c.args.line.now c.args.at c.requires) within open'.part both open'.next (a.next + 1) open'.ensures
-    (both_found (closing_parts c.args.line.now open'.next) open'.ensures.0.within both tt a.next (a.next + 1) inner (byte_found c.args.line.now a.next 41 (c.if-not-has.ensures.yes refl))))
+    (both_found (closing_parts c.args.line.now open'.next) open'.ensures.0.within both tt a.next (a.next + 1) inner (byte_found c.args.line.now a.next 41 (c.if-not-has_byte.ensures.yes refl))))

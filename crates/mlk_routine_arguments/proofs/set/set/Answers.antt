@@ -16,12 +16,12 @@ returns-in_err-targets c =
     let p = err_from_is_err_and c.from_residual.result c.from_residual.ensures.1 in
     rw (p.1, p.2) (denied_first (set_parts c.args.line.now c.args.at) c.requires c.in_err-targets.field-0.0 c.in_err-targets.ensures)
 
-pub returns-then-not-has : goal.returns-then-not-has
-returns-then-not-has c =
+pub returns-then-not-has_byte : goal.returns-then-not-has_byte
+returns-then-not-has_byte c =
     let t = c.in_ok-targets in
-    denies IsSet SetEnds c.args.line.now c.args.at c.refused.result (c.refused.ensures.fault c.args.line.now c.in_ok-targets.ensures.0.within refl refl)
+    denies IsSet SetEnds c.args.line.now c.args.at c.refusal_at.result (c.refusal_at.ensures.fault c.args.line.now c.in_ok-targets.ensures.0.within refl refl)
     (second_nowhere (set_parts c.args.line.now c.args.at) c.requires (map target_of t.targets) t.next t.ensures
-    (after_missing IsValue ExprEnds c.args.line.now t.next 61 (c.if-not-has.ensures.no refl)))
+    (after_missing IsValue ExprEnds c.args.line.now t.next 61 (c.if-not-has_byte.ensures.no refl)))
 
 pub returns-in_err-value : goal.returns-in_err-value
 returns-in_err-value c =
@@ -34,4 +34,4 @@ pub returns : goal.returns
 returns c =
     let t = c.in_ok-targets in
     both_found (set_parts c.args.line.now c.args.at) c.requires (map target_of t.targets) (tree_of c.in_ok-value.value) t.next c.in_ok-value.next t.ensures
-    (after_found IsValue ExprEnds c.args.line.now t.next 61 (c.if-not-has.ensures.yes refl) (tree_of c.in_ok-value.value) c.in_ok-value.next c.in_ok-value.ensures)
+    (after_found IsValue ExprEnds c.args.line.now t.next 61 (c.if-not-has_byte.ensures.yes refl) (tree_of c.in_ok-value.value) c.in_ok-value.next c.in_ok-value.ensures)

@@ -5,7 +5,7 @@ use Rattle.mlk_rules.proofs.lacking.templates.Goals as goal
 
 pub returns-in-Some : goal.returns-in-Some
 returns-in-Some c =
-    lacking_ok c.args.rules.now c.args.held.now c.args.reference.now c.as_slice.result.now c.lacking.result (c.as_slice.ensures ∙ ap (λ g. g.covers) c.in-Some.ensures) c.lacking.ensures
+    lacking_ok c.args.rules.now c.args.held.now c.args.reference.now c.as_slice.result.now c.missing_locks.result (c.as_slice.ensures ∙ ap (λ g. g.covers) c.in-Some.ensures) c.missing_locks.ensures
 
 pub returns-in-None : goal.returns-in-None
 returns-in-None c =

@@ -24,7 +24,7 @@ walk_halves-walk_both-front-requires g t c κs within =
 pub walk_halves-returns : goal.walk_halves-returns
 walk_halves-returns g t c =
     let sc = scope_of c.args.scope.now in
-    IfOk-weaker c.joined.result _ _
+    IfOk-weaker c.join_parts.result _ _
     (λ w h.
     halves_joined sc (around_of c.args.part.around) (around_of c.halves.result.0.around) (around_of c.halves.result.1.around)
     (after_of c.args.part) (after_of c.halves.result.0) (after_of c.halves.result.1)
@@ -33,7 +33,7 @@ walk_halves-returns g t c =
     (subst (λ r. IfOk r (IsWalk (walk_of sc c.halves.result.0))) c.in_ok-front.was c.walk_both-front.ensures.first)
     (subst (λ r. IfOk r (IsWalk (walk_of sc c.halves.result.1))) c.in_ok-back.was c.walk_both-front.ensures.second)
     h.0 h.1)
-    c.joined.ensures
+    c.join_parts.ensures
 
 pub walk_one-walk_head-requires-clause-block : goal.walk_one-walk_head-requires-clause-block
 walk_one-walk_head-requires-clause-block g t c =

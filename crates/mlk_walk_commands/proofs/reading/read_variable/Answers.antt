@@ -15,9 +15,9 @@ returns c =
     let v = variable_of c.args.variable.now in
     let most = option_map tree_of (option_copied c.args.most) in
     let timeout = option_map tree_of (option_copied c.args.timeout) in
-    carried c.each-2.result c.each-2.new.walk (each (in_time_or_not timeout) c.each.new.walk) (read_variable p v most timeout c.args.walk.now)
-    c.each-2.ensures
-    (ap (λ w. each (in_time_or_not timeout) w) (c.in_ok-each.ensures
+    carried c.apply_to_states-2.result c.apply_to_states-2.new.walk (each (in_time_or_not timeout) c.apply_to_states.new.walk) (read_variable p v most timeout c.args.walk.now)
+    c.apply_to_states-2.ensures
+    (ap (λ w. each (in_time_or_not timeout) w) (c.in_ok-apply_to_states.ensures
     ∙ ap (λ w. each (read_row p v) w) (c.in_ok-value_if-2.ensures
     ∙ ap (λ w. value_if p timeout w) (c.in_ok-value_if.ensures
     ∙ ap (λ w. value_if p most w) c.in_ok-capture_variable.ensures))))

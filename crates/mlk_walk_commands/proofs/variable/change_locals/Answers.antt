@@ -13,6 +13,6 @@ returns-in-Some c =
     let first = c.in-Some.field-0.0.now in
     let others = c.in-Some.field-0.1.now in
     let is : c.args.subscripts.now ≡ first ∷ others = search rules in
-    carried c.once.result c.once.new.self (with_states (put_states c.args.walk.now.going []) c.args.walk.now)
-    (each (change_local p c.args.column c.args.name.now (subs_from (sub_trees c.args.subscripts.now))) c.args.walk.now) c.once.ensures
+    carried c.remove_duplicates.result c.remove_duplicates.new.self (with_states (put_states c.args.walk.now.going []) c.args.walk.now)
+    (each (change_local p c.args.column c.args.name.now (subs_from (sub_trees c.args.subscripts.now))) c.args.walk.now) c.remove_duplicates.ensures
     (sym (local_stays p c.args.column c.args.name.now c.args.walk.now c.args.subscripts.now first others is))

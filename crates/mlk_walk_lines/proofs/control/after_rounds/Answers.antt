@@ -18,7 +18,7 @@ returns c =
     let rounds = controlled p (option_map control_of c.args.control.now) c.args.cases.now (ended_in inner) told in
     let last = few p.line p.word (and_states (quit_in inner) rounds) in
     let same : and_states c.in_ok-resting_quits.field-0.items c.for_rounds.new.walk ≡ and_states (quit_in inner) rounds = search rules in
-    carried c.few.result c.few.new.self last _
-    (few_found c.few.result p.line p.word c.few.new.self _ _ c.few.ensures (c.in_ok-and_states.ensures ∙ ap counted same))
+    carried c.limit_states.result c.limit_states.new.self last _
+    (few_found c.limit_states.result p.line p.word c.limit_states.new.self _ _ c.limit_states.ensures (c.in_ok-and_states.ensures ∙ ap counted same))
     (ap (λ b. if b then w else if inner.over then over_too told else last) c.if-walk.false
     ∙ ap (λ b. if b then over_too told else last) c.if-over.false)

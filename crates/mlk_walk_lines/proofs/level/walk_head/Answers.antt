@@ -15,4 +15,4 @@ returns c =
     let from : c.new.result ≡ 1 = search rules in
     head_done (scope_of c.args.scope.now) (around_of c.args.around) (option_map head_of (option_copied c.args.next)) c.args.block.now l
     c.close.result c.in-Ok.level (option_copied c.as_ref.result) c.new.result c.in_ok-walk.walk c.commands.new.walk at below from
-    (c.in_ok-walk.ensures ∙ ap begin c.listed.ensures) c.in_ok-commands.ensures c.close.ensures
+    (c.in_ok-walk.ensures ∙ ap begin c.listed_cases.ensures) c.in_ok-commands.ensures c.close.ensures

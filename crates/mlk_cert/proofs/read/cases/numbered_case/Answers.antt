@@ -17,7 +17,7 @@ returns-in_err-numbered-in-Ok-clause-read c =
     let p = err_from_is_err_and c.from_residual.result c.from_residual.ensures.1 in
     let last = option_map (λ x. x.now) c.args.last in
     let text = c.front_of-text.ensures ∙ front-is (case_text c.in-Ok.found) c.in-Some-byte_of.start.now c.in-Ok.rest.now (case-format.sound c.in-Ok.found c.in-Some-byte_of.start.now c.in-Ok.rest.now c.in-Ok.ensures.read).0 in
-    let next : passes c.fit_of-next.result ≡ next_numbered_fits c.args.count last (c.in-Some.number, c.in-Ok.found) = c.fit_of-next.ensures ∙ c.both.ensures ∙ ap (λ b. b && c.is_above.result) c.is_next.ensures ∙ ap (λ b. (c.in-Some.number == suc c.args.count) && b) (c.is_above.ensures ∙ ap (above_last last) text) in
+    let next : passes c.fit_of-next.result ≡ next_numbered_fits c.args.count last (c.in-Some.number, c.in-Ok.found) = c.fit_of-next.ensures ∙ c.are_both.ensures ∙ ap (λ b. b && c.is_above.result) c.is_next.ensures ∙ ap (λ b. (c.in-Some.number == suc c.args.count) && b) (c.is_above.ensures ∙ ap (above_last last) text) in
     let read = case-read c.in-Some.number c.args.bytes.now c.in-Some.rest.now c.in-Some-byte_of.start.now c.in-Ok.rest.now c.in-Ok.found (sym c.in-Some.ensures) (sym c.in-Some-byte_of.ensures) c.in-Ok.ensures.read in
     let is = after-is numbered_case_at fits_numbered (next_numbered_fits c.args.count last) c.args.bytes.now c.in-Ok.rest.now (c.in-Some.number, c.in-Ok.found) _ _ _ read c.fit_both.ensures c.in-Ok.ensures.fit next in
     rw (p.1, p.2) (subst (λ (z : Option (NumberedCase × List ℕ)). FailsOn c.in_err-numbered-in-Ok.field-0.0 z) (sym is) c.in_err-numbered-in-Ok.ensures)
@@ -26,7 +26,7 @@ pub returns-in_ok-numbered-in-Ok-clause-read : goal.returns-in_ok-numbered-in-Ok
 returns-in_ok-numbered-in-Ok-clause-read c =
     let last = option_map (λ x. x.now) c.args.last in
     let text = c.front_of-text.ensures ∙ front-is (case_text c.in-Ok.found) c.in-Some-byte_of.start.now c.in-Ok.rest.now (case-format.sound c.in-Ok.found c.in-Some-byte_of.start.now c.in-Ok.rest.now c.in-Ok.ensures.read).0 in
-    let next : passes c.fit_of-next.result ≡ next_numbered_fits c.args.count last (c.in-Some.number, c.in-Ok.found) = c.fit_of-next.ensures ∙ c.both.ensures ∙ ap (λ b. b && c.is_above.result) c.is_next.ensures ∙ ap (λ b. (c.in-Some.number == suc c.args.count) && b) (c.is_above.ensures ∙ ap (above_last last) text) in
+    let next : passes c.fit_of-next.result ≡ next_numbered_fits c.args.count last (c.in-Some.number, c.in-Ok.found) = c.fit_of-next.ensures ∙ c.are_both.ensures ∙ ap (λ b. b && c.is_above.result) c.is_next.ensures ∙ ap (λ b. (c.in-Some.number == suc c.args.count) && b) (c.is_above.ensures ∙ ap (above_last last) text) in
     let read = case-read c.in-Some.number c.args.bytes.now c.in-Some.rest.now c.in-Some-byte_of.start.now c.in-Ok.rest.now c.in-Ok.found (sym c.in-Some.ensures) (sym c.in-Some-byte_of.ensures) c.in-Ok.ensures.read in
     let is = after-is numbered_case_at fits_numbered (next_numbered_fits c.args.count last) c.args.bytes.now c.in-Ok.rest.now (c.in-Some.number, c.in-Ok.found) _ _ _ read c.fit_both.ensures c.in-Ok.ensures.fit next in
     is ∙ c.in_ok-numbered-in-Ok.ensures

@@ -6,4 +6,4 @@ use Rattle.mlk_cert_lexemes.proofs.Room.{gives-text}
 use Rattle.mlk_cert_parts.proofs.read.OwnItem.read.Goals as goal
 
 pub returns-clause-text : goal.returns-clause-text
-returns-clause-text c = gives-text own_text HasOwn NoName own_at own-format c.args.bytes.now c.own.result c.own.ensures
+returns-clause-text c = gives-text own_text HasOwn NoName own_at own-format c.args.bytes.now c.own_name.result c.own_name.ensures

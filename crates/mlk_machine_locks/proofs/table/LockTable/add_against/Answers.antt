@@ -11,9 +11,9 @@ loop-subscript-preserved c = (
   one_done (λ k. (i : ℕ) → IsListed c.args.self.now k i → Among i c.loop-subscript.found.items)
       (λ k. (i : ℕ) → IsListed c.args.self.now k i → Among i c.add_listed.new.found.items)
       (asked_of c.args.name.now) (asked_from c.loop-subscript.key c.loop-subscript.left.now) c.loop-subscript.invariant.1
-      (asked_from c.deeper-key.result c.in-Some.others.now) c.itself.result
-      (next_asked c.loop-subscript.key c.deeper-key.result c.itself.result c.loop-subscript.left.now c.in-Some.others.now
-      c.in-Some.subscript.now c.in-Some.ensures.cases.0 c.itself.ensures c.deeper-key.ensures)
+      (asked_from c.key_below-key.result c.in-Some.others.now) c.own_key.result
+      (next_asked c.loop-subscript.key c.key_below-key.result c.own_key.result c.loop-subscript.left.now c.in-Some.others.now
+      c.in-Some.subscript.now c.in-Some.ensures.cases.0 c.own_key.ensures c.key_below-key.ensures)
       (λ k f i l. c.in_ok-add_listed.ensures.kept i (f i l)) c.in_ok-add_listed.ensures.listed,
 )
 
@@ -28,8 +28,8 @@ returns-clause-listed c =
     two_done (λ k. (i : ℕ) → IsListed c.args.self.now k i → Among i c.loop-subscript.found.items)
     (λ k. (i : ℕ) → IsListed c.args.self.now k i → Among i c.add_listed-2.new.found.items)
     (λ k. (i : ℕ) → IsListed c.args.self.now k i → Among i c.add_listed-3.new.found.items)
-    (asked_of c.args.name.now) (asked_from c.loop-subscript.key c.loop-subscript.left.now) c.itself-2.result c.loop-subscript.key
+    (asked_of c.args.name.now) (asked_from c.loop-subscript.key c.loop-subscript.left.now) c.own_key-2.result c.loop-subscript.key
     c.loop-subscript.invariant.1
-    (last_asked c.loop-subscript.key c.itself-2.result c.loop-subscript.left.now c.in_default.ensures.cases c.itself-2.ensures)
+    (last_asked c.loop-subscript.key c.own_key-2.result c.loop-subscript.left.now c.in_default.ensures.cases c.own_key-2.ensures)
     (λ k f i l. c.in_ok-add_listed-2.ensures.kept i (f i l)) c.in_ok-add_listed-2.ensures.listed
     (λ k f i l. more i (f i l)) last) c.add_listed-3.ensures.kept c.add_listed-3.ensures.listed

@@ -9,9 +9,9 @@ loop-subscript-preserved g c = (
   one_done (λ k. IsFreeUnder g.J.Seen.seen c.args.jobs.now c.args.number c.args.name.now k)
       (λ k. IsFreeUnder g.J.Seen.seen c.args.jobs.now c.args.number c.args.name.now k)
       (asked_of c.args.name.now) (asked_from c.loop-subscript.key c.loop-subscript.left.now) c.loop-subscript.invariant.1
-      (asked_from c.deeper-key.result c.in-Some.others.now) c.itself.result
-      (next_asked c.loop-subscript.key c.deeper-key.result c.itself.result c.loop-subscript.left.now c.in-Some.others.now
-      c.in-Some.subscript.now c.in-Some.ensures.cases.0 c.itself.ensures c.deeper-key.ensures)
+      (asked_from c.key_below-key.result c.in-Some.others.now) c.own_key.result
+      (next_asked c.loop-subscript.key c.key_below-key.result c.own_key.result c.loop-subscript.left.now c.in-Some.others.now
+      c.in-Some.subscript.now c.in-Some.ensures.cases.0 c.own_key.ensures c.key_below-key.ensures)
       (λ k f. f) (c.some_keeps.ensures.free c.if-some_keeps.false),
 )
 
@@ -22,7 +22,7 @@ returns-clause-free g c =
     two_done (λ k. IsFreeUnder g.J.Seen.seen c.args.jobs.now c.args.number c.args.name.now k)
     (λ k. IsFreeUnder g.J.Seen.seen c.args.jobs.now c.args.number c.args.name.now k)
     (λ k. IsFreeUnder g.J.Seen.seen c.args.jobs.now c.args.number c.args.name.now k)
-    (asked_of c.args.name.now) (asked_from c.loop-subscript.key c.loop-subscript.left.now) c.itself-2.result c.loop-subscript.key
+    (asked_of c.args.name.now) (asked_from c.loop-subscript.key c.loop-subscript.left.now) c.own_key-2.result c.loop-subscript.key
     c.loop-subscript.invariant.1
-    (last_asked c.loop-subscript.key c.itself-2.result c.loop-subscript.left.now c.in_default.ensures.cases c.itself-2.ensures)
+    (last_asked c.loop-subscript.key c.own_key-2.result c.loop-subscript.left.now c.in_default.ensures.cases c.own_key-2.ensures)
     (λ k f. f) (c.some_keeps-2.ensures.free c.if-some_keeps-2.false) (λ k f. f) (c.some_keeps-3.ensures.free same))

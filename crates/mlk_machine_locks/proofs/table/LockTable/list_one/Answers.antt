@@ -8,9 +8,9 @@ loop-subscript-preserved c = (
   λ key place l. c.add.ensures.kept key place (c.loop-subscript.invariant.0 key place l),
   one_done (λ k. IsListed c.loop-subscript.self k c.args.place) (λ k. IsListed c.add.new.self k c.args.place)
       (keys_of c.args.name.now) (keys_from c.loop-subscript.key c.loop-subscript.left.now) c.loop-subscript.invariant.1
-      (keys_from c.deeper-key.result c.in-Some.others.now) c.loop-subscript.key
-      (next_keys c.loop-subscript.key c.deeper-key.result c.loop-subscript.left.now c.in-Some.others.now c.in-Some.subscript.now
-      c.in-Some.ensures.cases.0 c.deeper-key.ensures)
+      (keys_from c.key_below-key.result c.in-Some.others.now) c.loop-subscript.key
+      (next_keys c.loop-subscript.key c.key_below-key.result c.loop-subscript.left.now c.in-Some.others.now c.in-Some.subscript.now
+      c.in-Some.ensures.cases.0 c.key_below-key.ensures)
       (λ k l. c.add.ensures.kept k c.args.place l) c.in_ok-add.ensures.ok,
 )
 
@@ -23,8 +23,8 @@ returns-clause-found c =
     on_ok c.add-3.result (λ l.
     two_done (λ k. IsListed c.loop-subscript.self k c.args.place) (λ k. IsListed c.add-2.new.self k c.args.place)
     (λ k. IsListed c.add-3.new.self k c.args.place)
-    (keys_of c.args.name.now) (keys_from c.loop-subscript.key c.loop-subscript.left.now) c.loop-subscript.key c.itself.result
+    (keys_of c.args.name.now) (keys_from c.loop-subscript.key c.loop-subscript.left.now) c.loop-subscript.key c.own_key.result
     c.loop-subscript.invariant.1
-    (last_keys c.loop-subscript.key c.itself.result c.loop-subscript.left.now c.in_default.ensures.cases c.itself.ensures)
+    (last_keys c.loop-subscript.key c.own_key.result c.loop-subscript.left.now c.in_default.ensures.cases c.own_key.ensures)
     (λ k l. c.add-2.ensures.kept k c.args.place l) c.in_ok-add-2.ensures.ok
     (λ k l. c.add-3.ensures.kept k c.args.place l) l) c.add-3.ensures.ok

@@ -5,8 +5,8 @@ use Rattle.mlk_rules_file.specs.RuleSections.{SaysRules}
 use Rattle.mlk_rules_file.proofs.RuleSound.{lists_sound}
 use Rattle.mlk_rules_file.proofs.read.document.read_rules.Goals as goal
 
-pub sound-requires : goal.sound-requires
-sound-requires c =
+pub from_sound-requires : goal.from_sound-requires
+from_sound-requires c =
     let apart : FamiliesApart c.in_ok-lists.lists.families = subst FamiliesApart c.as_slice.ensures c.in_default.ensures in
     lists_sound (table_view c.in_ok-table.table) c.in_ok-lists.lists c.in_ok-lists.ensures apart
 

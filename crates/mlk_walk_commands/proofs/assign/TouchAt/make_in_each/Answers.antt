@@ -12,7 +12,7 @@ returns-then-are_covered c =
     let r = c.args.self.now in
     let t = r.touch in
     let p = spot_of r.spot.now in
-    carried c.once.result c.once.new.self (with_states (put_states c.args.walk.now.going []) c.args.walk.now)
-    (each (λ s. touch p t.extent t.access t.column t.name.now (symbols_at r.from r.count s) s) c.args.walk.now) c.once.ensures
+    carried c.remove_duplicates.result c.remove_duplicates.new.self (with_states (put_states c.args.walk.now.going []) c.args.walk.now)
+    (each (λ s. touch p t.extent t.access t.column t.name.now (symbols_at r.from r.count s) s) c.args.walk.now) c.remove_duplicates.ensures
     (sym (all_touch p t.extent t.access t.column t.name.now (symbols_at r.from r.count) c.args.walk.now
     (rw c.as_slice.ensures at (sym c.are_covered.ensures ∙ c.if-are_covered.true))))

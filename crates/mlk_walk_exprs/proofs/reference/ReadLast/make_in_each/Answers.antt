@@ -11,6 +11,6 @@ pub returns-then-are_covered : goal.returns-then-are_covered
 returns-then-are_covered c =
     let r = c.args.self.now in
     let p = spot_of r.spot.now in
-    carried c.forget.result c.forget.new.walk (each_changed (without_last r.count) c.args.walk.now)
-    (each (read_last p r.how r.column r.name.now r.count) c.args.walk.now) c.forget.ensures
+    carried c.forget_captured.result c.forget_captured.new.walk (each_changed (without_last r.count) c.args.walk.now)
+    (each (read_last p r.how r.column r.name.now r.count) c.args.walk.now) c.forget_captured.ensures
     (all_read p r.how r.column r.name.now r.count c.args.walk.now (rw c.as_slice.ensures at (sym c.are_covered.ensures ∙ c.if-are_covered.true)))

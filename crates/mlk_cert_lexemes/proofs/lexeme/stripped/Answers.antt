@@ -1,6 +1,0 @@
-use Rattle.std.proofs.Common.{rules}
-use Rattle.mlk_cert_lexemes.proofs.Words.{strip_taken, strip_other}
-use Rattle.mlk_cert_lexemes.proofs.lexeme.stripped.Goals as goal
-
-pub returns : goal.returns
-returns c = search (rules, strip_taken, strip_other)

@@ -1,5 +1,0 @@
-use Rattle.std.proofs.lemmas.Slice.Eq.{slice_eq-Decides}
-use Rattle.mlk_cert_parts.proofs.inclusion.same.Goals as goal
-
-pub returns : goal.returns
-returns g c = slice_eq-Decides c.requires _ _ _ c.are_equal.ensures
