@@ -171,9 +171,22 @@ def ask_suggested(room, name):
     ask(again.status == 0 and not again.error, f'what is suggested is no rule file: {tuple(again)}')
 
 
+def ask_stubs(room, name):
+    """Stubs are written for any routine, whatever can't be read, and each is read as a routine."""
+    written = room.run('suggest', '--stubs', name)
+    ask(written.status == 0 and not written.error, f'no stubs are written: {tuple(written)}')
+    stubs = re.split(r'^(?=\S+ ; mlock stub: )', written.out, flags=re.MULTILINE)[1:]
+    (room.folder / 'stubs').mkdir(exist_ok=True)
+    names = [room.write(f'stubs/{re.match("[%A-Za-z0-9]+", it)[0]}.m', it.encode()) for it in stubs]
+    if names:
+        survey = room.run('survey', *names)
+        ask(survey.out.startswith(f'routines read {len(names)}\nroutines refused 0\n'), f'a stub is refused: {tuple(survey)}')
+
+
 def try_changed_routine(room, example, text):
     name = room.write(f'{example.routines[0]}.m', text)
     ask_suggested(room, name)
+    ask_stubs(room, name)
     given = room.check(example.rules, example.certificate, [name])
     ask_form(given)
     fault = second_routine_reader.routine(example.routines[0], text.decode('latin-1'))

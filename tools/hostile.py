@@ -18,7 +18,8 @@ changed: each byte of small examples in turn, made each of some other bytes, lef
     four, that of `verify` is that of `check` by what `make` prints, and where the old certificate still gives `yes` so does
     `verify`; then two jobs are replayed by some schedules, each as far as it can happen, and nothing is seen that a `yes`
     rules out: no clash, no ring, no lock of a job that ended. How often they see that where the answer is no `yes`, is printed.
-    `suggest` suggests rules for it, whatever can't be read, and what it prints is read as rules.
+    `suggest` suggests rules for it, whatever can't be read, and what it prints is read as rules; the stubs that `suggest --stubs`
+    writes for it are read as routines.
   A rule file: 401 is reported just where Python's reader refuses it as TOML (where Python has one), the answer is the old one
     where both files say the same, and a `yes` is replayed as above.
   A file of events: 504 is reported of just the first line that is none by second_looks.py; and which clash, who waits and whether
@@ -118,7 +119,7 @@ def unread(folder):
         bad.append(str(folder / 'closed'))
     lines = [('verify', WARD.rules, *WARD.paths), ('make', HOSPITAL.rules, *HOSPITAL.paths),
              ('check', HOSPITAL.rules, HOSPITAL.certificate, *HOSPITAL.paths), ('convert', HOSPITAL.certificate),
-             ('replay', 'examples/night/rules.toml', 'examples/night/ring', 'examples/night/WARD.m'), ('suggest', *HOSPITAL.paths)]
+             ('replay', 'examples/night/rules.toml', 'examples/night/ring', 'examples/night/WARD.m'), ('suggest', *HOSPITAL.paths), ('stubs', *HOSPITAL.paths)]
     for words in lines:
         for at in range(1, len(words)):
             for path in bad:

@@ -31,6 +31,7 @@ COMMANDS = [
     (['convert', 'examples/transfer/bank.cert'], False),
     (['survey', 'examples/night/WARD.m', *TRANSFER], False),
     (['suggest', '--beside', *TRANSFER, 'examples/night/WARD.m', 'examples/first/LOW.m'], False),
+    (['stubs', '--for', 'DEV', 'examples/recipes/stubs/REP.m', 'examples/recipes/stubs/DEV.m'], False),
     (['check', 'examples/ward/rules.toml', 'examples/ward/ward.cert', 'examples/ward/ADMIT.m'], True),
     (['check', 'examples/transfer/rules.toml', 'examples/transfer/bank.cert', 'examples/transfer/BANK.m'], True),
     (['replay', 'examples/night/rules.toml', 'examples/night/ring', 'examples/night/WARD.m'], False),

@@ -3,3 +3,4 @@ pub mod Sources
 pub mod Saying
 pub mod Suggesting
 mod NeverShut
+pub mod Stubbing

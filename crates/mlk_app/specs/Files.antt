@@ -93,6 +93,7 @@ paths_of (request.Program program) = program_paths program
 paths_of (request.Convert certificate format) = certificate.now ∷ []
 paths_of (request.Survey survey) = bytes_of survey.routines.items
 paths_of (request.Suggest suggestion) = beside_path suggestion.beside ++ bytes_of suggestion.routines.items
+paths_of (request.Stubs stubs) = bytes_of stubs.routines.items
 paths_of (request.Explain code) = []
 
 -- each of these paths has a text

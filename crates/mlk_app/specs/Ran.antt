@@ -12,6 +12,7 @@ use Rattle.mlk_cli.specs.declared.words.Asked.TheVariants as asked
 use Rattle.mlk_cli.specs.declared.words.ProgramRequest.{ProgramRequest}
 use Rattle.mlk_cli.specs.declared.words.SurveyRequest.{SurveyRequest}
 use Rattle.mlk_cli.specs.declared.words.SuggestRequest.{SuggestRequest}
+use Rattle.mlk_cli.specs.declared.words.StubsRequest.{StubsRequest}
 use Rattle.mlk_cli.specs.declared.words.Request.{Request}
 use Rattle.mlk_cli.specs.declared.words.Request.TheVariants as request
 use Rattle.mlk_text.specs.declared.failure.Failure.TheVariants as failure
@@ -30,6 +31,8 @@ use Rattle.mlk_pool.specs.declared.source.Source.{Source}
 use Rattle.std.specs.Borrow.{Bor}
 use Rattle.mlk_rules_file.specs.declared.read.fault.RulesFault.{RulesFault}
 use Rattle.mlk_suggest_text.specs.RuleTexts.{IsRuleText}
+use Rattle.mlk_stubs.specs.StubTexts.{AreStubs}
+use Rattle.mlk_text.specs.declared.fault.Fault.{Fault}
 use Rattle.mlk_forms.specs.Rendering.{IsRendered, IsNoticed}
 use Rattle.mlk_app.specs.Printed.{fault_line, rules_line, certificate_line, missing_line, workers_line, stuck_line, events_line, file_line, no_page_line}
 use Rattle.mlk_app.specs.Files.{Texts, AreTexts, AreSources, IsFirstLost, beside_path, cert_format, paths_of}
@@ -60,6 +63,7 @@ output_in (request.Program program) = (style_in program.asked).output
 output_in (request.Convert certificate format) = Plain
 output_in (request.Survey survey) = Plain
 output_in (request.Suggest suggestion) = Plain
+output_in (request.Stubs stubs) = Plain
 output_in (request.Explain code) = Plain
 
 -- 0 for a report that passes, 1 for another
@@ -84,6 +88,10 @@ IsErrorLine (error.Certificate fault) line = line ≡ certificate_line fault
 IsErrorLine (error.Entry entry) line = line ≡ missing_line entry
 IsErrorLine error.Workers line = line ≡ workers_line
 IsErrorLine (error.GateShut task) line = ⊥
+
+-- the line of some fault of a routine
+abbrev pub IsFaultLine : List ℕ → Type 0
+IsFaultLine line = (fault : Fault) × (line ≡ fault_line fault)
 
 -- the line of a refusal
 abbrev pub IsRefusalLine : NoReport → List ℕ → Type 0
@@ -154,6 +162,22 @@ PrintsRules (answer.Refused line notice help) = ⊥
 PrintsRules (answer.Unread line help) = ⊥
 PrintsRules (answer.Usage text) = ⊥
 PrintsRules answer.OutOfMemory = Unit {0}
+
+-- the line of the fault of a stub, or of a name that one is wanted for, where memory doesn't run out
+abbrev pub TellsStubFault : Fault → Answer → Type 0
+TellsStubFault fault (answer.Report text status) = ⊥
+TellsStubFault fault (answer.Refused line notice help) = (line ≡ fault_line fault) × (notice ≡ None)
+TellsStubFault fault (answer.Unread line help) = ⊥
+TellsStubFault fault (answer.Usage text) = ⊥
+TellsStubFault fault answer.OutOfMemory = Unit {0}
+
+-- the texts of stubs, or the line of a fault, where memory doesn't run out
+abbrev pub PrintsStubs : Answer → Type 0
+PrintsStubs (answer.Report text status) = AreStubs text × (status ≡ 0)
+PrintsStubs (answer.Refused line notice help) = IsFaultLine line × (notice ≡ None)
+PrintsStubs (answer.Unread line help) = ⊥
+PrintsStubs (answer.Usage text) = ⊥
+PrintsStubs answer.OutOfMemory = Unit {0}
 
 -- the line of a path that can't be read, where memory doesn't run out
 abbrev pub TellsUnread : List ℕ → Answer → Type 0
@@ -226,6 +250,12 @@ pub record IsUnsuggested (holds : Texts) (suggestion : SuggestRequest) (line : L
   pub refused : RefusesRules given (failure.Refused fault)
   pub told : line ≡ rules_line fault
 
+-- Stubs are printed for the texts at the paths, whatever they are: routines, one after another; which ones, nothing says.
+pub record IsStubbed (holds : Texts) (stubs : StubsRequest) (text : List ℕ) : Type 0 where
+  pub sources : List Source
+  pub texts : AreSources holds stubs.routines.items sources
+  pub printed : AreStubs text
+
 -- the first of these paths that can't be read
 pub record IsFirstUnread (holds : Texts) (lacks : List ℕ → Type 0) (paths : List (List ℕ)) (line : List ℕ) : Type 0 where
   pub path : List ℕ
@@ -246,6 +276,7 @@ IsReported holds (request.Program program) text status = IsProgramReported holds
 IsReported holds (request.Convert certificate format) text status = IsConvertedThere holds certificate.now (cert_format format) text × (status ≡ 0)
 IsReported holds (request.Survey survey) text status = IsSurveyed holds survey × (status ≡ 0)
 IsReported holds (request.Suggest suggestion) text status = IsSuggested holds suggestion.routines.items text × (status ≡ 0)
+IsReported holds (request.Stubs stubs) text status = IsStubbed holds stubs text × (status ≡ 0)
 IsReported holds (request.Explain code) text status = status ≡ 0
 
 abbrev pub IsRefusedThere : Texts → Request → List ℕ → Type 0
@@ -253,6 +284,7 @@ IsRefusedThere holds (request.Program program) line = IsProgramRefused holds pro
 IsRefusedThere holds (request.Convert certificate format) line = IsUnconvertedThere holds certificate.now (cert_format format) line
 IsRefusedThere holds (request.Survey survey) line = ⊥
 IsRefusedThere holds (request.Suggest suggestion) line = IsUnsuggested holds suggestion line
+IsRefusedThere holds (request.Stubs stubs) line = IsFaultLine line
 IsRefusedThere holds (request.Explain code) line = line ≡ no_page_line code.now
 
 -- The line on the error stream, and what is printed beside it. What explains the line, below it on the error stream, is not said.

@@ -18,7 +18,7 @@ pub(crate) const FAILED: u8 = 3;
 /// What the program says, before it is said.
 #[derive(Drop)]
 pub(crate) enum Answer {
-    /// The text of a report, of a certificate, of jobs, of a survey, of suggested rules or of a page, and the status that it ends with.
+    /// The text of a report, of a certificate, of jobs, of a survey, of suggested rules, of stubs or of a page, and the status that it ends with.
     Report(ReportText, u8),
     /// The line that says why the input is refused, what is printed beside it, if a form is asked for, and what explains it
     /// below the line, if that is asked for.

@@ -12,7 +12,7 @@ use mlk_refusal_text::{
     GivenFile, Spot, code_help, entry_help, line_help, routine_help, rules_help, unread_help,
 };
 use mlk_rules_file::RulesFault;
-use mlk_text::Code;
+use mlk_text::{Code, Fault};
 use mlk_watch::Watch;
 use std::alloc::{AllocError, Global};
 use std::sync::Wait;
@@ -108,6 +108,18 @@ pub(crate) fn rule_file_help<'a>(
         return Ok(Vec::new(alloc));
     }
     rules_help(alloc, &GivenFile { path, text }, fault)
+}
+
+/// Writes what explains why no stubs are written; nothing unless `explaining` asks for it.
+pub(crate) fn stub_help(
+    alloc: Global,
+    fault: &Fault,
+    explaining: Explaining,
+) -> Result<Vec<u8>, AllocError> {
+    if explaining == Explaining::AsAsked {
+        return Ok(Vec::new(alloc));
+    }
+    code_help(alloc, fault.code)
 }
 
 /// Writes why the file at `path` can't be read, below the line that says so; for this it is read once more. Nothing is written

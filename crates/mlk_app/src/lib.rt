@@ -11,6 +11,7 @@ mod printed;
 mod program;
 mod refused;
 mod source;
+mod stubs;
 mod stuck;
 mod suggestion;
 mod work;

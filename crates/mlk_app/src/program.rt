@@ -16,6 +16,7 @@ use crate::printed::{
 };
 use crate::refused::{refused_file, rule_file, spot_in};
 use crate::source::{FileError, Files, Sources, cert_format, read_file, read_files, read_sources};
+use crate::stubs::answer_stubs;
 use crate::suggestion::answer_suggestion;
 use crate::work::{print_sources, style_in};
 use mlk_cert::CertFault;
@@ -269,6 +270,7 @@ fn answer_request<R: Threads + Wait + Sync, F: Files, W: Watch>(
         } => answer_conversion(alloc, *certificate, *format, files, explaining, watch),
         Request::Survey(survey) => answer_survey(rt, alloc, survey, files, explaining, watch),
         Request::Suggest(suggestion) => answer_suggestion(alloc, suggestion, files, explaining),
+        Request::Stubs(stubs) => answer_stubs(alloc, stubs, files, explaining),
         Request::Explain(code) => answer_page(alloc, *code),
     }
 }
@@ -303,7 +305,7 @@ pub fn wrong_words<E: Write>(error: &io::Error, err: &mut E) -> u8
 }
 
 /// Does what the words ask for, after the first, which is the program's name, and answers the status: 0 for `yes`,
-/// a certificate, jobs, a survey or suggested rules, 1 for `no` and, with `--strict`, for a hazard, 2 for refused input,
+/// a certificate, jobs, a survey, suggested rules or stubs, 1 for `no` and, with `--strict`, for a hazard, 2 for refused input,
 /// 3 if memory runs out or for a file that can't be read or written.
 ///
 /// The texts of routines are read side by side, by these threads, and the lines of entries are walked so by the workers that

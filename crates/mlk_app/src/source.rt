@@ -8,6 +8,8 @@ ghost use Rattle.mlk_cli.specs.CommandLine.{bytes_of};
 use mlk_cert::CertFormat;
 use mlk_cli::{Asked, Format, ProgramRequest};
 use mlk_pool::Source;
+use mlk_suggest_read::RoutineText;
+use mlk_text::push_sparing;
 use std::alloc::{AllocError, Global};
 use std::io::{self, ErrorKind};
 
@@ -185,6 +187,22 @@ pub(crate) fn read_files<'a, F: Files>(
         rules,
         routines,
     })
+}
+
+/// The texts of the routines, as suggestions and stubs read them.
+pub(crate) fn routine_texts<'s>(
+    alloc: Global,
+    sources: &'s [Source<'s>],
+) -> Result<Vec<RoutineText<'s>>, AllocError> {
+    let mut texts = Vec::with_capacity(alloc, sources.len())?;
+    for source in sources {
+        let text = RoutineText {
+            stem: source.stem,
+            text: source.text.as_slice(),
+        };
+        push_sparing(&mut texts, text)?;
+    }
+    Ok(texts)
 }
 
 /// Copies the texts of the routines, in their order, for what shows lines of them.

@@ -10,12 +10,12 @@ use crate::answer::{Answer, YES};
 use crate::help::{Explaining, rule_file_help};
 use crate::printed::rules_line;
 use crate::program::unread_answer;
-use crate::source::{FileError, Files, read_file, read_sources};
+use crate::source::{FileError, Files, read_file, read_sources, routine_texts};
 use mlk_cli::SuggestRequest;
 use mlk_pool::{ReportText, Source};
 use mlk_rules_file::{RulesFault, read_rules};
-use mlk_suggest_text::{KnownRules, RoutineText, RuleText, suggested_rules};
-use mlk_text::{Failure, push_sparing};
+use mlk_suggest_text::{KnownRules, RuleText, suggested_rules};
+use mlk_text::Failure;
 use std::alloc::{AllocError, Global};
 
 // The rule file that is suggested for `sources`, without what `known` has rules for.
@@ -26,14 +26,7 @@ fn rules_for<'s>(
 ) -> Result<RuleText, AllocError>
     ensures { IfOk result (λ text. IsRuleText text) }
 {
-    let mut texts = Vec::with_capacity(alloc, sources.len())?;
-    for source in sources {
-        let text = RoutineText {
-            stem: source.stem,
-            text: source.text.as_slice(),
-        };
-        push_sparing(&mut texts, text)?;
-    }
+    let texts = routine_texts(alloc, sources)?;
     suggested_rules(alloc, texts.as_slice(), known)
 }
 

@@ -1,11 +1,9 @@
 -- What the words of a command line ask for.
 use Rattle.std.specs.Borrow.{Bor}
-use Rattle.std.proofs.Common.{◌≡◌, ◌∙◌, sym, ap, subst, ℕ, ◌<◌, ◌^◌, List, [], ◌∷◌, Bool, true, false, not, Option, Some, None, Result, Ok, Err, refl, codes, option_map, slice_index, arith}
+use Rattle.std.proofs.Common.{◌≡◌, ◌∙◌, sym, ap, subst, ℕ, ◌<◌, ◌^◌, List, [], ◌∷◌, Bool, true, false, Option, Some, None, Result, Ok, Err, refl, codes, option_map, slice_index, arith}
 use Rattle.std.specs.Str.Parse.{ParsesUnsigned, IsNumeral, digits_value, without_leading_plus}
 use Rattle.clap.specs.Matches.{ReadsOne}
-use Rattle.clap.specs.Words.{Text, Row, all_of, first_of, is_simple, one_of, subcommand_of}
-use Rattle.clap.specs.Takes.{takes}
-use Rattle.clap.proofs.OnLiterals.{clap_on_literals}
+use Rattle.clap.specs.Words.{Text, Row, all_of, first_of, one_of}
 use Rattle.mlk_cli.specs.declared.words.Asked.{Asked}
 use Rattle.mlk_cli.specs.declared.words.Asked.TheVariants as asked
 use Rattle.mlk_cli.specs.declared.words.Format.{Format}
@@ -17,218 +15,13 @@ use Rattle.mlk_cli.specs.declared.words.SurveyOutput.TheVariants as surveyed
 use Rattle.mlk_cli.specs.declared.words.ReportStyle.{ReportStyle}
 use Rattle.mlk_cli.specs.declared.words.SurveyRequest.{SurveyRequest}
 use Rattle.mlk_cli.specs.declared.words.SuggestRequest.{SuggestRequest}
+use Rattle.mlk_cli.specs.declared.words.WantedStubs.{WantedStubs}
+use Rattle.mlk_cli.specs.declared.words.WantedStubs.TheVariants as wanted
+use Rattle.mlk_cli.specs.declared.words.StubsRequest.{StubsRequest}
 use Rattle.mlk_cli.specs.declared.words.Request.{Request}
 use Rattle.mlk_cli.specs.declared.words.Request.TheVariants as request
 use Rattle.mlk_cli.specs.declared.words.ProgramRequest.{ProgramRequest}
-use Rattle.mlk_cli.specs.CommandLine.{mlock_app, IsAsked, IsNumber, IsNumberOf, IsFormat, IsWalk, IsOutput, NamesOutput, GivesOutput, IsFlag, IsSurveyOutput, IsSurvey, IsSuggestion, IsConversion, IsProgramGiven, IsGiven, GivesNumber}
-
-pub not-true : (b : Bool) → not b ≡ true → b ≡ false
-not-true true h = cc h
-not-true false h = refl
-
--- the grammar is one whose matches `clap` states exactly
-pub is-exact : is_simple mlock_app ≡ true
-unfolding clap_on_literals
-is-exact = refl
-
--- examples: words, and what they give
-abbrev words : List Text
-words = codes "mlock" ∷ codes "check" ∷ codes "r" ∷ codes "c" ∷ codes "A.m" ∷ codes "B.m" ∷ []
-
-abbrev workers_words : List Text
-workers_words = codes "mlock" ∷ codes "verify" ∷ codes "r" ∷ codes "A.m" ∷ codes "--workers" ∷ codes "64" ∷ codes "B.m" ∷ []
-
-abbrev replay_words : List Text
-replay_words = codes "mlock" ∷ codes "replay" ∷ codes "r" ∷ codes "e" ∷ codes "A.m" ∷ []
-
-abbrev convert_words : List Text
-convert_words = codes "mlock" ∷ codes "convert" ∷ codes "c" ∷ []
-
-abbrev first_words : List Text
-first_words = codes "mlock" ∷ codes "convert" ∷ codes "--format=1" ∷ codes "c" ∷ []
-
-abbrev make_words : List Text
-make_words = codes "mlock" ∷ codes "make" ∷ codes "r" ∷ codes "A.m" ∷ []
-
-abbrev explain_words : List Text
-explain_words = codes "mlock" ∷ codes "verify" ∷ codes "--explain" ∷ codes "r" ∷ codes "A.m" ∷ []
-
-abbrev strict_words : List Text
-strict_words = codes "mlock" ∷ codes "verify" ∷ codes "--strict" ∷ codes "r" ∷ codes "A.m" ∷ codes "--output" ∷ codes "json" ∷ []
-
-abbrev survey_words : List Text
-survey_words = codes "mlock" ∷ codes "survey" ∷ codes "A.m" ∷ codes "B.m" ∷ []
-
-abbrev page_words : List Text
-page_words = codes "mlock" ∷ codes "explain" ∷ codes "702" ∷ []
-
-reads_code : option_map (λ p. first_of (codes "CODE") p.1) (subcommand_of mlock_app page_words) ≡ Some (Some (codes "702"))
-unfolding clap_on_literals
-reads_code = refl
-
-abbrev suggest_words : List Text
-suggest_words = codes "mlock" ∷ codes "suggest" ∷ codes "--beside" ∷ codes "r" ∷ codes "A.m" ∷ codes "B.m" ∷ []
-
-reads_rules : option_map (λ p. first_of (codes "RULES") p.1) (subcommand_of mlock_app words) ≡ Some (Some (codes "r"))
-unfolding clap_on_literals
-reads_rules = refl
-
-reads_certificate : option_map (λ p. first_of (codes "CERT") p.1) (subcommand_of mlock_app words) ≡ Some (Some (codes "c"))
-unfolding clap_on_literals
-reads_certificate = refl
-
-reads_routines : option_map (λ p. all_of (codes "ROUTINE") p.1) (subcommand_of mlock_app words) ≡ Some (Some (codes "A.m" ∷ codes "B.m" ∷ []))
-unfolding clap_on_literals
-reads_routines = refl
-
-reads_events : option_map (λ p. first_of (codes "EVENTS") p.1) (subcommand_of mlock_app replay_words) ≡ Some (Some (codes "e"))
-unfolding clap_on_literals
-reads_events = refl
-
-reads_workers : option_map (λ p. one_of (codes "workers") p.1) (subcommand_of mlock_app workers_words) ≡ Some (Some (codes "64"))
-unfolding clap_on_literals
-reads_workers = refl
-
-reads_routines_around : option_map (λ p. all_of (codes "ROUTINE") p.1) (subcommand_of mlock_app workers_words) ≡ Some (Some (codes "A.m" ∷ codes "B.m" ∷ []))
-unfolding clap_on_literals
-reads_routines_around = refl
-
-reads_four_workers : option_map (λ p. one_of (codes "workers") p.1) (subcommand_of mlock_app words) ≡ Some (Some (codes "4"))
-unfolding clap_on_literals
-reads_four_workers = refl
-
-reads_converted : option_map (λ p. first_of (codes "CERT") p.1) (subcommand_of mlock_app first_words) ≡ Some (Some (codes "c"))
-unfolding clap_on_literals
-reads_converted = refl
-
-reads_format : option_map (λ p. one_of (codes "format") p.1) (subcommand_of mlock_app first_words) ≡ Some (Some (codes "1"))
-unfolding clap_on_literals
-reads_format = refl
-
-converts_to_second : option_map (λ p. one_of (codes "format") p.1) (subcommand_of mlock_app convert_words) ≡ Some (Some (codes "2"))
-unfolding clap_on_literals
-converts_to_second = refl
-
-makes_first : option_map (λ p. one_of (codes "format") p.1) (subcommand_of mlock_app make_words) ≡ Some (Some (codes "1"))
-unfolding clap_on_literals
-makes_first = refl
-
-tells_strictly : option_map (λ p. first_of (codes "strict") p.1) (subcommand_of mlock_app strict_words) ≡ Some (Some (codes "true"))
-unfolding clap_on_literals
-tells_strictly = refl
-
-tells_json : option_map (λ p. first_of (codes "output") p.1) (subcommand_of mlock_app strict_words) ≡ Some (Some (codes "json"))
-unfolding clap_on_literals
-tells_json = refl
-
-tells_no_hazards : option_map (λ p. first_of (codes "strict") p.1) (subcommand_of mlock_app words) ≡ Some (Some (codes "false"))
-unfolding clap_on_literals
-tells_no_hazards = refl
-
-explains : option_map (λ p. first_of (codes "explain") p.1) (subcommand_of mlock_app explain_words) ≡ Some (Some (codes "true"))
-unfolding clap_on_literals
-explains = refl
-
-explains_nothing : option_map (λ p. first_of (codes "explain") p.1) (subcommand_of mlock_app words) ≡ Some (Some (codes "false"))
-unfolding clap_on_literals
-explains_nothing = refl
-
-tells_as_text : option_map (λ p. first_of (codes "output") p.1) (subcommand_of mlock_app words) ≡ Some (Some (codes "text"))
-unfolding clap_on_literals
-tells_as_text = refl
-
-surveys_as_text : option_map (λ p. first_of (codes "output") p.1) (subcommand_of mlock_app survey_words) ≡ Some (Some (codes "text"))
-unfolding clap_on_literals
-surveys_as_text = refl
-
-suggests_beside : option_map (λ p. first_of (codes "beside") p.1) (subcommand_of mlock_app suggest_words) ≡ Some (Some (codes "r"))
-unfolding clap_on_literals
-suggests_beside = refl
-
-suggests_for_routines : option_map (λ p. all_of (codes "ROUTINE") p.1) (subcommand_of mlock_app suggest_words) ≡ Some (Some (codes "A.m" ∷ codes "B.m" ∷ []))
-unfolding clap_on_literals
-suggests_for_routines = refl
-
-suggests_beside_nothing : option_map (λ p. first_of (codes "beside") p.1) (subcommand_of mlock_app (codes "mlock" ∷ codes "suggest" ∷ codes "A.m" ∷ [])) ≡ Some None
-unfolding clap_on_literals
-suggests_beside_nothing = refl
-
--- words that are taken, and words that are not
-takes_words : takes mlock_app words ≡ true
-unfolding clap_on_literals
-takes_words = refl
-
-takes_no_command : takes mlock_app (codes "mlock" ∷ []) ≡ false
-unfolding clap_on_literals
-takes_no_command = refl
-
-takes_no_routine : takes mlock_app (codes "mlock" ∷ codes "check" ∷ codes "r" ∷ codes "c" ∷ []) ≡ false
-unfolding clap_on_literals
-takes_no_routine = refl
-
-takes_no_events : takes mlock_app (codes "mlock" ∷ codes "replay" ∷ codes "r" ∷ []) ≡ false
-unfolding clap_on_literals
-takes_no_events = refl
-
-takes_workers : takes mlock_app workers_words ≡ true
-unfolding clap_on_literals
-takes_workers = refl
-
-takes_no_workers : takes mlock_app (codes "mlock" ∷ codes "verify" ∷ codes "r" ∷ codes "A.m" ∷ codes "--workers=0" ∷ []) ≡ true
-unfolding clap_on_literals
-takes_no_workers = refl
-
-takes_no_more_bits : takes mlock_app (codes "mlock" ∷ codes "verify" ∷ codes "r" ∷ codes "A.m" ∷ codes "--workers" ∷ codes "4294967296" ∷ []) ≡ false
-unfolding clap_on_literals
-takes_no_more_bits = refl
-
-takes_no_empty_number : takes mlock_app (codes "mlock" ∷ codes "verify" ∷ codes "r" ∷ codes "A.m" ∷ codes "--workers" ∷ [] ∷ []) ≡ false
-unfolding clap_on_literals
-takes_no_empty_number = refl
-
-takes_workers_once : takes mlock_app (codes "mlock" ∷ codes "verify" ∷ codes "r" ∷ codes "A.m" ∷ codes "--workers=1" ∷ codes "--workers=1" ∷ []) ≡ false
-unfolding clap_on_literals
-takes_workers_once = refl
-
-makes_without_workers : takes mlock_app (codes "mlock" ∷ codes "make" ∷ codes "r" ∷ codes "A.m" ∷ codes "--workers=1" ∷ []) ≡ false
-unfolding clap_on_literals
-makes_without_workers = refl
-
-replays_without_workers : takes mlock_app (codes "mlock" ∷ codes "replay" ∷ codes "r" ∷ codes "e" ∷ codes "A.m" ∷ codes "--workers=1" ∷ []) ≡ false
-unfolding clap_on_literals
-replays_without_workers = refl
-
-makes_without_output : takes mlock_app (codes "mlock" ∷ codes "make" ∷ codes "r" ∷ codes "A.m" ∷ codes "--output=json" ∷ []) ≡ false
-unfolding clap_on_literals
-makes_without_output = refl
-
-surveys_without_strictness : takes mlock_app (codes "mlock" ∷ codes "survey" ∷ codes "A.m" ∷ codes "--strict" ∷ []) ≡ false
-unfolding clap_on_literals
-surveys_without_strictness = refl
-
-takes_code : takes mlock_app page_words ≡ true
-unfolding clap_on_literals
-takes_code = refl
-
-takes_one_code : takes mlock_app (codes "mlock" ∷ codes "explain" ∷ codes "701" ∷ codes "702" ∷ []) ≡ false
-unfolding clap_on_literals
-takes_one_code = refl
-
-takes_format : takes mlock_app first_words ≡ true
-unfolding clap_on_literals
-takes_format = refl
-
-takes_no_third : takes mlock_app (codes "mlock" ∷ codes "convert" ∷ codes "--format" ∷ codes "3" ∷ codes "c" ∷ []) ≡ false
-unfolding clap_on_literals
-takes_no_third = refl
-
-takes_one_certificate : takes mlock_app (codes "mlock" ∷ codes "convert" ∷ codes "c" ∷ codes "d" ∷ []) ≡ false
-unfolding clap_on_literals
-takes_one_certificate = refl
-
-verifies_without_format : takes mlock_app (codes "mlock" ∷ codes "verify" ∷ codes "r" ∷ codes "A.m" ∷ codes "--format=2" ∷ []) ≡ false
-unfolding clap_on_literals
-verifies_without_format = refl
+use Rattle.mlk_cli.specs.CommandLine.{IsAsked, IsNumber, IsNumberOf, IsFormat, IsWalk, IsOutput, NamesOutput, GivesOutput, IsFlag, GivesFlag, IsSurveyOutput, IsSurvey, IsSuggestion, IsWanted, IsStubs, IsConversion, IsProgramGiven, IsGiven, GivesNumber}
 
 -- a number of workers, after a plus and zeros
 plus_and_zeros : IsNumber (codes "+004") 4
@@ -309,6 +102,20 @@ pub not-flag : (option : Text) (rows : List Row) (text : Text) → first_of opti
 not-flag option rows text is no-true no-false true h = no-true (some_same (sym is ∙ h))
 not-flag option rows text is no-true no-false false h = no-false (some_same (sym is ∙ h))
 
+-- An option is given or not.
+true-not-false : (option : Text) (rows : List Row) → IsFlag option rows true → IsFlag option rows false → ⊥
+true-not-false option rows given not-given = let bad = sym given ∙ not-given in cc bad
+
+pub only-true : (option : Text) (rows : List Row) (flag : Option Bool) → (flag ≡ Some true → ⊥) → GivesFlag option rows flag → IsFlag option rows true → ⊥
+only-true option rows None other none given = none true given
+only-true option rows (Some true) other is given = other refl
+only-true option rows (Some false) other is given = true-not-false option rows given is
+
+pub only-false : (option : Text) (rows : List Row) (flag : Option Bool) → (flag ≡ Some false → ⊥) → GivesFlag option rows flag → IsFlag option rows false → ⊥
+only-false option rows None other none not-given = none false not-given
+only-false option rows (Some true) other is not-given = true-not-false option rows is not-given
+only-false option rows (Some false) other is not-given = other refl
+
 pub no-survey-output : (rows : List Row) → ((output : Output) → IsOutput rows output → ⊥) → (output : SurveyOutput) → IsSurveyOutput rows output → ⊥
 no-survey-output rows none surveyed.Text h = none output.Text h
 no-survey-output rows none surveyed.Json h = none output.Json h
@@ -353,6 +160,11 @@ no-program name rows is (asked.Make format) h = let bad = sym is ∙ h.0 in cc b
 no-program name rows is (asked.Verify workers style) h = let bad = sym is ∙ h.0 in cc bad
 no-program name rows is (asked.Replay path) h = let bad = sym is ∙ h.0 in cc bad
 
+no-stubs-of-convert : (name : Text) (rows : List Row) → name ≡ codes "convert" → (w : WantedStubs) → IsWanted name rows w → ⊥
+no-stubs-of-convert name rows is wanted.Missing h = let bad = sym is ∙ h.0 in cc bad
+no-stubs-of-convert name rows is wanted.MissingAndUnread h = suggest-not-convert (sym h.0 ∙ is)
+no-stubs-of-convert name rows is (wanted.Named names) h = let bad = sym is ∙ h.0 in cc bad
+
 -- and without a path or a format for nothing; another command for no conversion. So it is with `survey`.
 pub converts-nothing : (name : Text) (rows : List Row) → name ≡ codes "convert" → ((certificate : Bor (List ℕ)) (format : Format) → IsConversion rows certificate format → ⊥)
     → (r : Request) → IsGiven name rows r → ⊥
@@ -360,6 +172,7 @@ converts-nothing name rows is none (request.Program program) h = no-program name
 converts-nothing name rows is none (request.Convert certificate format) h = none certificate format h.1
 converts-nothing name rows is none (request.Survey survey) h = let bad = sym is ∙ h.0 in cc bad
 converts-nothing name rows is none (request.Suggest suggestion) h = suggest-not-convert (sym h.0 ∙ is)
+converts-nothing name rows is none (request.Stubs stubs) h = no-stubs-of-convert name rows is stubs.wanted h.wanted
 converts-nothing name rows is none (request.Explain code) h = explain-not-convert (sym h.0 ∙ is)
 
 no-survey-of-program : (name : Text) (rows : List Row) → name ≡ codes "survey" → (a : Asked) → IsAsked name rows a → ⊥
@@ -368,13 +181,14 @@ no-survey-of-program name rows is (asked.Make format) h = let bad = sym is ∙ h
 no-survey-of-program name rows is (asked.Verify workers style) h = survey-not-verify (sym is ∙ h.0)
 no-survey-of-program name rows is (asked.Replay path) h = survey-not-replay (sym is ∙ h.0)
 
-pub surveys-nothing : (name : Text) (rows : List Row) → name ≡ codes "survey" → ((survey : SurveyRequest) → IsSurvey rows survey → ⊥)
+pub surveys-nothing : (name : Text) (rows : List Row) → ((stubs : StubsRequest) → IsStubs name rows stubs → ⊥) → name ≡ codes "survey" → ((survey : SurveyRequest) → IsSurvey rows survey → ⊥)
     → (r : Request) → IsGiven name rows r → ⊥
-surveys-nothing name rows is none (request.Program program) h = no-survey-of-program name rows is program.asked h.asked
-surveys-nothing name rows is none (request.Convert certificate format) h = let bad = sym is ∙ h.0 in cc bad
-surveys-nothing name rows is none (request.Survey survey) h = none survey h.1
-surveys-nothing name rows is none (request.Suggest suggestion) h = let bad = sym is ∙ h.0 in cc bad
-surveys-nothing name rows is none (request.Explain code) h = let bad = sym is ∙ h.0 in cc bad
+surveys-nothing name rows no-stubs is none (request.Program program) h = no-survey-of-program name rows is program.asked h.asked
+surveys-nothing name rows no-stubs is none (request.Convert certificate format) h = let bad = sym is ∙ h.0 in cc bad
+surveys-nothing name rows no-stubs is none (request.Survey survey) h = none survey h.1
+surveys-nothing name rows no-stubs is none (request.Suggest suggestion) h = let bad = sym is ∙ h.0 in cc bad
+surveys-nothing name rows no-stubs is none (request.Stubs stubs) h = no-stubs stubs h
+surveys-nothing name rows no-stubs is none (request.Explain code) h = let bad = sym is ∙ h.0 in cc bad
 
 no-suggestion-of-program : (name : Text) (rows : List Row) → name ≡ codes "suggest" → (a : Asked) → IsAsked name rows a → ⊥
 no-suggestion-of-program name rows is (asked.Check path workers style) h = let bad = sym is ∙ h.0 in cc bad
@@ -382,13 +196,25 @@ no-suggestion-of-program name rows is (asked.Make format) h = let bad = sym is �
 no-suggestion-of-program name rows is (asked.Verify workers style) h = let bad = sym is ∙ h.0 in cc bad
 no-suggestion-of-program name rows is (asked.Replay path) h = let bad = sym is ∙ h.0 in cc bad
 
-pub suggests-nothing : (name : Text) (rows : List Row) → name ≡ codes "suggest" → ((suggestion : SuggestRequest) → IsSuggestion rows suggestion → ⊥)
+pub suggests-nothing : (name : Text) (rows : List Row) → ((stubs : StubsRequest) → IsStubs name rows stubs → ⊥) → name ≡ codes "suggest" → ((suggestion : SuggestRequest) → IsSuggestion rows suggestion → ⊥)
     → (r : Request) → IsGiven name rows r → ⊥
-suggests-nothing name rows is none (request.Program program) h = no-suggestion-of-program name rows is program.asked h.asked
-suggests-nothing name rows is none (request.Convert certificate format) h = suggest-not-convert (sym is ∙ h.0)
-suggests-nothing name rows is none (request.Survey survey) h = let bad = sym is ∙ h.0 in cc bad
-suggests-nothing name rows is none (request.Suggest suggestion) h = none suggestion h.1
-suggests-nothing name rows is none (request.Explain code) h = suggest-not-explain (sym is ∙ h.0)
+suggests-nothing name rows no-stubs is none (request.Program program) h = no-suggestion-of-program name rows is program.asked h.asked
+suggests-nothing name rows no-stubs is none (request.Convert certificate format) h = suggest-not-convert (sym is ∙ h.0)
+suggests-nothing name rows no-stubs is none (request.Survey survey) h = let bad = sym is ∙ h.0 in cc bad
+suggests-nothing name rows no-stubs is none (request.Suggest suggestion) h = none suggestion h.1
+suggests-nothing name rows no-stubs is none (request.Stubs stubs) h = no-stubs stubs h
+suggests-nothing name rows no-stubs is none (request.Explain code) h = suggest-not-explain (sym is ∙ h.0)
+
+-- Other commands than `stubs` and `suggest` ask for no stubs, nor does `suggest` without `--stubs`, or beside rules.
+pub wants-nothing : (name : Text) (rows : List Row) → (name ≡ codes "stubs" → ⊥) → (name ≡ codes "suggest" → ⊥) → (w : WantedStubs) → IsWanted name rows w → ⊥
+wants-nothing name rows no-stubs no-suggest wanted.Missing h = no-stubs h.0
+wants-nothing name rows no-stubs no-suggest wanted.MissingAndUnread h = no-suggest h.0
+wants-nothing name rows no-stubs no-suggest (wanted.Named names) h = no-stubs h.0
+
+pub wants-no-stubs : (name : Text) (rows : List Row) → (name ≡ codes "stubs" → ⊥) → (IsFlag (codes "stubs") rows true → first_of (codes "beside") rows ≡ None → ⊥) → (w : WantedStubs) → IsWanted name rows w → ⊥
+wants-no-stubs name rows no-stubs none wanted.Missing h = no-stubs h.0
+wants-no-stubs name rows no-stubs none wanted.MissingAndUnread h = none h.1 h.2
+wants-no-stubs name rows no-stubs none (wanted.Named names) h = no-stubs h.0
 
 -- `explain` asks for nothing but a page, and without a code for nothing.
 no-explained-program : (name : Text) (rows : List Row) → name ≡ codes "explain" → (a : Asked) → IsAsked name rows a → ⊥
@@ -397,17 +223,24 @@ no-explained-program name rows is (asked.Make format) h = let bad = sym is ∙ h
 no-explained-program name rows is (asked.Verify workers style) h = let bad = sym is ∙ h.0 in cc bad
 no-explained-program name rows is (asked.Replay path) h = let bad = sym is ∙ h.0 in cc bad
 
+no-stubs-of-explain : (name : Text) (rows : List Row) → name ≡ codes "explain" → (w : WantedStubs) → IsWanted name rows w → ⊥
+no-stubs-of-explain name rows is wanted.Missing h = let bad = sym is ∙ h.0 in cc bad
+no-stubs-of-explain name rows is wanted.MissingAndUnread h = suggest-not-explain (sym h.0 ∙ is)
+no-stubs-of-explain name rows is (wanted.Named names) h = let bad = sym is ∙ h.0 in cc bad
+
 pub explains-nothing : (name : Text) (rows : List Row) → name ≡ codes "explain" → None ≡ first_of (codes "CODE") rows → (r : Request) → IsGiven name rows r → ⊥
 explains-nothing name rows is none (request.Program program) h = no-explained-program name rows is program.asked h.asked
 explains-nothing name rows is none (request.Convert certificate format) h = explain-not-convert (sym is ∙ h.0)
 explains-nothing name rows is none (request.Survey survey) h = let bad = sym is ∙ h.0 in cc bad
 explains-nothing name rows is none (request.Suggest suggestion) h = suggest-not-explain (sym h.0 ∙ is)
+explains-nothing name rows is none (request.Stubs stubs) h = no-stubs-of-explain name rows is stubs.wanted h.wanted
 explains-nothing name rows is none (request.Explain code) h = let bad = none ∙ h.1 in cc bad
 
 pub no-request : (name : Text) (rows : List Row) → (name ≡ codes "convert" → ⊥) → (name ≡ codes "survey" → ⊥) → (name ≡ codes "explain" → ⊥) → (name ≡ codes "suggest" → ⊥)
-    → ((program : ProgramRequest) → IsProgramGiven name rows program → ⊥) → (r : Request) → IsGiven name rows r → ⊥
-no-request name rows no-convert no-survey no-explain no-suggest none (request.Program program) h = none program h
-no-request name rows no-convert no-survey no-explain no-suggest none (request.Convert certificate format) h = no-convert h.0
-no-request name rows no-convert no-survey no-explain no-suggest none (request.Survey survey) h = no-survey h.0
-no-request name rows no-convert no-survey no-explain no-suggest none (request.Suggest suggestion) h = no-suggest h.0
-no-request name rows no-convert no-survey no-explain no-suggest none (request.Explain code) h = no-explain h.0
+    → ((stubs : StubsRequest) → IsStubs name rows stubs → ⊥) → ((program : ProgramRequest) → IsProgramGiven name rows program → ⊥) → (r : Request) → IsGiven name rows r → ⊥
+no-request name rows no-convert no-survey no-explain no-suggest no-stubs none (request.Program program) h = none program h
+no-request name rows no-convert no-survey no-explain no-suggest no-stubs none (request.Convert certificate format) h = no-convert h.0
+no-request name rows no-convert no-survey no-explain no-suggest no-stubs none (request.Survey survey) h = no-survey h.0
+no-request name rows no-convert no-survey no-explain no-suggest no-stubs none (request.Suggest suggestion) h = no-suggest h.0
+no-request name rows no-convert no-survey no-explain no-suggest no-stubs none (request.Stubs stubs) h = no-stubs stubs h
+no-request name rows no-convert no-survey no-explain no-suggest no-stubs none (request.Explain code) h = no-explain h.0

@@ -1,13 +1,10 @@
--- The command line, by what `clap` makes of its words. This project's own choice.
+-- What the words of a command line ask for, by what `clap` makes of them. This project's own choice.
 use Rattle.std.specs.Borrow.{Bor}
-use Rattle.std.specs.Prelude.{option_map, ℕ, ◌≡◌, ◌<◌, ◌^◌, List, [], ◌∷◌, Option, Some, None, Bool, if◌then◌else◌, codes, pos, true, map, string_bytes, String}
+use Rattle.std.specs.Prelude.{option_map, ℕ, ◌≡◌, ◌<◌, ◌^◌, List, Option, Some, None, Bool, if◌then◌else◌, codes, true, false, map, string_bytes, String}
 use Rattle.std.specs.Str.Parse.{IsNumeral, digits_value, without_leading_plus}
-use Rattle.clap.specs.Lexer.{usize_max}
-use Rattle.clap.specs.Words.{App, Row, Rule, Text, all_of, first_of, new_app, new_rule, one_of, subcommand_of, with_rule, with_subcommand}
-use Rattle.clap.specs.Simple.{on_top}
+use Rattle.clap.specs.Words.{Row, Text, all_of, first_of, one_of, subcommand_of}
 use Rattle.clap.specs.Takes.{takes}
-use Rattle.clap.specs.declared.builder.action.ArgAction.TheVariants.{Set, Append, SetTrue}
-use Rattle.clap.specs.declared.builder.value_parser.ValueParser.TheVariants as value_parser
+use Rattle.mlk_cli_grammar.specs.Grammar.{mlock_app}
 use Rattle.mlk_cli.specs.declared.words.Asked.{Asked}
 use Rattle.mlk_cli.specs.declared.words.Asked.TheVariants as asked
 use Rattle.mlk_cli.specs.declared.words.Format.{Format}
@@ -20,88 +17,13 @@ use Rattle.mlk_cli.specs.declared.words.ReportStyle.{ReportStyle}
 use Rattle.mlk_cli.specs.declared.words.ProgramRequest.{ProgramRequest}
 use Rattle.mlk_cli.specs.declared.words.SurveyRequest.{SurveyRequest}
 use Rattle.mlk_cli.specs.declared.words.SuggestRequest.{SuggestRequest}
+use Rattle.mlk_cli.specs.declared.words.WantedStubs.{WantedStubs}
+use Rattle.mlk_cli.specs.declared.words.WantedStubs.TheVariants as wanted
+use Rattle.mlk_cli.specs.declared.words.StubsRequest.{StubsRequest}
 use Rattle.mlk_cli.specs.declared.words.Request.{Request}
 use Rattle.mlk_cli.specs.declared.words.Request.TheVariants as request
 use Rattle.mlk_cli.specs.declared.words.UsageError.{UsageError}
 use Rattle.mlk_cli.specs.declared.words.UsageError.TheVariants as usage
-
--- a word that must be given, once, mostly a path
-abbrev pub path_rule : Text → Rule
-path_rule id = record (new_rule id) { required = true; action = Some Set }
-
--- the paths of the routines, one or more
-abbrev pub routines_rule : Rule
-routines_rule = record (new_rule (codes "ROUTINE")) { required = true; action = Some Append; range = Some (record { start_inclusive = 1; end_inclusive = usize_max }) }
-
--- `--workers N`, a number of 32 bits, which is 4 where it is left out
-abbrev pub workers_rule : Rule
-workers_rule = record (new_rule (codes "workers")) { long = Some (codes "workers"); value_names = 1; defaults = codes "4" ∷ []; parser = Some (value_parser.Signed (pos 0) (pos 4294967295)) }
-
--- `--format N`, 1 or 2, which is this text where it is left out
-abbrev pub format_rule : Text → Rule
-format_rule usual = record (new_rule (codes "format")) { long = Some (codes "format"); value_names = 1; defaults = usual ∷ []; parser = Some (value_parser.Signed (pos 1) (pos 2)) }
-
--- `--output FORM`, which is `text` where it is left out
-abbrev pub output_rule : Rule
-output_rule = record (new_rule (codes "output")) { long = Some (codes "output"); value_names = 1; action = Some Set; defaults = codes "text" ∷ [] }
-
--- `--strict`
-abbrev pub strict_rule : Rule
-strict_rule = record (new_rule (codes "strict")) { long = Some (codes "strict"); action = Some SetTrue }
-
--- `--explain`
-abbrev pub explain_rule : Rule
-explain_rule = record (new_rule (codes "explain")) { long = Some (codes "explain"); action = Some SetTrue }
-
--- a command with the options for the style of its report
-abbrev pub with_style : App → App
-with_style app = with_rule (with_rule (with_rule app output_rule) strict_rule) explain_rule
-
--- `check RULES CERT ROUTINE..`, how many workers, and the style of its report
-abbrev pub check_app : App
-check_app = with_style (with_rule (with_rule (with_rule (with_rule (new_app (codes "check")) (path_rule (codes "RULES"))) (path_rule (codes "CERT"))) routines_rule) workers_rule)
-
--- `make RULES ROUTINE..`, and the format of the certificate, the first where it is left out
-abbrev pub make_app : App
-make_app = with_rule (with_rule (with_rule (new_app (codes "make")) (path_rule (codes "RULES"))) routines_rule) (format_rule (codes "1"))
-
--- `verify RULES ROUTINE..`, how many workers, and the style of its report
-abbrev pub verify_app : App
-verify_app = with_style (with_rule (with_rule (with_rule (new_app (codes "verify")) (path_rule (codes "RULES"))) routines_rule) workers_rule)
-
--- `replay RULES EVENTS ROUTINE..`
-abbrev pub replay_app : App
-replay_app = with_rule (with_rule (with_rule (new_app (codes "replay")) (path_rule (codes "RULES"))) (path_rule (codes "EVENTS"))) routines_rule
-
--- `convert CERT`, and the format that it is to have, the second where it is left out
-abbrev pub convert_app : App
-convert_app = with_rule (with_rule (new_app (codes "convert")) (path_rule (codes "CERT"))) (format_rule (codes "2"))
-
--- `survey ROUTINE..`, and its form
-abbrev pub survey_app : App
-survey_app = with_rule (with_rule (new_app (codes "survey")) routines_rule) output_rule
-
--- `--beside RULES`, which may be left out
-abbrev pub beside_rule : Rule
-beside_rule = record (new_rule (codes "beside")) { long = Some (codes "beside"); value_names = 1; action = Some Set }
-
--- `suggest ROUTINE..`, and the rules that are there already
-abbrev pub suggest_app : App
-suggest_app = with_rule (with_rule (new_app (codes "suggest")) routines_rule) beside_rule
-
--- `explain CODE`
-abbrev pub explain_app : App
-explain_app = with_rule (new_app (codes "explain")) (path_rule (codes "CODE"))
-
--- `mlock` before it has a command
-abbrev pub no_command_app : App
-no_command_app = on_top (λ s. record s { subcommand_required = true; has_version = true }) (new_app (codes "mlock"))
-
--- `mlock` and one of its commands
-abbrev pub mlock_app : App
-mlock_app =
-    with_subcommand (with_subcommand (with_subcommand (with_subcommand (with_subcommand (with_subcommand (with_subcommand (with_subcommand no_command_app check_app.top) make_app.top) verify_app.top) replay_app.top) convert_app.top) survey_app.top)
-    suggest_app.top) explain_app.top
 
 -- the text is a number of 32 bits in decimal digits, before which a plus may stand
 abbrev pub IsNumber : Text → ℕ → Type 0
@@ -232,14 +154,35 @@ abbrev pub GivesSurvey : List Row → Option SurveyRequest → Type 0
 GivesSurvey rows None = (survey : SurveyRequest) → IsSurvey rows survey → ⊥
 GivesSurvey rows (Some survey) = IsSurvey rows survey
 
--- the routines for which rules are suggested, and the path of the rules that are there already, if it is given
+-- the routines for which rules are suggested, not stubs, and the path of the rules that are there already, if it is given
 pub record IsSuggestion (rows : List Row) (suggestion : SuggestRequest) : Type 0 where
   pub routines : all_of (codes "ROUTINE") rows ≡ Some (bytes_of suggestion.routines.items)
+  pub of_rules : IsFlag (codes "stubs") rows false
   pub beside : first_of (codes "beside") rows ≡ option_map (λ path. path.now) suggestion.beside
 
 abbrev pub GivesSuggestion : List Row → Option SuggestRequest → Type 0
 GivesSuggestion rows None = (suggestion : SuggestRequest) → IsSuggestion rows suggestion → ⊥
 GivesSuggestion rows (Some suggestion) = IsSuggestion rows suggestion
+
+-- Which routines get a stub, by the command of a name and what it was given: `stubs`, with names or without, or `suggest --stubs`,
+-- which has no rules beside it.
+abbrev pub IsWanted : Text → List Row → WantedStubs → Type 0
+IsWanted name rows wanted.Missing = (name ≡ codes "stubs") × (all_of (codes "for") rows ≡ None)
+IsWanted name rows wanted.MissingAndUnread = (name ≡ codes "suggest") × IsFlag (codes "stubs") rows true × (first_of (codes "beside") rows ≡ None)
+IsWanted name rows (wanted.Named names) = (name ≡ codes "stubs") × (all_of (codes "for") rows ≡ Some (bytes_of names.items))
+
+abbrev pub GivesWanted : Text → List Row → Option WantedStubs → Type 0
+GivesWanted name rows None = (wanted : WantedStubs) → IsWanted name rows wanted → ⊥
+GivesWanted name rows (Some wanted) = IsWanted name rows wanted
+
+-- which routines get a stub, and the routines that call them
+pub record IsStubs (name : Text) (rows : List Row) (stubs : StubsRequest) : Type 0 where
+  pub wanted : IsWanted name rows stubs.wanted
+  pub routines : all_of (codes "ROUTINE") rows ≡ Some (bytes_of stubs.routines.items)
+
+abbrev pub GivesStubs : Text → List Row → Option StubsRequest → Type 0
+GivesStubs name rows None = (stubs : StubsRequest) → IsStubs name rows stubs → ⊥
+GivesStubs name rows (Some stubs) = IsStubs name rows stubs
 
 -- the request is what the command of a name was given
 abbrev pub IsGiven : Text → List Row → Request → Type 0
@@ -247,6 +190,7 @@ IsGiven name rows (request.Program program) = IsProgramGiven name rows program
 IsGiven name rows (request.Convert certificate format) = (name ≡ codes "convert") × IsConversion rows certificate format
 IsGiven name rows (request.Survey survey) = (name ≡ codes "survey") × IsSurvey rows survey
 IsGiven name rows (request.Suggest suggestion) = (name ≡ codes "suggest") × IsSuggestion rows suggestion
+IsGiven name rows (request.Stubs stubs) = IsStubs name rows stubs
 IsGiven name rows (request.Explain code) = (name ≡ codes "explain") × (first_of (codes "CODE") rows ≡ Some code.now)
 
 -- what a command's own matches give: nothing where they are those of no request

@@ -1,17 +1,24 @@
 // The command line, as `clap` reads it.
 
-ghost use Rattle.std.specs.Prelude.{◌≡◌, IfOk, IfErr, true};
+ghost use Rattle.std.specs.Prelude.{◌≡◌, ◌≢◌, codes, IfOk, IfErr, true};
 ghost use Rattle.clap.specs.Words.{found_of, rows_of, kind_of};
 ghost use Rattle.clap.specs.Takes.{takes};
 ghost use Rattle.clap.specs.declared.error.kind.ErrorKind.TheVariants.{OutOfMemory};
 ghost use Rattle.clap.specs.Simple.{subcommand_rows_of};
-ghost use Rattle.mlk_cli.specs.CommandLine.{mlock_app, GivesNumber, GivesFormat, NamesOutput, GivesOutput, GivesFlag, GivesStyle, GivesWalk, GivesSurveyOutput, GivesAsked, GivesProgram, GivesSurvey, GivesSuggestion, GivesConversion, GivesPaths, GivesRequest, texts_of, Asks, IsRequest, LacksRequest};
+ghost use Rattle.mlk_cli_grammar.specs.Grammar.{mlock_app};
+ghost use Rattle.mlk_cli.specs.CommandLine.{GivesNumber, GivesFormat, NamesOutput, GivesOutput, GivesFlag, GivesStyle, GivesWalk, GivesSurveyOutput, GivesAsked, GivesProgram, GivesSurvey, GivesSuggestion, IsWanted, GivesWanted, GivesStubs, GivesConversion, GivesPaths, GivesRequest, texts_of, Asks, IsRequest, LacksRequest};
 
-use crate::grammar::grammar;
-use crate::help::NO_REQUEST;
 use clap::error::ErrorKind;
 use clap::{ArgMatches, Error};
+use mlk_cli_grammar::grammar;
 use std::alloc::{AllocError, Global};
+
+// What is said if `clap` takes the words and they are those of no request.
+const NO_REQUEST: &str =
+    "error: these values don't go together, or there is no such value: '--output' of 'check' and 'verify' is text, json or sarif, that of 'survey' is text or json; '--explain' goes with text; '--stubs' goes without '--beside'
+
+For more information, try '--help'.
+";
 
 /// The format of a certificate's text.
 #[derive(Clone, Copy, Debug, PartialEq, Eq)]
@@ -87,6 +94,24 @@ pub struct SuggestRequest<'a> {
     pub routines: Vec<&'a str>,
 }
 
+/// Which routines get a stub.
+#[derive(Drop, Debug)]
+pub enum WantedStubs<'a> {
+    /// those that are called and not given
+    Missing,
+    /// those that are called and not given, and those that can't be read
+    MissingAndUnread,
+    /// those of these names, given or not
+    Named(Vec<&'a str>),
+}
+
+/// Which routines get a stub, and the paths of the routines that call them.
+#[derive(Drop, Debug)]
+pub struct StubsRequest<'a> {
+    pub wanted: WantedStubs<'a>,
+    pub routines: Vec<&'a str>,
+}
+
 /// What `mlock` is asked for.
 #[derive(Drop, Debug)]
 pub enum Request<'a> {
@@ -98,6 +123,7 @@ pub enum Request<'a> {
     },
     Survey(SurveyRequest<'a>),
     Suggest(SuggestRequest<'a>),
+    Stubs(StubsRequest<'a>),
     /// the page of the code that this word names
     Explain(&'a str),
 }
@@ -320,9 +346,94 @@ fn suggestion_of<'a>(
     let Some(paths) = matches.get_strs("ROUTINE") else {
         return Ok(None);
     };
+    let Some(false) = flag_of(matches, "stubs") else {
+        return Ok(None);
+    };
     let beside = matches.get_str("beside");
     let routines = Vec::from_slice(alloc, paths)?;
     Ok(Some(SuggestRequest { beside, routines }))
+}
+
+// Which routines get a stub by `stubs`.
+fn named_by<'a>(alloc: Global, matches: &ArgMatches<'a>) -> Result<WantedStubs<'a>, AllocError>
+    ensures { IfOk result (IsWanted (codes "stubs") (rows_of (found_of matches.now))) }
+{
+    match matches.get_strs("for") {
+        None => Ok(WantedStubs::Missing),
+        Some(names) => Ok(WantedStubs::Named(Vec::from_slice(alloc, names)?)),
+    }
+}
+
+// Which routines get a stub by the command of this name, by what it was given.
+fn wanted_by<'a>(
+    alloc: Global,
+    name: &str,
+    matches: &ArgMatches<'a>,
+) -> Result<Option<WantedStubs<'a>>, AllocError>
+    ensures { IfOk result (GivesWanted name.now (rows_of (found_of matches.now))) }
+{
+    if name == "stubs" {
+        return Ok(Some(named_by(alloc, matches)?));
+    }
+    if name != "suggest" {
+        return Ok(None);
+    }
+    let Some(true) = flag_of(matches, "stubs") else {
+        return Ok(None);
+    };
+    if matches.get_str("beside").is_some() {
+        return Ok(None);
+    }
+    Ok(Some(WantedStubs::MissingAndUnread))
+}
+
+// The stubs that the command of this name asks for, by what it was given.
+fn stubs_of<'a>(
+    alloc: Global,
+    name: &str,
+    matches: &ArgMatches<'a>,
+) -> Result<Option<StubsRequest<'a>>, AllocError>
+    ensures { IfOk result (GivesStubs name.now (rows_of (found_of matches.now))) }
+{
+    let Some(wanted) = wanted_by(alloc, name, matches)? else {
+        return Ok(None);
+    };
+    let Some(paths) = matches.get_strs("ROUTINE") else {
+        return Ok(None);
+    };
+    let routines = Vec::from_slice(alloc, paths)?;
+    Ok(Some(StubsRequest { wanted, routines }))
+}
+
+// What the command of this name, which reads routines, asks for, by what it was given.
+fn routines_request<'a>(
+    alloc: Global,
+    name: &str,
+    matches: &ArgMatches<'a>,
+) -> Result<Option<Request<'a>>, AllocError>
+    requires no_conversion { name.now ≢ codes "convert" }
+    requires no_page { name.now ≢ codes "explain" }
+    ensures { IfOk result (GivesPaths name.now (rows_of (found_of matches.now))) }
+{
+    if let Some(stubs) = stubs_of(alloc, name, matches)? {
+        return Ok(Some(Request::Stubs(stubs)));
+    }
+    if name == "survey" {
+        let Some(survey) = survey_of(alloc, matches)? else {
+            return Ok(None);
+        };
+        return Ok(Some(Request::Survey(survey)));
+    }
+    if name == "suggest" {
+        let Some(suggestion) = suggestion_of(alloc, matches)? else {
+            return Ok(None);
+        };
+        return Ok(Some(Request::Suggest(suggestion)));
+    }
+    let Some(program) = program_of(alloc, name, matches)? else {
+        return Ok(None);
+    };
+    Ok(Some(Request::Program(program)))
 }
 
 // What the command of this name asks for, by what it was given.
@@ -342,28 +453,13 @@ fn given<'a>(
             format,
         }));
     }
-    if name == "survey" {
-        let Some(survey) = survey_of(alloc, matches)? else {
-            return Ok(None);
-        };
-        return Ok(Some(Request::Survey(survey)));
-    }
     if name == "explain" {
         let Some(code) = matches.get_str("CODE") else {
             return Ok(None);
         };
         return Ok(Some(Request::Explain(code)));
     }
-    if name == "suggest" {
-        let Some(suggestion) = suggestion_of(alloc, matches)? else {
-            return Ok(None);
-        };
-        return Ok(Some(Request::Suggest(suggestion)));
-    }
-    let Some(program) = program_of(alloc, name, matches)? else {
-        return Ok(None);
-    };
-    Ok(Some(Request::Program(program)))
+    routines_request(alloc, name, matches)
 }
 
 fn request_of<'a>(
@@ -386,7 +482,6 @@ fn read_words<'a>(alloc: Global, words: &'a [String]) -> Result<Option<Request<'
     Ok(request_of(alloc, &matches)?)
 }
 
-// What is said where `clap` takes the words and they are those of no request.
 fn no_request(alloc: Global) -> UsageError {
     match String::from_str(alloc, NO_REQUEST) {
         Ok(text) => UsageError::Usage(text),

@@ -19,11 +19,12 @@ pub(crate) static UNKNOWN_LABEL: Page = Page {
     code: Code::UnknownLabel,
     meaning: "a call of a label that is not in the called routine, or of a routine \
         that is not given or has no line",
-    hint: "correct the name, or give the routine too",
+    hint: "correct the name, or give the routine too, or the stub that `mlock stubs` writes for it",
     why: "A DO, a JOB or a `$$` names a label that is not in its routine, or a routine \
         that was not given.",
     mend: "Correct the name, or give the routine too: everything that a job may run \
-        has to be there.",
+        has to be there. If you can't give it, give a stub in its place, which \
+        `mlock stubs` writes.",
     before: " DO X",
     after: " DO B\nB QUIT",
 };

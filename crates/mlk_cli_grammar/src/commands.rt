@@ -2,14 +2,14 @@
 
 ghost use Rattle.std.specs.Prelude.{◌≡◌, IfOk, true, false};
 ghost use Rattle.clap.specs.Words.{app_of, rule_of, with_rule, with_subcommand};
-ghost use Rattle.mlk_cli.specs.CommandLine.{path_rule, routines_rule, workers_rule, format_rule, output_rule, strict_rule, explain_rule, with_style, check_app, make_app, verify_app, replay_app, convert_app, survey_app, beside_rule, suggest_app, explain_app, no_command_app, mlock_app};
+ghost use Rattle.mlk_cli_grammar.specs.Grammar.{path_rule, routines_rule, workers_rule, format_rule, output_rule, flag_rule, with_style, check_app, make_app, verify_app, replay_app, convert_app, survey_app, beside_rule, suggest_app, for_rule, stubs_app, explain_app, no_command_app, mlock_app};
 
 use crate::help::{
     ABOUT, BESIDE_HELP, CERT_HELP, CHECK_HELP, CHECK_MORE, CODE_HELP, CONVERT_HELP, CONVERT_MORE,
-    EVENTS_HELP, EXPLAIN_HELP, FORMAT_HELP, MAKE_HELP, MAKE_MORE, OUTPUT_HELP, PAGE_HELP,
-    PAGE_MORE, REPLAY_HELP, REPLAY_MORE, ROUTINE_HELP, RULES_HELP, STRICT_HELP, SUGGEST_HELP,
-    SUGGEST_MORE, SURVEY_HELP, SURVEY_MORE, SURVEY_OUTPUT_HELP, VERIFY_HELP, VERIFY_MORE, VERSION,
-    WORKERS_HELP,
+    EVENTS_HELP, EXPLAIN_HELP, FOR_HELP, FORMAT_HELP, INSTEAD_HELP, MAKE_HELP, MAKE_MORE,
+    OUTPUT_HELP, PAGE_HELP, PAGE_MORE, REPLAY_HELP, REPLAY_MORE, ROUTINE_HELP, RULES_HELP,
+    STRICT_HELP, STUBS_HELP, STUBS_MORE, SUGGEST_HELP, SUGGEST_MORE, SURVEY_HELP, SURVEY_MORE,
+    SURVEY_OUTPUT_HELP, VERIFY_HELP, VERIFY_MORE, VERSION, WORKERS_HELP,
 };
 use clap::builder::ValueParser;
 use clap::{Arg, ArgAction, Command, value_parser};
@@ -74,26 +74,15 @@ fn output_option<'a>(alloc: Global, help: &'a str) -> Arg<'a>
         .help(help)
 }
 
-// Whether hazards are reported too.
-fn strict_option<'a>(alloc: Global) -> Arg<'a>
-    ensures rule { rule_of result ≡ strict_rule }
+// An option without a value.
+fn flag<'a>(alloc: Global, id: &'a str, help: &'a str) -> Arg<'a>
+    ensures rule { rule_of result ≡ flag_rule id.entry.now }
     ensures local { result.global ≡ false }
 {
-    Arg::new(alloc, "strict")
-        .long("strict")
+    Arg::new(alloc, id)
+        .long(id)
         .action(ArgAction::SetTrue)
-        .help(STRICT_HELP)
-}
-
-// Whether faults are explained.
-fn explain_option<'a>(alloc: Global) -> Arg<'a>
-    ensures rule { rule_of result ≡ explain_rule }
-    ensures local { result.global ≡ false }
-{
-    Arg::new(alloc, "explain")
-        .long("explain")
-        .action(ArgAction::SetTrue)
-        .help(EXPLAIN_HELP)
+        .help(help)
 }
 
 // A command with the options for the style of its report.
@@ -102,8 +91,8 @@ fn with_style<'a>(alloc: Global, command: Command<'a>) -> Result<Command<'a>, Al
 {
     command
         .arg(output_option(alloc, OUTPUT_HELP))?
-        .arg(strict_option(alloc))?
-        .arg(explain_option(alloc))
+        .arg(flag(alloc, "strict", STRICT_HELP))?
+        .arg(flag(alloc, "explain", EXPLAIN_HELP))
 }
 
 fn check_command<'a>(alloc: Global) -> Result<Command<'a>, AllocError>
@@ -192,7 +181,30 @@ fn suggest_command<'a>(alloc: Global) -> Result<Command<'a>, AllocError>
         .about(SUGGEST_HELP)
         .long_about(SUGGEST_MORE)
         .arg(routines(alloc))?
-        .arg(beside_option(alloc))
+        .arg(beside_option(alloc))?
+        .arg(flag(alloc, "stubs", INSTEAD_HELP))
+}
+
+// The names of the routines that get a stub.
+fn for_option<'a>(alloc: Global) -> Arg<'a>
+    ensures rule { rule_of result ≡ for_rule }
+    ensures local { result.global ≡ false }
+{
+    Arg::new(alloc, "for")
+        .long("for")
+        .value_name("NAME")
+        .action(ArgAction::Append)
+        .help(FOR_HELP)
+}
+
+fn stubs_command<'a>(alloc: Global) -> Result<Command<'a>, AllocError>
+    ensures { IfOk result (λ c. app_of c ≡ stubs_app) }
+{
+    Command::new(alloc, "stubs")
+        .about(STUBS_HELP)
+        .long_about(STUBS_MORE)
+        .arg(routines(alloc))?
+        .arg(for_option(alloc))
 }
 
 fn explain_command<'a>(alloc: Global) -> Result<Command<'a>, AllocError>
@@ -223,7 +235,7 @@ fn with_command<'a>(app: Command<'a>, command: Command<'a>) -> Result<Command<'a
 }
 
 /// The grammar of all commands.
-pub(crate) fn grammar<'a>(alloc: Global) -> Result<Command<'a>, AllocError>
+pub fn grammar<'a>(alloc: Global) -> Result<Command<'a>, AllocError>
     ensures { IfOk result (λ c. app_of c ≡ mlock_app) }
 {
     let app = with_command(without_commands(alloc), check_command(alloc)?)?;
@@ -233,5 +245,6 @@ pub(crate) fn grammar<'a>(alloc: Global) -> Result<Command<'a>, AllocError>
     let app = with_command(app, convert_command(alloc)?)?;
     let app = with_command(app, survey_command(alloc)?)?;
     let app = with_command(app, suggest_command(alloc)?)?;
+    let app = with_command(app, stubs_command(alloc)?)?;
     with_command(app, explain_command(alloc)?)
 }

@@ -134,14 +134,31 @@ Example: mlock suggest routines/*.m > rules.toml
 
 Status: 0 printed, 2 refused rules after --beside, 3 out of memory or a file that can't be read or written.";
 
+pub(crate) const INSTEAD_HELP: &str =
+    "Prints, in place of rules, the stubs that a check of the routines needs: of routines that are called and not given, and of those that can't be read";
+
+pub(crate) const FOR_HELP: &str =
+    "Prints only the stub of the routine of this name, which may be given, with all its labels; may be repeated";
+
+pub(crate) const STUBS_HELP: &str = "Writes stubs for routines that are called and not given";
+
+pub(crate) const STUBS_MORE: &str = "Writes stubs for routines that are called and not given
+
+A call of a routine that is not given is refused (302), so a routine that can't be read can't just be left out. A stub takes
+its place: a routine in M with the labels that are called. It touches no global and no lock, changes $TEST and what is
+passed by reference to any value, and returns any value. That the real routine does no more is your word, on which a `yes`
+then rests: read each stub, and add what the real routine does besides.
+
+Prints a stub for each routine that is called and not given. With --for, prints the stub of a routine that is given and
+can't be read, to be given in its place. Each begins with a line such as `DEV ; mlock stub`; keep it in a file of its own,
+such as DEV.m.
+
+Example: mlock stubs --for DEV routines/*.m > stubs/DEV.m
+
+Status: 0 printed, 2 a name after --for that is no routine's, 3 out of memory or a file that can't be read or written.";
+
 // The program's version, and the logic that it is proved in. Whether a build was proved is not for the program to say: the
 // script that starts it knows.
 pub(crate) const VERSION: &str = "0.1.0, for Rattle logic dac8208d650f15bf";
 
 pub(crate) const ABOUT: &str = "Checks that M routines touch shared data only under their locks";
-
-pub(crate) const NO_REQUEST: &str =
-    "error: no such value of '--output': 'check' and 'verify' take text, json or sarif, 'survey' takes text or json; '--explain' goes with text
-
-For more information, try '--help'.
-";

@@ -2,8 +2,8 @@ use Rattle.std.proofs.Common.{◌∙◌, ap, ap₂}
 use Rattle.std.proofs.lemmas.Result.{IfOk-weaker}
 use Rattle.clap.specs.Simple.{app_of_fields}
 use Rattle.clap.specs.Words.{with_rule}
-use Rattle.mlk_cli.specs.CommandLine.{with_style}
-use Rattle.mlk_cli.proofs.grammar.check_command.Goals as goal
+use Rattle.mlk_cli_grammar.specs.Grammar.{with_style}
+use Rattle.mlk_cli_grammar.proofs.commands.check_command.Goals as goal
 
 pub returns : goal.returns
 returns c =

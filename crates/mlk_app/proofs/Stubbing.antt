@@ -1,0 +1,48 @@
+-- What is answered to a request for stubs.
+use Rattle.std.proofs.Common.{◌≡◌, List, ℕ}
+use Rattle.std.specs.Borrow.{Bor}
+use Rattle.mlk_text.specs.declared.fault.Fault.{Fault}
+use Rattle.mlk_cli.specs.declared.words.Request.TheVariants as request
+use Rattle.mlk_cli.specs.declared.words.StubsRequest.{StubsRequest}
+use Rattle.mlk_cli.specs.CommandLine.{bytes_of}
+use Rattle.mlk_pool.specs.declared.source.Source.{Source}
+use Rattle.mlk_app.specs.declared.answer.Answer.{Answer}
+use Rattle.mlk_app.specs.declared.answer.Answer.TheVariants as answer
+use Rattle.mlk_app.specs.declared.source.FileError.TheVariants as error
+use Rattle.mlk_app.specs.Files.{Texts, AreSources, LosesFirst}
+use Rattle.mlk_app.proofs.Saying.{no-notice}
+use Rattle.mlk_app.specs.Ran.{TellsStubFault, TellsUnread, PrintsStubs, Answers}
+
+pub fault-printed : (fault : Fault) (a : Answer) → TellsStubFault fault a → PrintsStubs a
+fault-printed fault (answer.Report text status) told = absurd told
+fault-printed fault (answer.Refused line notice help) told = ((fault, told.0), told.1)
+fault-printed fault (answer.Unread line help) told = absurd told
+fault-printed fault (answer.Usage text) told = absurd told
+fault-printed fault answer.OutOfMemory told = record {}
+
+pub stubs-answer : (holds : Texts) (lacks : List ℕ → Type 0) (stubs : StubsRequest) (sources : List Source) (a : Answer) → AreSources holds stubs.routines.items sources → PrintsStubs a
+    → Answers holds lacks (request.Stubs stubs) a
+stubs-answer holds lacks stubs sources (answer.Report text status) texts printed = (
+  record {
+    sources = sources;
+    texts = texts;
+    printed = printed.0;
+  },
+  printed.1,
+)
+stubs-answer holds lacks stubs sources (answer.Refused line notice help) texts printed = (printed.0, printed.1)
+stubs-answer holds lacks stubs sources (answer.Unread line help) texts printed = absurd printed
+stubs-answer holds lacks stubs sources (answer.Usage text) texts printed = absurd printed
+stubs-answer holds lacks stubs sources answer.OutOfMemory texts printed = record {}
+
+pub unstubbed-answers : (holds : Texts) (lacks : List ℕ → Type 0) (stubs : StubsRequest) (path : Bor (List ℕ)) (a : Answer) → LosesFirst holds lacks (bytes_of stubs.routines.items) (error.Unread path)
+    → TellsUnread path.now a → Answers holds lacks (request.Stubs stubs) a
+unstubbed-answers holds lacks stubs path (answer.Report text status) lost told = absurd told
+unstubbed-answers holds lacks stubs path (answer.Refused line notice help) lost told = absurd told
+unstubbed-answers holds lacks stubs path (answer.Unread line help) lost told = record {
+  path = path.now;
+  lost = lost;
+  told = told;
+}
+unstubbed-answers holds lacks stubs path (answer.Usage text) lost told = absurd told
+unstubbed-answers holds lacks stubs path answer.OutOfMemory lost told = record {}

@@ -1,0 +1,10 @@
+use Rattle.std.proofs.Common.{◌∙◌, refl, subst, sym}
+use Rattle.mlk_stubs.specs.StubTexts.{AreStubs}
+use Rattle.mlk_app.proofs.Stubbing.{fault-printed}
+use Rattle.mlk_app.proofs.stubs.stubs_answer.Goals as goal
+
+pub returns-in-Ok : goal.returns-in-Ok
+returns-in-Ok c = (subst AreStubs (sym (c.of.ensures ∙ c.into_bytes.ensures)) c.in-Ok.ensures, refl)
+
+pub returns-in-Err-Refused : goal.returns-in-Err-Refused
+returns-in-Err-Refused c = fault-printed c.in-Err-Refused.fault c.refused_stub.result c.refused_stub.ensures

@@ -1,0 +1,14 @@
+use Rattle.std.proofs.Common.{◌∙◌, sym, ap, refl, codes, rules}
+use Rattle.std.specs.Prelude.{option_map}
+use Rattle.clap.specs.Words.{found_of, rows_of}
+use Rattle.clap.proofs.WalkLemmas.{first_value-rows}
+use Rattle.mlk_cli.proofs.CommandLine.{only-true, wants-no-stubs, wants-nothing}
+use Rattle.mlk_cli.proofs.words.wanted_by.Goals as goal
+
+pub returns-then-ne : goal.returns-then-ne
+returns-then-ne c = wants-nothing c.args.name.now (rows_of (found_of c.args.matches.now)) (grind rules) (grind rules)
+
+pub returns-in_default : goal.returns-in_default
+returns-in_default c =
+    let rows = rows_of (found_of c.args.matches.now) in
+    wants-no-stubs c.args.name.now rows (grind rules) (λ given _. only-true (codes "stubs") rows c.flag_of.result (grind rules) c.flag_of.ensures given)
