@@ -51,11 +51,13 @@ impl<'a> Collection<'a> {
 
     // Adds a call of a label.
     fn add_call(&mut self, label: StubLabel<'a>, call: Call<'a>) -> Result<(), AllocError> {
-        self.add_label(label, LabelUse::new(self.alloc, None))?;
-        match self.labels.get_mut(&label) {
-            None => Ok(()),
-            Some(used) => push_sparing(&mut used.calls, call),
-        }
+        let mut used = match self.labels.remove(&label) {
+            Some(used) => used,
+            None => LabelUse::new(self.alloc, None),
+        };
+        push_sparing(&mut used.calls, call)?;
+        self.labels.insert(label, used)?;
+        Ok(())
     }
 
     // Adds the calls in a line, without those in its block, that call routines which get a stub.
