@@ -38,7 +38,8 @@ LEVELS = ['none', 'note', 'warning', 'error']
 SCHEMA = {
     'sarifLog': {'$schema': 'string', 'version!': ('in', ['2.1.0']), 'runs!': ['run']},
     'run': {'tool!': 'tool', 'invocations': ['invocation'], 'originalUriBaseIds': ('map', 'artifactLocation'), 'results': ['result'],
-            'columnKind': ('in', ['utf16CodeUnits', 'unicodeCodePoints'])},
+            'columnKind': ('in', ['utf16CodeUnits', 'unicodeCodePoints']), 'properties': 'propertyBag'},
+    'propertyBag': {'behind': ['object']},
     'tool': {'driver!': 'toolComponent'},
     'toolComponent': {'name!': 'string', 'version': 'string', 'semanticVersion': 'string', 'rules': ['reportingDescriptor']},
     'reportingDescriptor': {'id!': 'string', 'name': 'string', 'shortDescription': 'multiformatMessageString',
@@ -62,7 +63,7 @@ SCHEMA = {
     'region': {'startLine': ('from', 1), 'startColumn': ('from', 1), 'endColumn': ('from', 1)},
     'logicalLocation': {'fullyQualifiedName': 'string', 'kind': 'string'},
 }
-TYPES = {'string': str, 'boolean': bool, 'integer': int}
+TYPES = {'string': str, 'boolean': bool, 'integer': int, 'object': dict}
 
 RULES = '''[[lock]]
 name = "^ACCT"
@@ -234,6 +235,8 @@ class Run:
             yield f'status {self.sarif.returncode}, and exitCode {ended["exitCode"]}'
         if ended['executionSuccessful'] != (self.report['answer'] != 'refused'):
             yield 'executionSuccessful'
+        if run.get('properties', {}).get('behind') != self.report.get('behind'):
+            yield 'the faults behind those of the report'
         if len(results) != len(wanted):
             yield f'{len(results)} results in place of {len(wanted)}'
             return
@@ -263,6 +266,7 @@ def runs(program, room):
     yield of('verify', 'examples/hospital/rules.toml', *sorted(f'examples/hospital/{it}' for it in os.listdir(f'{room}/examples/hospital') if it.endswith('.m')))
     yield of('verify', './examples/ward/rules.toml', './examples/./ward//ADMIT.m')
     yield of('verify', 'examples/ward/rules.toml', f'{room}/examples/ward/ADMIT.m')
+    yield of('verify', 'examples/behind/rules.toml', 'examples/behind/ROUND.m')
     for code in sorted(os.listdir(f'{room}/examples/faults')):
         here = f'examples/faults/{code}'
         certificate = [f'{here}/{it}' for it in os.listdir(f'{room}/{here}') if it.endswith('.cert')]

@@ -3,6 +3,7 @@
 #![tactic(auto)]
 
 mod answer;
+mod behind;
 mod file;
 mod help;
 mod notice;

@@ -15,13 +15,15 @@ use std::alloc::{AllocError, Global};
 use std::sync::Wait;
 use std::thread::Threads;
 
-// By how many workers the entries are checked.
-const WORKERS: usize = 4;
+/// By how many workers the entries are checked for what explains a report.
+pub(crate) const WORKERS: usize = 4;
 
 const NOTE: &[u8] = b"note: the faults of all entries, by the locks that were found until then:\n";
 
-// What was found, or nothing where it was refused, which was reported before.
-fn found<T: Drop, E: Drop>(answer: Result<T, Failure<E>>) -> Result<Option<T>, AllocError> {
+/// What was found, or nothing if it was refused: what is refused was reported before, or is not reported.
+pub(crate) fn found<T: Drop, E: Drop>(
+    answer: Result<T, Failure<E>>,
+) -> Result<Option<T>, AllocError> {
     match answer {
         Ok(value) => Ok(Some(value)),
         Err(Failure::OutOfMemory) => Err(AllocError),

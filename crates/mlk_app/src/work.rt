@@ -11,11 +11,12 @@ ghost use Rattle.mlk_app.specs.Ran.{style_in, status_of, IsReportPrinted, IsRepo
 ghost use Rattle.mlk_app.specs.Printing.{IsPrintedOfTrees, IsPrintedOfTexts, IsRefusedSources};
 
 use crate::answer::{NO, YES};
+use crate::behind::{Search, is_explained};
 use crate::source::{Sources, Work, copied_texts};
 use mlk_cert::{CertFormat, Certificate, read_cert};
 use mlk_cli::{Asked, Output, ProgramRequest, ReportStyle};
 use mlk_explain::{Grounds, free_reads};
-use mlk_forms::render_report;
+use mlk_forms::{Explanations, render_report};
 use mlk_outcome::{NoReport, certificate_for, certificate_text, jobs_text, report_by_certificate};
 use mlk_output::Inputs;
 use mlk_pool::{ReportText, read_routines};
@@ -72,7 +73,7 @@ fn shown_texts(
     request: &ProgramRequest<'_>,
 ) -> Result<Vec<Vec<u8>>, AllocError> {
     let style = style_in(&request.asked);
-    if style.is_explained || style.output != Output::Text {
+    if is_explained(style) {
         return copied_texts(alloc, sources.routines.as_slice());
     }
     Ok(Vec::new(alloc))
@@ -90,15 +91,16 @@ fn listed_reads(
     }
 }
 
-// Prints `report`, which `grounds` explain.
+// Prints `report`, which `explanations` explain.
 fn printed_report(
     alloc: Global,
-    grounds: &Grounds<'_>,
+    explanations: &Explanations<'_>,
     request: &ProgramRequest<'_>,
     report: &Report,
 ) -> Result<Printed, AllocError>
-    ensures { IfOk result (λ p. IsReportPrinted (style_in request.now.asked) (map routine_of grounds.now.program.now) report.now p.text p.status) }
+    ensures { IfOk result (λ p. IsReportPrinted (style_in request.now.asked) (map routine_of explanations.now.grounds.now.program.now) report.now p.text p.status) }
 {
+    let grounds = explanations.grounds;
     let style = style_in(&request.asked);
     let free_reads = listed_reads(alloc, grounds.rule_text, style.output)?;
     let inputs = Inputs {
@@ -107,7 +109,7 @@ fn printed_report(
         texts: grounds.texts,
         free_reads: free_reads.as_slice(),
     };
-    let printed = render_report(alloc, &inputs, report, style, grounds)?;
+    let printed = render_report(alloc, &inputs, report, style, explanations)?;
     let status = status_of(printed.passes);
     Ok(Printed {
         text: printed.text,
@@ -141,7 +143,14 @@ fn print_report<R: Threads + Wait + Sync, W: Watch>(
         certificate,
         is_made,
     };
-    let printed = printed_report(alloc, &grounds, subject.request, &report)?;
+    let style = style_in(&subject.request.asked);
+    let search = Search::new(alloc, subject.sources, &grounds, style);
+    let behind = search.run(rt, &report, style, watch)?;
+    let explanations = Explanations {
+        grounds: &grounds,
+        behind: &behind,
+    };
+    let printed = printed_report(alloc, &explanations, subject.request, &report)?;
     Ok(printed)
 }
 

@@ -2,12 +2,14 @@
 //! apply, and what mends the fault; of a call the place behind what the callee asks for.
 #![tactic(auto)]
 
+mod behind;
 mod explanation;
 mod report;
 mod story;
 mod trail;
 
+pub use behind::{ExplainedAs, FaultsBehind};
 pub use mlk_explain_origins::Grounds;
 pub use mlk_explain_rules::free_reads;
-pub use report::{explained_rows, note_below, stories_of};
+pub use report::{explained_rows, notes_below, stories_of};
 pub use story::{OriginStory, Story, WayPoint};

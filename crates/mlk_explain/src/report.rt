@@ -1,22 +1,50 @@
 // The text of a report with explanations.
 
+use crate::behind::FaultsBehind;
 use crate::explanation::Explainer;
 use crate::story::Story;
 use mlk_calls::Entries;
 use mlk_explain_origins::Grounds;
 use mlk_explain_rules::RuleFile;
+use mlk_report_text::Piece::{Bytes, Number, Words};
+use mlk_report_text::push_all;
 use mlk_walk::{Checks, Report};
 use std::alloc::{AllocError, Global};
 
 const HIDDEN_FAULTS: &str =
     "note: one fault often hides others behind it on its path; verify again when these are mended\n";
 
-/// The note below the answer to a report: `verify` is run again once its faults are mended, so it says that there may be more.
-pub fn note_below(grounds: &Grounds<'_>, report: &Report) -> &'static str {
-    if grounds.is_made && !report.rows().is_empty() {
-        return HIDDEN_FAULTS;
+// Appends the faults that are found behind those of a report.
+fn push_behind(text: &mut Vec<u8>, behind: &FaultsBehind) -> Result<(), AllocError> {
+    if behind.rows().is_empty() {
+        return Ok(());
     }
-    ""
+    let count = Number(behind.rows().len());
+    push_all(
+        text,
+        &[
+            Words("note: if these were mended, the check would find "),
+            count,
+            Words(" more, not counted above:\n"),
+            Bytes(behind.text()),
+        ],
+    )
+}
+
+/// The notes below the answer to a report: the faults behind its own; and if `verify` made the certificate, that it is run again
+/// once these are mended, since there may be more.
+pub fn notes_below(
+    alloc: Global,
+    grounds: &Grounds<'_>,
+    report: &Report,
+    behind: &FaultsBehind,
+) -> Result<Vec<u8>, AllocError> {
+    let mut text = Vec::new(alloc);
+    push_behind(&mut text, behind)?;
+    if grounds.is_made && !report.rows().is_empty() {
+        text.extend_from_slice(HIDDEN_FAULTS.as_bytes())?;
+    }
+    Ok(text)
 }
 
 /// The story of each row of a report, in their order: what its explanation says, in pieces.

@@ -1,7 +1,7 @@
 // The place behind what a callee asks of its caller.
 
 use mlk_cert_parts::Summary;
-use mlk_explain_origins::{Ask, Trail, need_like, trail_of};
+use mlk_explain_origins::{Ask, Trail, named_need, need_like, trail_of};
 use mlk_explain_places::{LockSet, Place, missing_in, push_entry};
 use mlk_names::{KnownSym, LockTerm};
 use mlk_program::{EntryId, Program};
@@ -16,18 +16,6 @@ use std::alloc::{AllocError, Global};
 struct Question {
     entry: EntryId,
     ask: Ask,
-}
-
-fn has_local(term: &LockTerm) -> bool {
-    term.subs
-        .as_slice()
-        .iter()
-        .any(|symbol| matches!(symbol, KnownSym::Local(_)))
-}
-
-// The first need that a local names: a call with an unknown actual can't meet it.
-fn named_need(summary: &Summary) -> Option<&LockTerm> {
-    summary.need.as_slice().iter().find(|need| has_local(need))
 }
 
 // The first local that names the lock.

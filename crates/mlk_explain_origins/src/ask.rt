@@ -1,13 +1,13 @@
 // What an entry asks of its callers.
 
 use mlk_cert_parts::{NameSet, Summary};
-use mlk_names::LockTerm;
+use mlk_names::{KnownSym, LockTerm};
 use mlk_text::{Code, Name};
 use mlk_walk_exprs::{Fault, Mend};
 use std::alloc::AllocError;
 
 /// A part of an entry's summary that a caller has to meet.
-#[derive(Drop)]
+#[derive(Drop, PartialEq, Eq)]
 pub enum Ask {
     /// callers hold this lock, in the entry's own terms
     Need(LockTerm),
@@ -53,6 +53,18 @@ pub fn need_like<'a>(summary: &'a Summary, term: &LockTerm) -> Option<&'a LockTe
     let is_alike = |need: &&LockTerm| need.root == term.root && need.subs.as_slice().len() == count;
     let alike = needs.iter().find(is_alike);
     alike.or_else(|| needs.iter().find(|need| need.root == term.root))
+}
+
+fn has_local(term: &LockTerm) -> bool {
+    term.subs
+        .as_slice()
+        .iter()
+        .any(|symbol| matches!(symbol, KnownSym::Local(_)))
+}
+
+/// The first need of `summary` that a local names: a call with an unknown actual can't meet it.
+pub fn named_need(summary: &Summary) -> Option<&LockTerm> {
+    summary.need.as_slice().iter().find(|need| has_local(need))
 }
 
 // How a fault for want of locks is behind the need of `term`.

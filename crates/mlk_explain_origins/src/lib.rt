@@ -9,8 +9,8 @@ mod origin;
 mod routine;
 mod weakened;
 
-pub use ask::{Ask, may_change, need_like};
+pub use ask::{Ask, may_change, named_need, need_like};
 pub use grounds::Grounds;
-pub use nearby::{LockEvent, LockEvents, events_near};
-pub use origin::{Origin, Trail, trail_of};
+pub use nearby::{LockEvent, LockEvents, events_near, has_root};
+pub use origin::{Origin, Trail, origins_of, trail_of};
 pub use routine::{Mark, RoutineFacts};

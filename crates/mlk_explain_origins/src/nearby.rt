@@ -32,8 +32,8 @@ pub struct LockEvents {
     pub after: Option<(LockEvent, LineNumber)>,
 }
 
-// Whether the name in a LOCK has this root.
-fn has_root(variable: &Variable, root: &Root) -> bool {
+/// Whether the name in a LOCK has this root.
+pub fn has_root(variable: &Variable, root: &Root) -> bool {
     match (&variable.name, root) {
         (Expr::Global(_, global, _), Root::Global(other)) => *global == *other,
         (Expr::Local(local, _), Root::Local(other)) => *local == *other,

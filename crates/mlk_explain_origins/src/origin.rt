@@ -1,16 +1,19 @@
-// The place behind what an entry asks of its callers, and the calls on the way to it.
+// The places behind what an entry asks of its callers, and the calls on the way to them.
 
 use crate::ask::{Ask, Cause};
 use crate::grounds::Grounds;
-use crate::routine::{Mark, RoutineFacts};
+use crate::routine::RoutineFacts;
 use crate::weakened::weaken;
 use mlk_program::EntryId;
 use mlk_walk::{Checks, verdict_by};
 use mlk_walk_exprs::{Fault, Note};
 use std::alloc::{AllocError, Global};
 
-// How many calls are followed at most.
+// How many calls are followed at most, one after another.
 const MOST_CALLS: usize = 32;
+
+// In how many entries places are looked for at most.
+const MOST_ENTRIES: usize = 256;
 
 /// A place in the lines of an entry, with what the walk notes there.
 #[derive(Drop)]
@@ -28,45 +31,50 @@ pub struct Trail {
     pub origin: Origin,
 }
 
-// What is asked by an entry, and the entries that were looked at before.
-#[derive(Drop)]
+// What is asked by an entry.
+#[derive(Drop, PartialEq, Eq)]
 struct Step {
     entry: EntryId,
     ask: Ask,
 }
 
-// The first place of the entry's own lines behind what it asks, or its first call, if there is one.
-#[derive(Drop)]
-struct Causes {
-    line: Option<Origin>,
-    call: Option<Origin>,
-}
-
-// The places behind what an entry asks: those that the walk finds if it does not ask.
-fn causes_of(alloc: Global, checks: &Checks<'_>, step: &Step) -> Result<Causes, AllocError> {
-    let mut causes = Causes {
-        line: None,
-        call: None,
-    };
+// The places behind what an entry asks, in their order: those that the walk finds if it does not ask.
+fn causes_of(
+    alloc: Global,
+    checks: &Checks<'_>,
+    step: &Step,
+) -> Result<Vec<(Cause, Origin)>, AllocError> {
+    let mut causes = Vec::new(alloc);
     let Some(block) = checks.entries.block(step.entry) else {
         return Ok(causes);
     };
     let weakened = weaken(alloc, block, &step.ask)?;
     let verdict = verdict_by(alloc, checks, step.entry, &weakened)?;
     for (fault, note) in verdict.into_notes() {
-        let cause = step.ask.cause(&fault, &note.mend);
+        let Some(cause) = step.ask.cause(&fault, &note.mend) else {
+            continue;
+        };
         let origin = Origin {
             entry: step.entry,
             fault,
             note,
         };
-        match cause {
-            Some(Cause::Line) if causes.line.is_none() => causes.line = Some(origin),
-            Some(Cause::Call) if causes.call.is_none() => causes.call = Some(origin),
-            _ => {}
-        }
+        causes.push((cause, origin))?;
     }
     Ok(causes)
+}
+
+// The first place of an entry's own lines behind what it asks, or its first call, if there is one.
+fn first_place(causes: Vec<(Cause, Origin)>) -> Option<Origin> {
+    let mut call = None;
+    for (cause, place) in causes {
+        match cause {
+            Cause::Line => return Some(place),
+            Cause::Call if call.is_none() => call = Some(place),
+            Cause::Call => {}
+        }
+    }
+    call
 }
 
 // What the entry that is called at a place is asked; `None` if no call is there, or its callee asks for nothing of the kind.
@@ -77,12 +85,8 @@ fn step_into(
     place: &Origin,
     ask: &Ask,
 ) -> Result<Option<Step>, AllocError> {
-    let routine = place.entry.routine();
-    let facts = RoutineFacts::of(alloc, grounds, routine)?;
-    let Some(Mark::Call(callee)) = facts.mark(place.fault.line, place.fault.column) else {
-        return Ok(None);
-    };
-    let Some(entry) = checks.program.target(routine, callee) else {
+    let facts = RoutineFacts::of(alloc, grounds, place.entry.routine())?;
+    let Some(entry) = facts.target(checks.program, place.fault) else {
         return Ok(None);
     };
     let Some(summary) = checks.entries.summary(entry) else {
@@ -106,8 +110,7 @@ pub fn trail_of(
     let mut calls = Vec::new(alloc);
     let mut step = Step { entry, ask };
     for _ in 0..MOST_CALLS {
-        let Causes { line, call } = causes_of(alloc, checks, &step)?;
-        let Some(place) = line.or(call) else {
+        let Some(place) = first_place(causes_of(alloc, checks, &step)?) else {
             return Ok(None);
         };
         let Some(next) = step_into(alloc, grounds, checks, &place, &step.ask)? else {
@@ -120,4 +123,55 @@ pub fn trail_of(
         step = next;
     }
     Ok(None)
+}
+
+// What was found so far: places, and what other entries ask that are called on the way.
+#[derive(Drop)]
+struct Found {
+    origins: Vec<Origin>,
+    left: Vec<Step>,
+}
+
+// Adds the places behind what an entry asks, or for those that are calls what their callees ask.
+fn look_behind(
+    alloc: Global,
+    grounds: &Grounds<'_>,
+    checks: &Checks<'_>,
+    step: &Step,
+    found: &mut Found,
+) -> Result<(), AllocError> {
+    for (_, place) in causes_of(alloc, checks, step)? {
+        match step_into(alloc, grounds, checks, &place, &step.ask)? {
+            Some(next) => found.left.push(next)?,
+            None => found.origins.push(place)?,
+        }
+    }
+    Ok(())
+}
+
+/// Finds the places behind what `entry` asks of its callers, each the first of its kind on some way through its entry; in at
+/// most 256 entries.
+pub fn origins_of(
+    alloc: Global,
+    grounds: &Grounds<'_>,
+    checks: &Checks<'_>,
+    entry: EntryId,
+    ask: Ask,
+) -> Result<Vec<Origin>, AllocError> {
+    let mut seen = Vec::new(alloc);
+    let mut found = Found {
+        origins: Vec::new(alloc),
+        left: vec![in alloc; Step { entry, ask }]?,
+    };
+    for _ in 0..MOST_ENTRIES {
+        let Some(step) = found.left.pop() else {
+            break;
+        };
+        if seen.iter().any(|other| *other == step) {
+            continue;
+        }
+        look_behind(alloc, grounds, checks, &step, &mut found)?;
+        seen.push(step)?;
+    }
+    Ok(found.origins)
 }

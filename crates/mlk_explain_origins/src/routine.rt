@@ -2,9 +2,11 @@
 
 use crate::grounds::Grounds;
 use bstr::ByteSlice;
+use mlk_program::{EntryId, Program};
 use mlk_survey_trees::{Mention, MentionAt, Usage, mentions_of};
-use mlk_syntax::{Callee, Variable};
+use mlk_syntax::{Callee, LockArgument, Variable};
 use mlk_text::{Column, LineNumber};
+use mlk_walk_exprs::Fault;
 use std::alloc::{AllocError, Global};
 
 /// What is at a column of a line.
@@ -120,5 +122,61 @@ impl<'a> RoutineFacts<'a> {
             mark = mark_after(mark, &at.mention, column);
         }
         mark
+    }
+
+    /// The entry that is called where `fault` is; `None` if no call is there.
+    pub fn target(&self, program: &Program<'_>, fault: Fault) -> Option<EntryId> {
+        match self.mark(fault.line, fault.column) {
+            Some(Mark::Call(callee)) => program.target(self.number, callee),
+            _ => None,
+        }
+    }
+
+    /// The argument of LOCK that has a name at a column of a line.
+    pub fn lock_argument(&self, line: LineNumber, column: Column) -> Option<&'a LockArgument> {
+        for at in self
+            .mentions
+            .as_slice()
+            .iter()
+            .skip(self.first_mention(line))
+        {
+            if at.line != line {
+                break;
+            }
+            if let Mention::Lock(argument) = &at.mention
+                && lock_at(argument.names.as_slice(), column).is_some()
+            {
+                return Some(*argument);
+            }
+        }
+        None
+    }
+
+    /// The places at which the global `name` is used on the lines from `first` to `last`: the column of its `^`, with its line.
+    pub fn uses_of(
+        &self,
+        alloc: Global,
+        name: &[u8],
+        first: LineNumber,
+        last: LineNumber,
+    ) -> Result<Vec<(LineNumber, Column)>, AllocError> {
+        let mut uses = Vec::new(alloc);
+        for at in self
+            .mentions
+            .as_slice()
+            .iter()
+            .skip(self.first_mention(first))
+        {
+            if at.line > last {
+                break;
+            }
+            match &at.mention {
+                Mention::Global(column, global, _) if global.as_bytes() == name => {
+                    uses.push((at.line, *column))?;
+                }
+                _ => {}
+            }
+        }
+        Ok(uses)
     }
 }

@@ -3,7 +3,7 @@
 use crate::names::{is_named_by, is_written, name_at, root_of};
 use crate::reason::{Reason, reason_at};
 use mlk_cert_parts::{Summary, Test};
-use mlk_explain_origins::{Grounds, Mark, RoutineFacts, may_change};
+use mlk_explain_origins::{Grounds, Mark, RoutineFacts, has_root, may_change};
 use mlk_names::{KnownSym, LockName, LockTerm, prefix};
 use mlk_program::EntryId;
 use mlk_rules::{Cover, ReadPolicy, rank_of};
@@ -58,15 +58,6 @@ pub struct Place<'a> {
     pub name: &'a [u8],
     /// why a lock that is missing is not held
     pub reason: Reason,
-}
-
-// Whether the root of a lock's name is this one.
-fn has_root(name: &Variable, root: &Root) -> bool {
-    match (&name.name, root) {
-        (Expr::Global(_, global, _), Root::Global(other)) => *global == *other,
-        (Expr::Local(local, _), Root::Local(other)) => *local == *other,
-        _ => false,
-    }
 }
 
 fn subscripts_of(name: &Variable) -> &[Subscript] {

@@ -41,8 +41,8 @@ IsReportIn Text trees rows hazards text = text ≡ report_text trees rows ++ haz
 IsReportIn Json trees rows hazards text = IsJson rows text
 IsReportIn Sarif trees rows hazards text = IsSarif rows hazards text
 
--- The text of a report whose faults are explained. What it says of each fault is not said; then come the answer, perhaps a note,
--- and a line for each hazard.
+-- The text of a report whose faults are explained. What it says of each fault is not said; then come the answer, perhaps notes, which
+-- may list faults behind these, and a line for each hazard.
 abbrev pub IsExplained : List Row → List HazardAt → List ℕ → Type 0
 IsExplained rows hazards text = (faults note : List ℕ) × (text ≡ ((faults ++ last_line rows) ++ note) ++ hazard_lines hazards)
 

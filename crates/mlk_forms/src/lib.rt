@@ -8,5 +8,5 @@ mod survey;
 
 pub use notice::render_notice;
 pub use page::render_pages;
-pub use report::{PrintedReport, render_report};
+pub use report::{Explanations, PrintedReport, render_report};
 pub use survey::{PrintedSurvey, render_survey};

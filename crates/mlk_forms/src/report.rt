@@ -7,7 +7,7 @@ ghost use Rattle.mlk_forms.specs.Rendering.{AreReported, IsExplained, IsJson, Is
 
 use crate::notice::with_end;
 use mlk_cli::{Output, ReportStyle};
-use mlk_explain::{Grounds, Story, explained_rows, note_below, stories_of};
+use mlk_explain::{FaultsBehind, Grounds, Story, explained_rows, notes_below, stories_of};
 use mlk_hazards::{HazardAt, hazards_of};
 use mlk_output::{Findings, Inputs, report_json, report_sarif};
 use mlk_pool::{ReportText, push_answer, report_text};
@@ -23,6 +23,14 @@ pub struct PrintedReport {
     pub text: ReportText,
     /// whether there is no fault, and no hazard if these are reported
     pub passes: bool,
+}
+
+/// What explains a report.
+#[derive(Clone, Copy, Drop)]
+pub struct Explanations<'a> {
+    pub grounds: &'a Grounds<'a>,
+    /// in the form that the style of the report asks for
+    pub behind: &'a FaultsBehind,
 }
 
 // The hazards that are reported: none, unless they are asked for.
@@ -114,52 +122,54 @@ fn stories_in(
     stories_of(alloc, grounds, report)
 }
 
-// The text of explained faults, with the answer, `note` and a line for each hazard below it.
+// The text of explained faults, with the answer, `notes` and a line for each hazard below it.
 fn text_below(
     alloc: Global,
     faults: Vec<u8>,
-    note: &str,
+    notes: &[u8],
     report: &Report,
     hazards: &[HazardAt<'_>],
 ) -> Result<ReportText, AllocError>
-    ensures { IfOk result (λ text. text ≡ ((faults.items ++ last_line report.now) ++ note.now) ++ hazard_lines hazards.now) }
+    ensures { IfOk result (λ text. text ≡ ((faults.items ++ last_line report.now) ++ notes.now) ++ hazard_lines hazards.now) }
 {
     let mut text = ReportText::of(faults);
     push_answer(&mut text, report.rows())?;
-    text.push(note.as_bytes())?;
+    text.push(notes)?;
     push_hazards(alloc, &mut text, hazards)?;
     Ok(text)
 }
 
-// The text with explanations, by these grounds.
+// The text with explanations.
 fn explained_text(
     alloc: Global,
-    grounds: &Grounds<'_>,
+    explanations: &Explanations<'_>,
     report: &Report,
     hazards: &[HazardAt<'_>],
 ) -> Result<ReportText, AllocError>
     ensures { IfOk result (IsExplained report.now hazards.now) }
 {
-    let faults = explained_faults(alloc, grounds, report)?;
-    let note = note_below(grounds, report);
-    let text = text_below(alloc, faults, note, report, hazards)?;
+    let faults = explained_faults(alloc, explanations.grounds, report)?;
+    let notes = notes_below(alloc, explanations.grounds, report, explanations.behind)?;
+    let below = notes.as_slice();
+    let text = text_below(alloc, faults, below, report, hazards)?;
     Ok(text)
 }
 
-// The faults, each with what `grounds` know of it, and the hazards.
+// The faults, each with what is known of it, those behind them, and the hazards.
 fn findings_of<'a>(
     alloc: Global,
-    grounds: &Grounds<'_>,
+    explanations: &Explanations<'a>,
     report: &'a Report,
     hazards: &'a [HazardAt<'a>],
     is_strict: bool,
 ) -> Result<Findings<'a>, AllocError>
     ensures { IfOk result (λ findings. (findings.report.now ≡ report.now) × (findings.hazards.now ≡ hazards.now)) }
 {
-    let stories = stories_in(alloc, grounds, report)?;
+    let stories = stories_in(alloc, explanations.grounds, report)?;
     Ok(Findings {
         report,
         stories,
+        behind: explanations.behind,
         hazards,
         is_strict,
     })
@@ -194,18 +204,18 @@ fn text_in(
     report: &Report,
     style: ReportStyle,
     hazards: &[HazardAt<'_>],
-    grounds: &Grounds<'_>,
+    explanations: &Explanations<'_>,
 ) -> Result<ReportText, AllocError>
     ensures { IfOk result (IsReportIn style.output (map routine_of inputs.now.routines.now) report.now hazards.now) }
 {
     match style.output {
         Output::Text => plain_text(alloc, inputs.routines, report, hazards),
         Output::Json => {
-            let findings = findings_of(alloc, grounds, report, hazards, style.is_strict)?;
+            let findings = findings_of(alloc, explanations, report, hazards, style.is_strict)?;
             json_text(alloc, inputs, &findings)
         }
         Output::Sarif => {
-            let findings = findings_of(alloc, grounds, report, hazards, style.is_strict)?;
+            let findings = findings_of(alloc, explanations, report, hazards, style.is_strict)?;
             sarif_text(alloc, inputs, &findings)
         }
     }
@@ -218,14 +228,14 @@ fn styled_text(
     report: &Report,
     style: ReportStyle,
     hazards: &[HazardAt<'_>],
-    grounds: &Grounds<'_>,
+    explanations: &Explanations<'_>,
 ) -> Result<ReportText, AllocError>
     ensures { IfOk result (IsReportAs style.is_explained style.output (map routine_of inputs.now.routines.now) report.now hazards.now) }
 {
     if style.is_explained {
-        return explained_text(alloc, grounds, report, hazards);
+        return explained_text(alloc, explanations, report, hazards);
     }
-    text_in(alloc, inputs, report, style, hazards, grounds)
+    text_in(alloc, inputs, report, style, hazards, explanations)
 }
 
 fn passes(report: &Report, hazards: &[HazardAt<'_>]) -> bool
@@ -234,19 +244,19 @@ fn passes(report: &Report, hazards: &[HazardAt<'_>]) -> bool
     report.rows().is_empty() && hazards.is_empty()
 }
 
-/// Writes `report` in the `style` that is asked for, and says whether it passes. `grounds` explain it, if that is asked for.
+/// Writes `report` in the `style` that is asked for, and says whether it passes. `explanations` explain it, if that is asked for.
 pub fn render_report(
     alloc: Global,
     inputs: &Inputs<'_>,
     report: &Report,
     style: ReportStyle,
-    grounds: &Grounds<'_>,
+    explanations: &Explanations<'_>,
 ) -> Result<PrintedReport, AllocError>
     ensures { IfOk result (λ printed. IsRendered style (map routine_of inputs.now.routines.now) report.now printed.text printed.passes) }
 {
     let hazards = reported_hazards(alloc, inputs.routines, style.is_strict)?;
     let reported = hazards.as_slice();
-    let text = styled_text(alloc, inputs, report, style, reported, grounds)?;
+    let text = styled_text(alloc, inputs, report, style, reported, explanations)?;
     let passes = passes(report, reported);
     Ok(PrintedReport { text, passes })
 }

@@ -8,7 +8,7 @@ use crate::notice::{Notice, Place};
 use crate::row::{Inputs, RoutineNumbers};
 use crate::story::{Findings, add_story, texts_value};
 use mlk_code_pages::page_of;
-use mlk_explain::Story;
+use mlk_explain::{FaultsBehind, Story};
 use mlk_hazards::HazardAt;
 use mlk_report_text::{Field, object};
 use mlk_walk::Row;
@@ -88,6 +88,20 @@ fn hazards_value(
     Ok(Value::Array(values))
 }
 
+/// The faults behind those of a report, as a list.
+pub(crate) fn behind_value(
+    alloc: Global,
+    inputs: &Inputs<'_>,
+    behind: &FaultsBehind,
+) -> Result<Value, AllocError> {
+    let rows = behind.rows();
+    let mut values = Vec::with_capacity(alloc, rows.len())?;
+    for (number, row) in rows.iter().enumerate() {
+        values.push(row_value(alloc, inputs, row, behind.story(number))?)?;
+    }
+    Ok(Value::Array(values))
+}
+
 // The members of a report besides its answer and its faults.
 fn other_members(
     alloc: Global,
@@ -95,6 +109,10 @@ fn other_members(
     findings: &Findings<'_>,
 ) -> Result<Members, AllocError> {
     let mut members = Map::new(alloc);
+    if !findings.behind.rows().is_empty() {
+        let behind = behind_value(alloc, inputs, findings.behind)?;
+        put(&mut members, alloc, "behind", behind)?;
+    }
     if findings.is_strict {
         let hazards = hazards_value(alloc, inputs, findings.hazards)?;
         put(&mut members, alloc, "hazards", hazards)?;
@@ -107,7 +125,8 @@ fn other_members(
 }
 
 /// Writes `findings` as one JSON object, on lines with indents: `answer`, which is `yes` or `no`, `faults`, in their order, each
-/// with what is known of it, `hazards`, if these are reported, and `free_reads`, if rules free reads.
+/// with what is known of it, `behind`, if there are faults behind these, `hazards`, if these are reported, and `free_reads`, if rules
+/// free reads.
 pub fn report_json(
     alloc: Global,
     inputs: &Inputs<'_>,

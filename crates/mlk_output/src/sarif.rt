@@ -7,13 +7,14 @@ use crate::document::{Members, put_text, sarif_document};
 use crate::finding::{Finding, WayStep, fingerprints_value, result_value};
 use crate::hash::{HashedLine, HashedLines, ProgramLines};
 use crate::hazard::hazard_is_what;
+use crate::json::behind_value;
 use crate::notice::{Notice, Place};
 use crate::region::{ROOT, file_value, physical_value};
 use crate::row::{Inputs, RoutineNumbers};
 use crate::rule::{all_rules_values, rule_id, rules_values};
 use crate::story::{Findings, story_line};
 use mlk_code_pages::page_of;
-use mlk_explain::{Story, WayPoint};
+use mlk_explain::{FaultsBehind, Story, WayPoint};
 use mlk_hazards::HazardAt;
 use mlk_report_text::Piece::{Bytes, Number, Words};
 use mlk_report_text::{Field, escape_bytes, member, object, text_of};
@@ -220,7 +221,23 @@ fn invocation_value(alloc: Global, results: usize) -> Result<Value, AllocError> 
     object(alloc, members)
 }
 
-/// Writes `findings` as SARIF: a result for each fault, in their order, and one for each hazard, if these are reported.
+// Adds the faults behind those of a report to the properties of its run: they are no results.
+fn add_behind(
+    alloc: Global,
+    inputs: &Inputs<'_>,
+    behind: &FaultsBehind,
+    run: &mut Members,
+) -> Result<(), AllocError> {
+    if behind.rows().is_empty() {
+        return Ok(());
+    }
+    let faults = behind_value(alloc, inputs, behind)?;
+    let properties = member(alloc, "behind", Field::Value(faults))?;
+    put(run, alloc, "properties", properties)
+}
+
+/// Writes `findings` as SARIF: a result for each fault, in their order, and one for each hazard, if these are reported. The faults
+/// behind these are no results, but a property of the run.
 pub fn report_sarif(
     alloc: Global,
     inputs: &Inputs<'_>,
@@ -237,7 +254,8 @@ pub fn report_sarif(
         rules_values(alloc)?
     };
     let invocation = invocation_value(alloc, results.len())?;
-    let run = run_members(alloc, rules, invocation)?;
+    let mut run = run_members(alloc, rules, invocation)?;
+    add_behind(alloc, inputs, findings.behind, &mut run)?;
     sarif_document(alloc, results, run)
 }
 

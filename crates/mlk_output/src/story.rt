@@ -1,7 +1,7 @@
 // What is known of a fault, beside its code and its place.
 
 use crate::row::Inputs;
-use mlk_explain::{OriginStory, Story, WayPoint};
+use mlk_explain::{FaultsBehind, OriginStory, Story, WayPoint};
 use mlk_hazards::HazardAt;
 use mlk_report_text::Piece::{Bytes, Listed, Words};
 use mlk_report_text::{Field, escape_bytes, object, text_of};
@@ -9,11 +9,12 @@ use mlk_walk::Report;
 use serde_json::Value;
 use std::alloc::{AllocError, Global};
 
-/// What is reported: the faults, what is known of each, in their order and as far as anything is, and hazards.
+/// What is reported: the faults, what is known of each, in their order and as far as anything is, those behind them, and hazards.
 #[derive(Drop)]
 pub struct Findings<'a> {
     pub report: &'a Report,
     pub stories: Vec<Option<Story>>,
+    pub behind: &'a FaultsBehind,
     /// empty unless hazards are reported
     pub hazards: &'a [HazardAt<'a>],
     /// whether hazards are reported, even if there is none

@@ -13,4 +13,4 @@ returns c =
     let rows = c.args.report.now in
     let in_style = subst (λ s. IsRendered s (map routine_of c.routines.result.now) rows printed.text printed.passes) c.style_in-style.ensures c.in_ok-printed.ensures in
     let of_program = subst (λ l. IsRendered style (map routine_of l) rows printed.text printed.passes) c.routines.ensures in_style in
-    report-printed style (map routine_of c.args.grounds.now.program.now) rows printed.text printed.passes c.status_of-status.result of_program c.status_of-status.ensures
+    report-printed style (map routine_of c.args.explanations.now.grounds.now.program.now) rows printed.text printed.passes c.status_of-status.result of_program c.status_of-status.ensures

@@ -1,0 +1,209 @@
+// What is found behind the faults of a report.
+
+use crate::source::Sources;
+use crate::stuck::{WORKERS, found};
+use mlk_behind::{KnownFaults, Patch, mended_texts, next_round};
+use mlk_calls::Entries;
+use mlk_cli::{Output, ReportStyle};
+use mlk_explain::{ExplainedAs, FaultsBehind, Grounds};
+use mlk_make::make_certificate;
+use mlk_outcome::OpenGate;
+use mlk_pool::{Source, read_routines, report_by};
+use mlk_program::{Program, link};
+use mlk_walk::{Checks, Report};
+use mlk_watch::Watch;
+use std::alloc::{AllocError, Global};
+use std::sync::Wait;
+use std::thread::Threads;
+
+// How often faults are mended at most, each time all that were found.
+const MOST_ROUNDS: usize = 16;
+
+/// Looks for what is behind the faults of a report: its routines are mended at these faults, as far as a text can be, and checked
+/// again by a certificate that is made of them; and so on with the faults that are found then.
+#[derive(Drop)]
+pub(crate) struct Search<'a> {
+    alloc: Global,
+    sources: &'a Sources<'a>,
+    // what explains the report that was given
+    grounds: &'a Grounds<'a>,
+    known: KnownFaults,
+    behind: FaultsBehind,
+}
+
+// In which form faults are explained in this style.
+fn form_in(style: ReportStyle) -> ExplainedAs {
+    match style.output {
+        Output::Text => ExplainedAs::Text,
+        Output::Json | Output::Sarif => ExplainedAs::Stories,
+    }
+}
+
+/// Whether a report in this style says more than its faults.
+pub(crate) fn is_explained(style: ReportStyle) -> bool {
+    style.is_explained || style.output != Output::Text
+}
+
+// The routines with these texts.
+fn sources_with<'a>(
+    alloc: Global,
+    sources: &Sources<'a>,
+    texts: &[Vec<u8>],
+) -> Result<Vec<Source<'a>>, AllocError> {
+    let mut mended = Vec::with_capacity(alloc, texts.len())?;
+    for (source, text) in sources.routines.iter().zip(texts) {
+        let text = Vec::from_slice(alloc, text.as_slice())?;
+        let stem = source.stem;
+        let Ok(()) = mended.push(Source { stem, text }) else {
+            return Err(AllocError);
+        };
+    }
+    Ok(mended)
+}
+
+impl<'a> Search<'a> {
+    /// One that has found nothing. What it finds is explained as a report in this style is.
+    pub(crate) fn new(
+        alloc: Global,
+        sources: &'a Sources<'a>,
+        grounds: &'a Grounds<'a>,
+        style: ReportStyle,
+    ) -> Search<'a> {
+        Search {
+            alloc,
+            sources,
+            grounds,
+            known: KnownFaults::new(alloc),
+            behind: FaultsBehind::new(alloc, form_in(style)),
+        }
+    }
+
+    // What mends the faults of a report, where `given` is what is known of the entries by the report that was given. The faults are
+    // known from then on, and those that are new are explained, unless the report is the given one.
+    fn learn(
+        &mut self,
+        given: &Entries<'_>,
+        grounds: &Grounds<'_>,
+        report: &Report,
+        is_given: bool,
+    ) -> Result<Vec<Patch>, AllocError> {
+        let blocks = grounds.certificate.blocks();
+        let entries = Entries::of(self.alloc, grounds.program, grounds.rules, blocks)?;
+        let checks = Checks {
+            program: grounds.program,
+            rules: grounds.rules,
+            entries: &entries,
+        };
+        let round = next_round(self.alloc, grounds, &checks, given, report, &mut self.known)?;
+        if !is_given {
+            let shown = Grounds {
+                texts: self.grounds.texts,
+                ..*grounds
+            };
+            let new = round.new.as_slice();
+            self.behind.add(self.alloc, &shown, &checks, report, new)?;
+        }
+        Ok(round.patches)
+    }
+
+    // Checks a program whose routines have these texts: what mends the faults that are found. Nothing does if no certificate can be
+    // made of it.
+    fn check<R: Threads + Wait + Sync, W: Watch>(
+        &mut self,
+        rt: &R,
+        given: &Entries<'_>,
+        program: &Program<'_>,
+        texts: &[Vec<u8>],
+        watch: &W,
+    ) -> Result<Vec<Patch>, AllocError> {
+        let (alloc, rules) = (self.alloc, self.grounds.rules);
+        let nothing = Vec::new(alloc);
+        let Some(certificate) = found(make_certificate(alloc, program, rules, watch))? else {
+            return Ok(nothing);
+        };
+        let report = report_by(
+            rt,
+            alloc,
+            program,
+            rules,
+            &certificate,
+            WORKERS,
+            &OpenGate,
+            watch,
+        );
+        let Some(report) = found(report)? else {
+            return Ok(nothing);
+        };
+        let grounds = Grounds {
+            program,
+            texts,
+            rules,
+            rule_text: self.grounds.rule_text,
+            certificate: &certificate,
+            is_made: true,
+        };
+        self.learn(given, &grounds, &report, false)
+    }
+
+    // Reads routines with these texts, and checks them.
+    fn read<R: Threads + Wait + Sync, W: Watch>(
+        &mut self,
+        rt: &R,
+        given: &Entries<'_>,
+        texts: &[Vec<u8>],
+        watch: &W,
+    ) -> Result<Vec<Patch>, AllocError> {
+        let nothing = Vec::new(self.alloc);
+        let sources = sources_with(self.alloc, self.sources, texts)?;
+        let read = read_routines(rt, self.alloc, sources.as_slice(), watch);
+        let Some(routines) = found(read)? else {
+            return Ok(nothing);
+        };
+        let Some(program) = found(link(self.alloc, routines.as_slice()))? else {
+            return Ok(nothing);
+        };
+        self.check(rt, given, &program, texts, watch)
+    }
+
+    // Looks behind the faults that these patches mend, and behind those that are found then.
+    fn look_behind<R: Threads + Wait + Sync, W: Watch>(
+        &mut self,
+        rt: &R,
+        given: &Entries<'_>,
+        patches: &[Patch],
+        watch: &W,
+    ) -> Result<(), AllocError> {
+        let mut texts = mended_texts(self.alloc, self.grounds.texts, patches)?;
+        for _ in 0..MOST_ROUNDS {
+            let patches = self.read(rt, given, texts.as_slice(), watch)?;
+            if patches.is_empty() {
+                break;
+            }
+            texts = mended_texts(self.alloc, texts.as_slice(), patches.as_slice())?;
+        }
+        Ok(())
+    }
+
+    /// Finds the faults behind those of `report`, if a report in this style explains its faults.
+    pub(crate) fn run<R: Threads + Wait + Sync, W: Watch>(
+        self,
+        rt: &R,
+        report: &Report,
+        style: ReportStyle,
+        watch: &W,
+    ) -> Result<FaultsBehind, AllocError> {
+        let mut search = self;
+        if !is_explained(style) || report.is_yes() {
+            return Ok(search.behind);
+        }
+        let grounds = search.grounds;
+        let blocks = grounds.certificate.blocks();
+        let given = Entries::of(search.alloc, grounds.program, grounds.rules, blocks)?;
+        let patches = search.learn(&given, grounds, report, true)?;
+        // The certificate that was given may be at fault itself.
+        if !patches.is_empty() || !grounds.is_made {
+            search.look_behind(rt, &given, patches.as_slice(), watch)?;
+        }
+        Ok(search.behind)
+    }
+}
