@@ -15,7 +15,7 @@ pub(crate) enum CallKind {
 }
 
 /// A call: where it is, what it calls, how, and with which actuals, if it has a list.
-#[derive(Drop)]
+#[derive(Clone, Copy, Drop)]
 pub(crate) struct Call<'a> {
     pub(crate) position: Position<'a>,
     pub(crate) callee: &'a Callee,
