@@ -358,10 +358,11 @@ fn suggestion_of<'a>(
 fn named_by<'a>(alloc: Global, matches: &ArgMatches<'a>) -> Result<WantedStubs<'a>, AllocError>
     ensures { IfOk result (IsWanted (codes "stubs") (rows_of (found_of matches.now))) }
 {
-    match matches.get_strs("for") {
-        None => Ok(WantedStubs::Missing),
-        Some(names) => Ok(WantedStubs::Named(Vec::from_slice(alloc, names)?)),
-    }
+    let Some(words) = matches.get_strs("for") else {
+        return Ok(WantedStubs::Missing);
+    };
+    let names = Vec::from_slice(alloc, words)?;
+    Ok(WantedStubs::Named(names))
 }
 
 // Which routines get a stub by the command of this name, by what it was given.
@@ -381,10 +382,10 @@ fn wanted_by<'a>(
     let Some(true) = flag_of(matches, "stubs") else {
         return Ok(None);
     };
-    if matches.get_str("beside").is_some() {
-        return Ok(None);
+    match matches.get_str("beside") {
+        None => Ok(Some(WantedStubs::MissingAndUnread)),
+        Some(_) => Ok(None),
     }
-    Ok(Some(WantedStubs::MissingAndUnread))
 }
 
 // The stubs that the command of this name asks for, by what it was given.

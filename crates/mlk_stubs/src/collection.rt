@@ -49,12 +49,11 @@ impl<'a> Collection<'a> {
         Ok(())
     }
 
-    // Adds a call of a label.
-    fn add_call(&mut self, label: StubLabel<'a>, call: Call<'a>) -> Result<(), AllocError> {
-        self.add_label(label, LabelUse::new(self.alloc, None))?;
-        match self.labels.get_mut(&label) {
-            None => Ok(()),
-            Some(used) => push_sparing(&mut used.calls, call),
+    // Takes out what a label is for.
+    fn take(&mut self, label: &StubLabel<'a>) -> LabelUse<'a> {
+        match self.labels.remove(label) {
+            Some(used) => used,
+            None => LabelUse::new(self.alloc, None),
         }
     }
 
@@ -70,11 +69,14 @@ impl<'a> Collection<'a> {
                 None => routine,
                 Some(name) => name.as_bytes(),
             };
-            if scope.has(called) {
-                self.begin(called)?;
-                let label = StubLabel::of(called, call.callee.label.as_ref());
-                self.add_call(label, call)?;
+            if !scope.has(called) {
+                continue;
             }
+            self.begin(called)?;
+            let label = StubLabel::of(called, call.callee.label.as_ref());
+            let mut used = self.take(&label);
+            push_sparing(&mut used.calls, call)?;
+            self.labels.insert(label, used)?;
         }
         Ok(())
     }

@@ -5,8 +5,10 @@ use Rattle.clap.proofs.WalkLemmas.{raw_values-rows}
 use Rattle.mlk_cli.specs.CommandLine.{bytes_of}
 use Rattle.mlk_cli.proofs.words.named_by.Goals as goal
 
-pub returns-in-None : goal.returns-in-None
-returns-in-None c = (refl, sym (raw_values-rows (found_of c.args.matches.now) (codes "for")) ∙ sym c.get_strs.ensures ∙ ap (option_map (λ s. bytes_of s.now)) c.in-None.is)
+pub returns-in_default : goal.returns-in_default
+returns-in_default c = (refl, sym (raw_values-rows (found_of c.args.matches.now) (codes "for")) ∙ sym c.in_default.ensures)
 
-pub returns-in-Some : goal.returns-in-Some
-returns-in-Some c = (refl, sym (raw_values-rows (found_of c.args.matches.now) (codes "for")) ∙ sym c.get_strs.ensures ∙ ap (option_map (λ s. bytes_of s.now)) c.in-Some.is ∙ ap (λ l. Some (bytes_of l)) (sym c.in_ok-from_slice.ensures.items))
+pub returns : goal.returns
+returns c =
+    let found = found_of c.args.matches.now in
+    (refl, sym (raw_values-rows found (codes "for")) ∙ sym c.get_strs.ensures ∙ ap (option_map (λ s. bytes_of s.now)) c.in-Some.is ∙ ap (λ l. Some (bytes_of l)) (sym c.in_ok-names.ensures.items))

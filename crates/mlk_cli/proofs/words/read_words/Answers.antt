@@ -4,7 +4,7 @@ use Rattle.clap.specs.declared.error.kind.ErrorKind.TheVariants.{OutOfMemory}
 use Rattle.clap.specs.Words.{HasMatchesOf, kind_of}
 use Rattle.clap.specs.Takes.{takes}
 use Rattle.mlk_cli.specs.CommandLine.{GivesRequest, texts_of}
-use Rattle.mlk_cli_grammar.proofs.Grammar.{is-exact}
+use Rattle.mlk_cli_grammar.proofs.Exact.{is-exact}
 use Rattle.mlk_cli.proofs.words.read_words.Goals as goal
 
 pub returns-clause-asks : goal.returns-clause-asks

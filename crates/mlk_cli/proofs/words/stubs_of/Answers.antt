@@ -17,6 +17,6 @@ pub returns : goal.returns
 returns c =
     let found = found_of c.args.matches.now in
     record {
-      wanted = c.in-Some.ensures;
+      wanted = subst (GivesWanted c.args.name.now (rows_of found)) c.in-Some.is c.in_ok-wanted.ensures;
       routines = sym (raw_values-rows found (codes "ROUTINE")) ∙ sym c.get_strs.ensures ∙ ap (option_map (λ s. bytes_of s.now)) c.in-Some-get_strs.is ∙ ap (λ l. Some (bytes_of l)) (sym c.in_ok-routines.ensures.items);
     }
