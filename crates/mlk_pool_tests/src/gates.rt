@@ -83,12 +83,12 @@ impl Turnstile {
     }
 
     /// Which tasks it was asked for, each as often as its digit says.
-    pub(crate) fn passed(&self) -> u64 {
+    pub(crate) fn passed_tasks(&self) -> u64 {
         self.passed.load(Ordering::SeqCst)
     }
 
     /// Which tasks were posted, each as often as its digit says.
-    pub(crate) fn posted(&self) -> u64 {
+    pub(crate) fn posted_tasks(&self) -> u64 {
         self.posted.load(Ordering::SeqCst)
     }
 

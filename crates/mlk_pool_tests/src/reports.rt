@@ -100,7 +100,7 @@ pub(crate) fn is_verified<R: Threads + Wait + Sync>(
         Err(CheckError::GateShut(task)) => matches!(run.end, End::Shut(least) if least == *task),
         Err(_) => false,
     };
-    Some(is_so && gate.passed() == run.passed && gate.on_post() == run.posted)
+    Some(is_so && gate.passed_tasks() == run.passed && gate.posted_tasks() == run.posted)
 }
 
 #[test]
@@ -162,7 +162,11 @@ pub(crate) fn is_reported<R: Threads + Wait + Sync>(
     let watch = &Unwatched;
     let runner = Runner { rt, alloc, watch };
     let report = report_by(&runner, program, rules, certificate, 2, &gate).ok()?;
-    Some(report.rows().len() == 5 && gate.passed() == EACH_ONCE && gate.on_post() == EACH_ONCE)
+    Some(
+        report.rows().len() == 5
+            && gate.passed_tasks() == EACH_ONCE
+            && gate.posted_tasks() == EACH_ONCE,
+    )
 }
 
 #[test]
