@@ -15,8 +15,7 @@ pub struct CertFault {
 }
 
 /// A fault after the head line, and how many bytes are left there.
-#[derive(Debug, Drop, Error)]
-#[error("{code}, {left} bytes before the end of the text")]
+#[derive(Drop, Debug)]
 pub(crate) struct BlockFault {
     pub code: Code,
     pub left: usize,
