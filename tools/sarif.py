@@ -213,9 +213,14 @@ class Run:
         text = pathlib.Path(self.room, place['path']).read_bytes()
         lines = re.split(rb'\r?\n', text)
         region = where['region']
+        if place['line'] is None:
+            # a rule has no line: SARIF shows its file's first
+            if region['startLine'] != 1 or 'primaryLocationLineHash' in result['partialFingerprints']:
+                yield f'line {region["startLine"]} of a rule, or a hash'
+            return
         if region['startLine'] != place['line']:
             yield f'line {region["startLine"]} in place of {place["line"]}'
-        if place['column'] and place['line'] <= len(lines):
+        if place.get('column') and place['line'] <= len(lines):
             had = region.get('startColumn'), region.get('endColumn')
             if had != columns(lines[place['line'] - 1], place['column']):
                 yield f'columns {had} in place of {columns(lines[place["line"] - 1], place["column"])}'
