@@ -33,16 +33,16 @@ one-not-zero e = omega (arith, e)
 
 -- what is printed of a report
 report-yes : (style : ReportStyle) (trees : List RoutineTree) (rows : List Row) (text : List ℕ) (passed : Bool) → IsRendered style trees rows text passed → status_of passed ≡ 0 → rows ≡ []
-report-yes style trees rows text true told ended = passed-no-row style trees rows text told
-report-yes style trees rows text false told ended = absurd (one-not-zero ended)
+report-yes style trees rows text true printed ended = passed-no-row style trees rows text printed
+report-yes style trees rows text false printed ended = absurd (one-not-zero ended)
 
 pub report-printed : (style : ReportStyle) (trees : List RoutineTree) (rows : List Row) (text : List ℕ) (passed : Bool) (status : ℕ) → IsRendered style trees rows text passed → status ≡ status_of passed
     → IsReportPrinted style trees rows text status
-report-printed style trees rows text passed status told ended = record {
+report-printed style trees rows text passed status printed ended = record {
   passed = passed;
-  told = told;
+  printed = printed;
   ended = ended;
-  yes = λ zero. report-yes style trees rows text passed told (sym ended ∙ zero);
+  yes = λ zero. report-yes style trees rows text passed printed (sym ended ∙ zero);
 }
 
 pub no-notice : (output : Output) → IsNoticed output None
@@ -63,77 +63,77 @@ program-reported holds program sources text status texts (trees, read, (linked, 
   printed = printed;
 }
 
-pub refusal-answers : (holds : Texts) (lacks : List ℕ → Type 0) (program : ProgramRequest) (sources : Sources) (r : NoReport) (a : Answer) → AreTexts holds program sources → IsRefusedSources sources r → TellsRefusal (style_in program.asked).output r a
-    → Answers holds lacks (request.Program program) a
-refusal-answers holds lacks program sources r (answer.Report text status) texts refused told = absurd told
-refusal-answers holds lacks program sources r (answer.Refused line notice help) texts refused told = (
+pub refusal-answers : (holds : Texts) (unreadable : List ℕ → Type 0) (program : ProgramRequest) (sources : Sources) (r : NoReport) (a : Answer) → AreTexts holds program sources → IsRefusedSources sources r → TellsRefusal (style_in program.asked).output r a
+    → Answers holds unreadable (request.Program program) a
+refusal-answers holds unreadable program sources r (answer.Report text status) texts refused printed = absurd printed
+refusal-answers holds unreadable program sources r (answer.Refused line notice help) texts refused printed = (
   record {
     sources = sources;
     texts = texts;
     reason = r;
     refused = refused;
-    printed = told.0;
+    printed = printed.0;
   },
-  told.1,
+  printed.1,
 )
-refusal-answers holds lacks program sources r (answer.Unread line help) texts refused told = absurd told
-refusal-answers holds lacks program sources r (answer.Usage text) texts refused told = absurd told
-refusal-answers holds lacks program sources r answer.OutOfMemory texts refused told = record {}
+refusal-answers holds unreadable program sources r (answer.Unread line help) texts refused printed = absurd printed
+refusal-answers holds unreadable program sources r (answer.Usage text) texts refused printed = absurd printed
+refusal-answers holds unreadable program sources r answer.OutOfMemory texts refused printed = record {}
 
 -- what is answered where a certificate can't be read, or is not converted
-pub unread-answers : (holds : Texts) (lacks : List ℕ → Type 0) (certificate : Bor (List ℕ)) (format : Format) (path : Bor (List ℕ)) (a : Answer) → Loses lacks certificate.now (error.Unread path)
-    → TellsUnread path.now a → Answers holds lacks (request.Convert certificate format) a
-unread-answers holds lacks certificate format path (answer.Report text status) lost told = absurd told
-unread-answers holds lacks certificate format path (answer.Refused line notice help) lost told = absurd told
-unread-answers holds lacks certificate format path (answer.Unread line help) lost told = record {
+pub unread-answers : (holds : Texts) (unreadable : List ℕ → Type 0) (certificate : Bor (List ℕ)) (format : Format) (path : Bor (List ℕ)) (a : Answer) → Loses unreadable certificate.now (error.Unread path)
+    → TellsUnread path.now a → Answers holds unreadable (request.Convert certificate format) a
+unread-answers holds unreadable certificate format path (answer.Report text status) lost printed = absurd printed
+unread-answers holds unreadable certificate format path (answer.Refused line notice help) lost printed = absurd printed
+unread-answers holds unreadable certificate format path (answer.Unread line help) lost printed = record {
   path = path.now;
-  lost = loses-front holds lacks certificate.now [] (error.Unread path) lost;
-  told = told;
+  lost = loses-front holds unreadable certificate.now [] (error.Unread path) lost;
+  printed = printed;
 }
-unread-answers holds lacks certificate format path (answer.Usage text) lost told = absurd told
-unread-answers holds lacks certificate format path answer.OutOfMemory lost told = record {}
+unread-answers holds unreadable certificate format path (answer.Usage text) lost printed = absurd printed
+unread-answers holds unreadable certificate format path answer.OutOfMemory lost printed = record {}
 
-pub fault-answers : (holds : Texts) (lacks : List ℕ → Type 0) (certificate : Bor (List ℕ)) (format : Format) (given : List ℕ) (fault : CertFault) (a : Answer) → holds certificate.now given → IsUnconverted (cert_format format) given (failure.Refused fault)
-    → TellsFault fault a → Answers holds lacks (request.Convert certificate format) a
-fault-answers holds lacks certificate format given fault (answer.Report text status) held refused told = absurd told
-fault-answers holds lacks certificate format given fault (answer.Refused line notice help) held refused told = (
+pub fault-answers : (holds : Texts) (unreadable : List ℕ → Type 0) (certificate : Bor (List ℕ)) (format : Format) (given : List ℕ) (fault : CertFault) (a : Answer) → holds certificate.now given → IsUnconverted (cert_format format) given (failure.Refused fault)
+    → TellsFault fault a → Answers holds unreadable (request.Convert certificate format) a
+fault-answers holds unreadable certificate format given fault (answer.Report text status) held refused printed = absurd printed
+fault-answers holds unreadable certificate format given fault (answer.Refused line notice help) held refused printed = (
   record {
     given = given;
     held = held;
     fault = fault;
     refused = refused;
-    told = told.0;
+    printed = printed.0;
   },
-  told.1,
+  printed.1,
 )
-fault-answers holds lacks certificate format given fault (answer.Unread line help) held refused told = absurd told
-fault-answers holds lacks certificate format given fault (answer.Usage text) held refused told = absurd told
-fault-answers holds lacks certificate format given fault answer.OutOfMemory held refused told = record {}
+fault-answers holds unreadable certificate format given fault (answer.Unread line help) held refused printed = absurd printed
+fault-answers holds unreadable certificate format given fault (answer.Usage text) held refused printed = absurd printed
+fault-answers holds unreadable certificate format given fault answer.OutOfMemory held refused printed = record {}
 
 -- what is answered where a routine of a survey can't be read
-pub unsurveyed-answers : (holds : Texts) (lacks : List ℕ → Type 0) (survey : SurveyRequest) (path : Bor (List ℕ)) (a : Answer) → LosesFirst holds lacks (bytes_of survey.routines.items) (error.Unread path)
-    → TellsUnread path.now a → Answers holds lacks (request.Survey survey) a
-unsurveyed-answers holds lacks survey path (answer.Report text status) lost told = absurd told
-unsurveyed-answers holds lacks survey path (answer.Refused line notice help) lost told = absurd told
-unsurveyed-answers holds lacks survey path (answer.Unread line help) lost told = record {
+pub unsurveyed-answers : (holds : Texts) (unreadable : List ℕ → Type 0) (survey : SurveyRequest) (path : Bor (List ℕ)) (a : Answer) → LosesFirst holds unreadable (bytes_of survey.routines.items) (error.Unread path)
+    → TellsUnread path.now a → Answers holds unreadable (request.Survey survey) a
+unsurveyed-answers holds unreadable survey path (answer.Report text status) lost printed = absurd printed
+unsurveyed-answers holds unreadable survey path (answer.Refused line notice help) lost printed = absurd printed
+unsurveyed-answers holds unreadable survey path (answer.Unread line help) lost printed = record {
   path = path.now;
   lost = lost;
-  told = told;
+  printed = printed;
 }
-unsurveyed-answers holds lacks survey path (answer.Usage text) lost told = absurd told
-unsurveyed-answers holds lacks survey path answer.OutOfMemory lost told = record {}
+unsurveyed-answers holds unreadable survey path (answer.Usage text) lost printed = absurd printed
+unsurveyed-answers holds unreadable survey path answer.OutOfMemory lost printed = record {}
 
 -- what is answered where a page is asked for
-pub page-answers : (holds : Texts) (lacks : List ℕ → Type 0) (code : Bor (List ℕ)) (a : Answer) → TellsPage code.now a → Answers holds lacks (request.Explain code) a
-page-answers holds lacks code (answer.Report text status) told = told
-page-answers holds lacks code (answer.Refused line notice help) told = told
-page-answers holds lacks code (answer.Unread line help) told = absurd told
-page-answers holds lacks code (answer.Usage text) told = absurd told
-page-answers holds lacks code answer.OutOfMemory told = record {}
+pub page-answers : (holds : Texts) (unreadable : List ℕ → Type 0) (code : Bor (List ℕ)) (a : Answer) → TellsPage code.now a → Answers holds unreadable (request.Explain code) a
+page-answers holds unreadable code (answer.Report text status) printed = printed
+page-answers holds unreadable code (answer.Refused line notice help) printed = printed
+page-answers holds unreadable code (answer.Unread line help) printed = absurd printed
+page-answers holds unreadable code (answer.Usage text) printed = absurd printed
+page-answers holds unreadable code answer.OutOfMemory printed = record {}
 
-pub words-answer : {A : Type 0} → (holds : Texts) (lacks : List ℕ → Type 0) (words : List (String A)) (request : Request) (a : Answer) → IsRequest words request → Answers holds lacks request a → AnswersWords holds lacks words a
-words-answer holds lacks words request (answer.Report text status) asked h = (request, asked, h)
-words-answer holds lacks words request (answer.Refused line notice help) asked h = (request, asked, h)
-words-answer holds lacks words request (answer.Unread line help) asked h = (request, asked, h)
-words-answer holds lacks words request (answer.Usage text) asked h = absurd h
-words-answer holds lacks words request answer.OutOfMemory asked h = record {}
+pub words-answer : {A : Type 0} → (holds : Texts) (unreadable : List ℕ → Type 0) (words : List (String A)) (request : Request) (a : Answer) → IsRequest words request → Answers holds unreadable request a → AnswersWords holds unreadable words a
+words-answer holds unreadable words request (answer.Report text status) asked h = (request, asked, h)
+words-answer holds unreadable words request (answer.Refused line notice help) asked h = (request, asked, h)
+words-answer holds unreadable words request (answer.Unread line help) asked h = (request, asked, h)
+words-answer holds unreadable words request (answer.Usage text) asked h = absurd h
+words-answer holds unreadable words request answer.OutOfMemory asked h = record {}

@@ -102,19 +102,19 @@ AreHeld holds [] = Unit {0}
 AreHeld holds (path ∷ paths) = ((text : List ℕ) × holds path text) × AreHeld holds paths
 
 -- the first path of a list that can't be read
-pub record IsFirstLost (holds : Texts) (lacks : List ℕ → Type 0) (paths : List (List ℕ)) (path : List ℕ) : Type 0 where
+pub record IsFirstLost (holds : Texts) (unreadable : List ℕ → Type 0) (paths : List (List ℕ)) (path : List ℕ) : Type 0 where
   pub front : List (List ℕ)
   pub after : List (List ℕ)
   pub cut : paths ≡ front ++ path ∷ after
   pub held : AreHeld holds front
-  pub lost : lacks path
+  pub lost : unreadable path
 
 -- why a file was not read. Want of memory says nothing.
 abbrev pub Loses : (List ℕ → Type 0) → List ℕ → FileError → Type 0
-Loses lacks path error.OutOfMemory = Unit {0}
-Loses lacks path (error.Unread other) = (other.now ≡ path) × lacks path
+Loses unreadable path error.OutOfMemory = Unit {0}
+Loses unreadable path (error.Unread other) = (other.now ≡ path) × unreadable path
 
 -- the same of the first of a list
 abbrev pub LosesFirst : Texts → (List ℕ → Type 0) → List (List ℕ) → FileError → Type 0
-LosesFirst holds lacks paths error.OutOfMemory = Unit {0}
-LosesFirst holds lacks paths (error.Unread path) = IsFirstLost holds lacks paths path.now
+LosesFirst holds unreadable paths error.OutOfMemory = Unit {0}
+LosesFirst holds unreadable paths (error.Unread path) = IsFirstLost holds unreadable paths path.now

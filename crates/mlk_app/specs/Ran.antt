@@ -48,7 +48,7 @@ use Rattle.mlk_outcome.specs.Making.{IsMade, IsUnmade}
 use Rattle.mlk_outcome.specs.Replaying.{IsReplayed, IsUnreplayed}
 use Rattle.mlk_outcome.specs.Conversion.{IsConverted, IsUnconverted}
 
--- how a report is told: as text, without hazards and explanations, unless the words say otherwise
+-- how a report is printed: as text, without hazards and explanations, unless the words say otherwise
 abbrev pub plain_style : ReportStyle
 plain_style = record { output = Plain; is_strict = false; is_explained = false }
 
@@ -71,11 +71,11 @@ abbrev pub status_of : Bool → ℕ
 status_of true = 0
 status_of false = 1
 
--- What is printed of a report, and the status: in whatever form it is told, 0 says that it has no row. In the plain style it
+-- What is printed of a report, and the status: in whatever form it is printed, 0 says that it has no row. In the plain style it
 -- passes if it has none, and the text is that of the report.
 pub record IsReportPrinted (style : ReportStyle) (trees : List RoutineTree) (rows : List Row) (text : List ℕ) (status : ℕ) : Type 0 where
   pub passed : Bool
-  pub told : IsRendered style trees rows text passed
+  pub printed : IsRendered style trees rows text passed
   pub ended : status ≡ status_of passed
   pub yes : status ≡ 0 → rows ≡ []
 
@@ -227,7 +227,7 @@ pub record IsUnconvertedThere (holds : Texts) (path : List ℕ) (format : CertFo
   pub held : holds path given
   pub fault : CertFault
   pub refused : IsUnconverted format given (failure.Refused fault)
-  pub told : line ≡ certificate_line fault
+  pub printed : line ≡ certificate_line fault
 
 -- A survey is made of the texts at the paths, whatever they are: none is refused. What it says is not said.
 pub record IsSurveyed (holds : Texts) (survey : SurveyRequest) : Type 0 where
@@ -248,7 +248,7 @@ pub record IsUnsuggested (holds : Texts) (suggestion : SuggestRequest) (line : L
   pub held : holds path given
   pub fault : RulesFault
   pub refused : RefusesRules given (failure.Refused fault)
-  pub told : line ≡ rules_line fault
+  pub printed : line ≡ rules_line fault
 
 -- Stubs are printed for the texts at the paths, whatever they are: routines, one after another; which ones, nothing says.
 pub record IsStubbed (holds : Texts) (stubs : StubsRequest) (text : List ℕ) : Type 0 where
@@ -257,18 +257,18 @@ pub record IsStubbed (holds : Texts) (stubs : StubsRequest) (text : List ℕ) : 
   pub printed : AreStubs text
 
 -- the first of these paths that can't be read
-pub record IsFirstUnread (holds : Texts) (lacks : List ℕ → Type 0) (paths : List (List ℕ)) (line : List ℕ) : Type 0 where
+pub record IsFirstUnread (holds : Texts) (unreadable : List ℕ → Type 0) (paths : List (List ℕ)) (line : List ℕ) : Type 0 where
   pub path : List ℕ
-  pub lost : IsFirstLost holds lacks paths path
-  pub told : line ≡ file_line path
+  pub lost : IsFirstLost holds unreadable paths path
+  pub printed : line ≡ file_line path
 
 -- what is answered if rules are suggested for the routines at these paths
 abbrev pub SuggestsFor : Texts → (List ℕ → Type 0) → List (Bor (List ℕ)) → Answer → Type 0
-SuggestsFor holds lacks paths (answer.Report text status) = IsSuggested holds paths text × (status ≡ 0)
-SuggestsFor holds lacks paths (answer.Refused line notice help) = ⊥
-SuggestsFor holds lacks paths (answer.Unread line help) = IsFirstUnread holds lacks (bytes_of paths) line
-SuggestsFor holds lacks paths (answer.Usage text) = ⊥
-SuggestsFor holds lacks paths answer.OutOfMemory = Unit {0}
+SuggestsFor holds unreadable paths (answer.Report text status) = IsSuggested holds paths text × (status ≡ 0)
+SuggestsFor holds unreadable paths (answer.Refused line notice help) = ⊥
+SuggestsFor holds unreadable paths (answer.Unread line help) = IsFirstUnread holds unreadable (bytes_of paths) line
+SuggestsFor holds unreadable paths (answer.Usage text) = ⊥
+SuggestsFor holds unreadable paths answer.OutOfMemory = Unit {0}
 
 -- what the texts at the paths of a request come to: a certificate is printed as it is; what a page says is not said
 abbrev pub IsReported : Texts → Request → List ℕ → ℕ → Type 0
@@ -293,15 +293,15 @@ IsRefusedSo holds request line notice = IsRefusedThere holds request line × IsN
 
 -- the first path of a request that can't be read
 abbrev pub IsUnread : Texts → (List ℕ → Type 0) → Request → List ℕ → Type 0
-IsUnread holds lacks request line = IsFirstUnread holds lacks (paths_of request) line
+IsUnread holds unreadable request line = IsFirstUnread holds unreadable (paths_of request) line
 
 -- What the program answers to a request. Want of memory says nothing.
 abbrev pub Answers : Texts → (List ℕ → Type 0) → Request → Answer → Type 0
-Answers holds lacks request (answer.Report text status) = IsReported holds request text status
-Answers holds lacks request (answer.Refused line notice help) = IsRefusedSo holds request line notice
-Answers holds lacks request (answer.Unread line help) = IsUnread holds lacks request line
-Answers holds lacks request (answer.Usage text) = ⊥
-Answers holds lacks request answer.OutOfMemory = Unit {0}
+Answers holds unreadable request (answer.Report text status) = IsReported holds request text status
+Answers holds unreadable request (answer.Refused line notice help) = IsRefusedSo holds request line notice
+Answers holds unreadable request (answer.Unread line help) = IsUnread holds unreadable request line
+Answers holds unreadable request (answer.Usage text) = ⊥
+Answers holds unreadable request answer.OutOfMemory = Unit {0}
 
 -- how a refusal is said, and what is printed beside its line
 abbrev pub IsRefusalSaid : Option (List ℕ) → Option (List ℕ) → Option (List ℕ) → ℕ → Type 0
@@ -318,14 +318,14 @@ IsSaid answer.OutOfMemory old new status = (status ≡ 3) × Keeps old new
 
 -- What the program answers to its words: the answer to their request, or that they ask for nothing.
 abbrev pub AnswersWords : {A : Type 0} → Texts → (List ℕ → Type 0) → List (String A) → Answer → Type 0
-AnswersWords holds lacks words (answer.Report text status) = (request : Request) × IsRequest words request × IsReported holds request text status
-AnswersWords holds lacks words (answer.Refused line notice help) = (request : Request) × IsRequest words request × IsRefusedSo holds request line notice
-AnswersWords holds lacks words (answer.Unread line help) = (request : Request) × IsRequest words request × IsUnread holds lacks request line
-AnswersWords holds lacks words (answer.Usage text) = AsksNothing words
-AnswersWords holds lacks words answer.OutOfMemory = Unit {0}
+AnswersWords holds unreadable words (answer.Report text status) = (request : Request) × IsRequest words request × IsReported holds request text status
+AnswersWords holds unreadable words (answer.Refused line notice help) = (request : Request) × IsRequest words request × IsRefusedSo holds request line notice
+AnswersWords holds unreadable words (answer.Unread line help) = (request : Request) × IsRequest words request × IsUnread holds unreadable request line
+AnswersWords holds unreadable words (answer.Usage text) = AsksNothing words
+AnswersWords holds unreadable words answer.OutOfMemory = Unit {0}
 
 -- What is answered is said.
-pub record Ran {A : Type 0} (holds : Texts) (lacks : List ℕ → Type 0) (words : List (String A)) (old new : Option (List ℕ)) (status : ℕ) : Type 0 where
+pub record Ran {A : Type 0} (holds : Texts) (unreadable : List ℕ → Type 0) (words : List (String A)) (old new : Option (List ℕ)) (status : ℕ) : Type 0 where
   pub answer : Answer
-  pub answered : AnswersWords holds lacks words answer
+  pub answered : AnswersWords holds unreadable words answer
   pub said : IsSaid answer old new status

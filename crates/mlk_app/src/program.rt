@@ -182,7 +182,7 @@ fn answer_program<R: Threads + Wait + Sync, F: Files, W: Watch>(
     files: &F,
     explaining: Explaining,
 ) -> Answer
-    ensures { Answers (F.holds files.now) (F.lacks files.now) (wanted.Program program.now) result }
+    ensures { Answers (F.holds files.now) (F.unreadable files.now) (wanted.Program program.now) result }
 {
     let alloc = runner.alloc;
     match read_files(alloc, files, program) {
@@ -207,7 +207,7 @@ fn answer_conversion<F: Files, W: Watch>(
     explaining: Explaining,
     watch: &W,
 ) -> Answer
-    ensures { Answers (F.holds files.now) (F.lacks files.now) (wanted.Convert certificate.entry format) result }
+    ensures { Answers (F.holds files.now) (F.unreadable files.now) (wanted.Convert certificate.entry format) result }
 {
     match read_file(alloc, files, certificate) {
         Ok(text) => match convert(alloc, text.as_slice(), cert_format(format), watch) {
@@ -231,7 +231,7 @@ fn answer_survey<R: Threads + Wait + Sync, F: Files, W: Watch>(
     files: &F,
     explaining: Explaining,
 ) -> Answer
-    ensures { Answers (F.holds files.now) (F.lacks files.now) (wanted.Survey survey.now) result }
+    ensures { Answers (F.holds files.now) (F.unreadable files.now) (wanted.Survey survey.now) result }
 {
     let alloc = runner.alloc;
     match read_sources(alloc, files, survey.routines.as_slice()) {
@@ -253,7 +253,7 @@ fn answer_request<R: Threads + Wait + Sync, F: Files, W: Watch>(
     files: &F,
     explaining: Explaining,
 ) -> Answer
-    ensures { Answers (F.holds files.now) (F.lacks files.now) request.now result }
+    ensures { Answers (F.holds files.now) (F.unreadable files.now) request.now result }
 {
     let alloc = runner.alloc;
     match request {
@@ -282,7 +282,7 @@ fn answer_words<R: Threads + Wait + Sync, F: Files, W: Watch>(
     files: &F,
     explaining: Explaining,
 ) -> Answer
-    ensures { AnswersWords (F.holds files.now) (F.lacks files.now) words.now result }
+    ensures { AnswersWords (F.holds files.now) (F.unreadable files.now) words.now result }
 {
     let alloc = runner.alloc;
     match read_request(alloc, words) {
@@ -320,7 +320,7 @@ pub fn run<R: Threads + Wait + Sync, F: Files, W: Watch, O: Write, E: Write>(
     out: &mut O,
     err: &mut E,
 ) -> u8
-    ensures { Ran (F.holds files.now) (F.lacks files.now) words.now (O.contents out.old) (O.contents out.new) result }
+    ensures { Ran (F.holds files.now) (F.unreadable files.now) words.now (O.contents out.old) (O.contents out.new) result }
 {
     let answer = answer_words(runner, words, files, explaining);
     runner.watch.end();

@@ -20,12 +20,12 @@ pub trait Files {
     ghost holds: { Self → List ℕ → List ℕ → Type 0 } = { λ _ _ _. Unit {0} };
 
     // Which paths may have none that can be read.
-    ghost lacks: { Self → List ℕ → Type 0 } = { λ _ _. Unit {0} };
+    ghost unreadable: { Self → List ℕ → Type 0 } = { λ _ _. Unit {0} };
 
     /// The bytes of the file at a path. An error of the kind `OutOfMemory` says nothing of the file.
     fn read(&self, alloc: Global, path: &str) -> io::Result<Vec<u8>>
         ensures ok { IfOk result (λ text. holds self.now path.now text.items) }
-        ensures err { IfErr result (λ e. error_kind e ≢ ErrorKind.OutOfMemory → lacks self.now path.now) };
+        ensures err { IfErr result (λ e. error_kind e ≢ ErrorKind.OutOfMemory → unreadable self.now path.now) };
 }
 
 /// What is to be done with a program, with the texts that it takes.
@@ -91,7 +91,7 @@ pub(crate) fn read_file<'a, F: Files>(
     path: &'a str,
 ) -> Result<Vec<u8>, FileError<'a>>
     ensures ok { IfOk result (λ text. F.holds files.now path.now text.items) }
-    ensures lost { IfErr result (Loses (F.lacks files.now) path.now) }
+    ensures lost { IfErr result (Loses (F.unreadable files.now) path.now) }
 {
     match files.read(alloc, path) {
         Ok(text) => Ok(text),
@@ -111,7 +111,7 @@ fn read_source<'a, F: Files>(
     path: &'a str,
 ) -> Result<Source<'a>, FileError<'a>>
     ensures ok { IfOk result (IsSource (F.holds files.now) path.now) }
-    ensures lost { IfErr result (Loses (F.lacks files.now) path.now) }
+    ensures lost { IfErr result (Loses (F.unreadable files.now) path.now) }
 {
     let text = read_file(alloc, files, path)?;
     let stem = stem_of(path).as_bytes();
@@ -125,7 +125,7 @@ pub(crate) fn read_sources<'a, F: Files>(
     paths: &[&'a str],
 ) -> Result<Vec<Source<'a>>, FileError<'a>>
     ensures ok { IfOk result (λ sources. AreSources (F.holds files.now) paths.now sources.items) }
-    ensures lost { IfErr result (LosesFirst (F.holds files.now) (F.lacks files.now) (bytes_of paths.now)) }
+    ensures lost { IfErr result (LosesFirst (F.holds files.now) (F.unreadable files.now) (bytes_of paths.now)) }
 {
     let mut sources = Vec::new(alloc);
     for path in paths {
@@ -154,7 +154,7 @@ fn read_work<'a, F: Files>(
     asked: &Asked<'a>,
 ) -> Result<Work, FileError<'a>>
     ensures ok { IfOk result (IsWork (F.holds files.now) asked.now) }
-    ensures lost { IfErr result (LosesFirst (F.holds files.now) (F.lacks files.now) (work_path asked.now)) }
+    ensures lost { IfErr result (LosesFirst (F.holds files.now) (F.unreadable files.now) (work_path asked.now)) }
 {
     match asked {
         Asked::Check {
@@ -180,7 +180,7 @@ pub(crate) fn read_files<'a, F: Files>(
     request: &ProgramRequest<'a>,
 ) -> Result<Sources<'a>, FileError<'a>>
     ensures ok { IfOk result (AreTexts (F.holds files.now) request.now) }
-    ensures lost { IfErr result (LosesFirst (F.holds files.now) (F.lacks files.now) (program_paths request.now)) }
+    ensures lost { IfErr result (LosesFirst (F.holds files.now) (F.unreadable files.now) (program_paths request.now)) }
 {
     let rules = read_file(alloc, files, request.rules)?;
     let work = read_work(alloc, files, &request.asked)?;

@@ -133,6 +133,40 @@ fn printed_report(
     })
 }
 
+// Prints `report`, which is of a program by `certificate`, with all that explains it in the style that is asked for.
+fn print_explained<R: Threads + Wait + Sync, W: Watch>(
+    runner: &Runner<'_, R, W>,
+    subject: &Subject<'_>,
+    certificate: &Certificate,
+    is_made: bool,
+    report: &Report,
+) -> Result<Printed, AllocError>
+    ensures { IfOk result (λ p. IsReportPrinted (style_in subject.now.request.now.asked) (map routine_of subject.now.program.now) report.now p.text p.status) }
+{
+    let alloc = runner.alloc;
+    let program = subject.program;
+    let rules = subject.rules;
+    let texts = shown_texts(alloc, subject.sources, subject.request)?;
+    let grounds = Grounds {
+        program,
+        texts: texts.as_slice(),
+        rules,
+        rule_text: subject.sources.rules.as_slice(),
+        certificate,
+        is_made,
+    };
+    let style = style_in(&subject.request.asked);
+    let search = Search::new(alloc, subject.sources, &grounds, style);
+    let behind = search.run(runner, report, style)?;
+    let coverage = reported_coverage(alloc, program, rules, style)?;
+    let explanations = Explanations {
+        grounds: &grounds,
+        behind: &behind,
+        coverage: coverage.as_ref(),
+    };
+    printed_report(alloc, &explanations, subject.request, report)
+}
+
 // Prints the report of a program by `certificate`, which was made of it or given.
 fn print_report<R: Threads + Wait + Sync, W: Watch>(
     runner: &Runner<'_, R, W>,
@@ -145,29 +179,14 @@ fn print_report<R: Threads + Wait + Sync, W: Watch>(
     ensures ok { IfOk result (λ p. IsReportOfBlocks (style_in subject.now.request.now.asked) (map routine_of subject.now.program.now) subject.now.rules.now certificate.now p.text p.status) }
     ensures refused { IfErr result (RefusesReport refusal.Check (Unit {0}) workers (map routine_of subject.now.program.now) subject.now.rules.now certificate.now) }
 {
-    let alloc = runner.alloc;
-    let program = subject.program;
-    let rules = subject.rules;
-    let report = report_by_certificate(runner, program, rules, certificate, workers)?;
-    let texts = shown_texts(alloc, subject.sources, subject.request)?;
-    let grounds = Grounds {
-        program,
-        texts: texts.as_slice(),
-        rules,
-        rule_text: subject.sources.rules.as_slice(),
+    let report = report_by_certificate(
+        runner,
+        subject.program,
+        subject.rules,
         certificate,
-        is_made,
-    };
-    let style = style_in(&subject.request.asked);
-    let search = Search::new(alloc, subject.sources, &grounds, style);
-    let behind = search.run(runner, &report, style)?;
-    let coverage = reported_coverage(alloc, program, rules, style)?;
-    let explanations = Explanations {
-        grounds: &grounds,
-        behind: &behind,
-        coverage: coverage.as_ref(),
-    };
-    let printed = printed_report(alloc, &explanations, subject.request, &report)?;
+        workers,
+    )?;
+    let printed = print_explained(runner, subject, certificate, is_made, &report)?;
     Ok(printed)
 }
 

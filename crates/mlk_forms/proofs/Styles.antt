@@ -18,14 +18,14 @@ passes-no-row (r ∷ rows) hazards gaps is =
     let none = eqb-true (length (r ∷ rows)) 0 (and_parts (length (r ∷ rows) == 0) ((length hazards == 0) && (length gaps == 0)) is).0 in
     absurd (omega (arith, none))
 
--- In whatever form a report is told, it has no fault where it passes.
+-- In whatever form a report is printed, it has no fault where it passes.
 pub passed-no-row : (style : ReportStyle) (trees : List RoutineTree) (rows : List Row) (text : List ℕ) → IsRendered style trees rows text true → rows ≡ []
-passed-no-row style trees rows text told = passes-no-row rows told.hazards told.gaps (sym told.ended)
+passed-no-row style trees rows text rendered = passes-no-row rows rendered.hazards rendered.gaps (sym rendered.ended)
 
 -- Where the words ask for nothing else, the text is that of the report and no byte more.
 pub plain-text : (style : ReportStyle) (trees : List RoutineTree) (rows : List Row) (text : List ℕ) (passed : Bool)
     → style ≡ record { output = Text; is_strict = false; is_explained = false } → IsRendered style trees rows text passed → text ≡ report_text trees rows
-plain-text style trees rows text passed plain told =
-    let usual = subst (λ s. IsRendered s trees rows text passed) plain told in
+plain-text style trees rows text passed plain rendered =
+    let usual = subst (λ s. IsRendered s trees rows text passed) plain rendered in
     usual.printed ∙ ap (λ hazards. report_text trees rows ++ warning_lines hazards usual.gaps) usual.reported
     ∙ ap (λ gaps. report_text trees rows ++ gap_lines gaps) usual.found ∙ append-nil (report_text trees rows)

@@ -120,7 +120,7 @@ fn files_that_are_too_large(rt: HostRuntime) -> Result<(), Fail> {
             3
         );
         assert!(&rt; out.is_empty());
-        assert!(&rt; err.as_slice() == told.as_bytes(), "told, not {told}");
+        assert!(&rt; err.as_slice() == told.as_bytes(), "not {told}");
     }
     Ok(())
 }

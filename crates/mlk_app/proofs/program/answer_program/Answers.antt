@@ -12,4 +12,4 @@ returns-in-Ok-print_sources g c =
 
 pub returns-in-Ok : goal.returns-in-Ok
 returns-in-Ok g c =
-    refusal-answers (g.F.Files.holds c.args.files.now) (g.F.Files.lacks c.args.files.now) c.args.program.now c.in-Ok.sources c.in-Err.refusal c.refusal_answer.result c.in-Ok.ensures.ok c.in-Err.ensures.refused c.refusal_answer.ensures
+    refusal-answers (g.F.Files.holds c.args.files.now) (g.F.Files.unreadable c.args.files.now) c.args.program.now c.in-Ok.sources c.in-Err.refusal c.refusal_answer.result c.in-Ok.ensures.ok c.in-Err.ensures.refused c.refusal_answer.ensures

@@ -7,25 +7,25 @@ use Rattle.mlk_app.proofs.source.read_files.Goals as goal
 pub returns-in_err-rules-clause-lost : goal.returns-in_err-rules-clause-lost
 returns-in_err-rules-clause-lost g c =
     let request = c.args.request.now in
-    let lost = loses-front (g.F.Files.holds c.args.files.now) (g.F.Files.lacks c.args.files.now) request.rules.now (work_path request.asked ++ bytes_of request.routines.items) c.in_err-rules.field-0.0 c.in_err-rules.ensures.lost in
+    let lost = loses-front (g.F.Files.holds c.args.files.now) (g.F.Files.unreadable c.args.files.now) request.rules.now (work_path request.asked ++ bytes_of request.routines.items) c.in_err-rules.field-0.0 c.in_err-rules.ensures.lost in
     grind rules
 
 pub returns-in_err-work-clause-lost : goal.returns-in_err-work-clause-lost
 returns-in_err-work-clause-lost g c =
     let holds = g.F.Files.holds c.args.files.now in
-    let lacks = g.F.Files.lacks c.args.files.now in
+    let unreadable = g.F.Files.unreadable c.args.files.now in
     let request = c.args.request.now in
-    let inner = loses-within holds lacks (work_path request.asked) (bytes_of request.routines.items) c.in_err-work.field-0.0 c.in_err-work.ensures.lost in
-    let lost = loses-after holds lacks request.rules.now c.in_ok-rules.rules.items (work_path request.asked ++ bytes_of request.routines.items) c.in_err-work.field-0.0 c.in_ok-rules.ensures.ok inner in
+    let inner = loses-within holds unreadable (work_path request.asked) (bytes_of request.routines.items) c.in_err-work.field-0.0 c.in_err-work.ensures.lost in
+    let lost = loses-after holds unreadable request.rules.now c.in_ok-rules.rules.items (work_path request.asked ++ bytes_of request.routines.items) c.in_err-work.field-0.0 c.in_ok-rules.ensures.ok inner in
     grind rules
 
 pub returns-in_err-routines-clause-lost : goal.returns-in_err-routines-clause-lost
 returns-in_err-routines-clause-lost g c =
     let holds = g.F.Files.holds c.args.files.now in
-    let lacks = g.F.Files.lacks c.args.files.now in
+    let unreadable = g.F.Files.unreadable c.args.files.now in
     let request = c.args.request.now in
     let e = c.in_err-routines.field-0.0 in
-    let paths = subst (λ l. LosesFirst holds lacks (bytes_of l) e) c.as_slice.ensures.value c.in_err-routines.ensures.lost in
-    let inner = loses-past holds lacks request.asked c.in_ok-work.work (bytes_of request.routines.items) e c.in_ok-work.ensures.ok paths in
-    let lost = loses-after holds lacks request.rules.now c.in_ok-rules.rules.items (work_path request.asked ++ bytes_of request.routines.items) e c.in_ok-rules.ensures.ok inner in
+    let paths = subst (λ l. LosesFirst holds unreadable (bytes_of l) e) c.as_slice.ensures.value c.in_err-routines.ensures.lost in
+    let inner = loses-past holds unreadable request.asked c.in_ok-work.work (bytes_of request.routines.items) e c.in_ok-work.ensures.ok paths in
+    let lost = loses-after holds unreadable request.rules.now c.in_ok-rules.rules.items (work_path request.asked ++ bytes_of request.routines.items) e c.in_ok-rules.ensures.ok inner in
     grind rules

@@ -10,6 +10,6 @@ suggest_beside-requires g c = ap beside_path c.in-Some.is
 pub returns-in-None : goal.returns-in-None
 returns-in-None g c =
     let holds = g.F.Files.holds c.args.files.now in
-    let lacks = g.F.Files.lacks c.args.files.now in
-    let answered = subst (λ paths. SuggestsFor holds lacks paths c.suggest_for.result) c.as_slice.ensures.value c.suggest_for.ensures in
-    suggestion-answers holds lacks c.args.suggestion.now c.suggest_for.result (ap beside_path c.in-None.is) answered
+    let unreadable = g.F.Files.unreadable c.args.files.now in
+    let answered = subst (λ paths. SuggestsFor holds unreadable paths c.suggest_for.result) c.as_slice.ensures.value c.suggest_for.ensures in
+    suggestion-answers holds unreadable c.args.suggestion.now c.suggest_for.result (ap beside_path c.in-None.is) answered
