@@ -11,7 +11,7 @@ use Rattle.mlk_pool.specs.declared.source.Source.{Source}
 use Rattle.mlk_app.specs.declared.answer.Answer.{Answer}
 use Rattle.mlk_app.specs.declared.answer.Answer.TheVariants as answer
 use Rattle.mlk_app.specs.declared.source.FileError.TheVariants as error
-use Rattle.mlk_app.specs.Files.{Texts, AreSources, IsFirstLost, Loses, LosesFirst, beside_path}
+use Rattle.mlk_app.specs.Files.{Texts, AreSources, IsFirstLost, Loses, LosesFirst, given_path}
 use Rattle.mlk_app.proofs.Sources.{loses-front}
 use Rattle.mlk_app.specs.Ran.{TellsRules, TellsUnread, PrintsRules, SuggestsFor, Answers}
 
@@ -43,7 +43,7 @@ none-suggested holds unreadable paths path (answer.Usage text) lost printed = ab
 none-suggested holds unreadable paths path answer.OutOfMemory lost printed = record {}
 
 -- what is answered to a request for a suggestion: without rules beside it,
-pub suggestion-answers : (holds : Texts) (unreadable : List ℕ → Type 0) (suggestion : SuggestRequest) (a : Answer) → beside_path suggestion.beside ≡ [] → SuggestsFor holds unreadable suggestion.routines.items a
+pub suggestion-answers : (holds : Texts) (unreadable : List ℕ → Type 0) (suggestion : SuggestRequest) (a : Answer) → given_path suggestion.beside ≡ [] → SuggestsFor holds unreadable suggestion.routines.items a
     → Answers holds unreadable (request.Suggest suggestion) a
 suggestion-answers holds unreadable suggestion (answer.Report text status) alone h = h
 suggestion-answers holds unreadable suggestion (answer.Refused line notice help) alone h = absurd h
@@ -65,7 +65,7 @@ lost-after holds unreadable path text paths other held lost = record {
 }
 
 -- with rules beside it that were read,
-pub beside-answers : (holds : Texts) (unreadable : List ℕ → Type 0) (suggestion : SuggestRequest) (path given : List ℕ) (a : Answer) → beside_path suggestion.beside ≡ path ∷ [] → holds path given
+pub beside-answers : (holds : Texts) (unreadable : List ℕ → Type 0) (suggestion : SuggestRequest) (path given : List ℕ) (a : Answer) → given_path suggestion.beside ≡ path ∷ [] → holds path given
     → SuggestsFor holds unreadable suggestion.routines.items a → Answers holds unreadable (request.Suggest suggestion) a
 beside-answers holds unreadable suggestion path given (answer.Report text status) named held h = h
 beside-answers holds unreadable suggestion path given (answer.Refused line notice help) named held h = absurd h
@@ -78,7 +78,7 @@ beside-answers holds unreadable suggestion path given (answer.Usage text) named 
 beside-answers holds unreadable suggestion path given answer.OutOfMemory named held h = record {}
 
 -- with rules beside it that are refused,
-pub unsuggested-answers : (holds : Texts) (unreadable : List ℕ → Type 0) (suggestion : SuggestRequest) (path given : List ℕ) (fault : RulesFault) (a : Answer) → beside_path suggestion.beside ≡ path ∷ [] → holds path given
+pub unsuggested-answers : (holds : Texts) (unreadable : List ℕ → Type 0) (suggestion : SuggestRequest) (path given : List ℕ) (fault : RulesFault) (a : Answer) → given_path suggestion.beside ≡ path ∷ [] → holds path given
     → RefusesRules given (failure.Refused fault) → TellsRules fault a → Answers holds unreadable (request.Suggest suggestion) a
 unsuggested-answers holds unreadable suggestion path given fault (answer.Report text status) named held refused printed = absurd printed
 unsuggested-answers holds unreadable suggestion path given fault (answer.Refused line notice help) named held refused printed = (
@@ -98,7 +98,7 @@ unsuggested-answers holds unreadable suggestion path given fault (answer.Usage t
 unsuggested-answers holds unreadable suggestion path given fault answer.OutOfMemory named held refused printed = record {}
 
 -- and with rules beside it that can't be read
-pub lost-beside-answers : (holds : Texts) (unreadable : List ℕ → Type 0) (suggestion : SuggestRequest) (path : List ℕ) (other : Bor (List ℕ)) (a : Answer) → beside_path suggestion.beside ≡ path ∷ [] → Loses unreadable path (error.Unread other)
+pub lost-beside-answers : (holds : Texts) (unreadable : List ℕ → Type 0) (suggestion : SuggestRequest) (path : List ℕ) (other : Bor (List ℕ)) (a : Answer) → given_path suggestion.beside ≡ path ∷ [] → Loses unreadable path (error.Unread other)
     → TellsUnread other.now a → Answers holds unreadable (request.Suggest suggestion) a
 lost-beside-answers holds unreadable suggestion path other (answer.Report text status) named lost printed = absurd printed
 lost-beside-answers holds unreadable suggestion path other (answer.Refused line notice help) named lost printed = absurd printed

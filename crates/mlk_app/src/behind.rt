@@ -34,14 +34,17 @@ pub(crate) struct Search<'a> {
 // In which form faults are explained in this style.
 fn form_in(style: ReportStyle) -> ExplainedAs {
     match style.output {
-        Output::Text => ExplainedAs::Text,
+        Output::Text | Output::Lines => ExplainedAs::Text,
         Output::Json | Output::Sarif => ExplainedAs::Stories,
     }
 }
 
 /// Whether a report in this style says more than its faults.
 pub(crate) fn is_explained(style: ReportStyle) -> bool {
-    style.is_explained || style.output != Output::Text
+    match style.output {
+        Output::Text | Output::Lines => style.is_explained,
+        Output::Json | Output::Sarif => true,
+    }
 }
 
 // The routines with these texts.
@@ -176,6 +179,11 @@ impl<'a> Search<'a> {
             texts = mended_texts(self.alloc, texts.as_slice(), patches.as_slice())?;
         }
         Ok(())
+    }
+
+    /// What was found.
+    pub(crate) fn found(self) -> FaultsBehind {
+        self.behind
     }
 
     /// Finds the faults behind those of `report`, if a report in this style explains its faults.

@@ -3,7 +3,7 @@
 ghost use Rattle.std.specs.Prelude.{◌≡◌, ◌∷◌, IfOk, []};
 ghost use Rattle.mlk_cli.specs.declared.words.Request.TheVariants as wanted;
 ghost use Rattle.mlk_suggest_text.specs.RuleTexts.{IsRuleText};
-ghost use Rattle.mlk_app.specs.Files.{beside_path};
+ghost use Rattle.mlk_app.specs.Files.{given_path};
 ghost use Rattle.mlk_app.specs.Ran.{TellsRules, PrintsRules, SuggestsFor, Answers};
 
 use crate::answer::{Answer, YES};
@@ -85,7 +85,7 @@ fn suggest_beside<F: Files>(
     files: &F,
     explaining: Explaining,
 ) -> Answer
-    requires { beside_path suggestion.now.beside ≡ path.now ∷ [] }
+    requires { given_path suggestion.now.beside ≡ path.now ∷ [] }
     ensures { Answers (F.holds files.now) (F.unreadable files.now) (wanted.Suggest suggestion.now) result }
 {
     let routines = suggestion.routines.as_slice();

@@ -43,6 +43,14 @@ impl Files for Broken<'_> {
         }
         Ok(Vec::from_slice(alloc, b"\xff [[[")?)
     }
+
+    fn routines_below(&self, _alloc: Global, _path: &str) -> io::Result<Option<Vec<String>>> {
+        Ok(None)
+    }
+
+    fn write(&self, _path: &str, _text: &[u8]) -> io::Result<()> {
+        Err(io::Error::from(self.kind))
+    }
 }
 
 // Whether the words are refused with a text that tells why, and nothing is printed.
