@@ -18,13 +18,13 @@ use Rattle.mlk_pool.specs.Texts.{row_line, row_lines, last_line, place_text, spa
 use Rattle.mlk_output.specs.Documents.{IsJsonReport, IsSarifReport, known_in}
 
 -- the rows with these numbers, counted from 0
-abbrev pub if_there : Option Row → List Row → List Row
-if_there None rows = rows
-if_there (Some r) rows = r ∷ rows
+abbrev pub row_if_there : Option Row → List Row
+row_if_there None = []
+row_if_there (Some r) = r ∷ []
 
 abbrev pub rows_at : List Row → List ℕ → List Row
 rows_at rows [] = []
-rows_at rows (n ∷ ns) = if_there (slice_get rows n) (rows_at rows ns)
+rows_at rows (n ∷ ns) = row_if_there (slice_get rows n) ++ rows_at rows ns
 
 -- The rows of a report that are printed: all, or, if they are compared with known faults, those that are not known.
 abbrev pub printed_rows : Option (Bor Comparison) → List Row → List Row

@@ -21,6 +21,7 @@ fn push_known(text: &mut ReportText, known: usize) -> Result<(), AllocError>
 
 /// Appends the answer of a report with these rows, besides which `known` faults are known: `no N`, if there are rows; else `known N`
 /// if some are known, and `yes` if none is.
+#[tactic(auto, using(crate::proofs::Answering::answer_known, crate::proofs::Answering::answer_new))]
 pub(crate) fn push_verdict(
     text: &mut ReportText,
     rows: &[Row],
@@ -28,7 +29,10 @@ pub(crate) fn push_verdict(
 ) -> Result<(), AllocError>
     ensures { OnOk result (text.new ≡ text.old ++ answer_line known rows.now) }
 {
-    if rows.is_empty() && known != 0 {
+    if known == 0 {
+        return push_answer(text, rows);
+    }
+    if rows.is_empty() {
         return push_known(text, known);
     }
     push_answer(text, rows)

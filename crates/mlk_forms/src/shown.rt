@@ -1,7 +1,7 @@
 // Which faults of a report are printed.
 
-ghost use Rattle.std.specs.Prelude.{◌≡◌, IfOk, slice_get, option_copied};
-ghost use Rattle.mlk_forms.specs.Rendering.{rows_at, printed_rows};
+ghost use Rattle.std.specs.Prelude.{◌≡◌, ◌++◌, IfOk, OnOk, slice_get, option_copied};
+ghost use Rattle.mlk_forms.specs.Rendering.{row_if_there, rows_at, printed_rows};
 
 use mlk_baseline::Comparison;
 use mlk_walk::{Report, Row};
@@ -26,15 +26,23 @@ fn row_at(rows: &[Row], number: usize) -> Option<&Row>
     rows.get(number)
 }
 
+// Appends the row with this number, if there is one.
+fn push_at(found: &mut Vec<Row>, rows: &[Row], number: usize) -> Result<(), AllocError>
+    ensures { OnOk result (found.new.items ≡ found.old.items ++ row_if_there (slice_get rows.now number)) }
+{
+    match row_at(rows, number) {
+        Some(row) => found.push(*row),
+        None => Ok(()),
+    }
+}
+
 // The rows with these numbers.
 fn rows_at(alloc: Global, rows: &[Row], numbers: &[usize]) -> Result<Vec<Row>, AllocError>
     ensures { IfOk result (λ found. found.items ≡ rows_at rows.now numbers.now) }
 {
     let mut found = Vec::new(alloc);
     for number in numbers {
-        if let Some(row) = row_at(rows, *number) {
-            found.push(*row)?;
-        }
+        push_at(&mut found, rows, *number)?;
     }
     Ok(found)
 }
