@@ -131,6 +131,11 @@ abbrev pub Loses : (List ℕ → Type 0) → List ℕ → FileError → Type 0
 Loses unreadable path error.OutOfMemory = Unit {0}
 Loses unreadable path (error.Unread other) = (other.now ≡ path) × unreadable path
 
+-- the same of some path
+abbrev pub LosesPath : (List ℕ → Type 0) → FileError → Type 0
+LosesPath unreadable error.OutOfMemory = Unit {0}
+LosesPath unreadable (error.Unread path) = unreadable path.now
+
 -- the same of the first of a list
 abbrev pub LosesFirst : Texts → (List ℕ → Type 0) → List (List ℕ) → FileError → Type 0
 LosesFirst holds unreadable paths error.OutOfMemory = Unit {0}

@@ -1,5 +1,10 @@
 -- What is printed on the way from texts to an answer. It only serves private clauses.
-use Rattle.std.specs.Prelude.{ℕ, List, Option}
+use Rattle.std.specs.Prelude.{ℕ, ◌≡◌, List, Option, Vec, is_some, true}
+use Rattle.std.specs.Global.{Global}
+use Rattle.mlk_text.specs.declared.failure.Failure.{Failure}
+use Rattle.mlk_text.specs.declared.failure.Failure.TheVariants as failure
+use Rattle.mlk_app.specs.declared.answer.Answer.{Answer}
+use Rattle.mlk_app.specs.declared.answer.Answer.TheVariants as answer
 use Rattle.std.specs.Borrow.{Bor}
 use Rattle.mlk_baseline.specs.declared.baseline.Baseline.{Baseline}
 use Rattle.mlk_syntax.specs.Trees.{RoutineTree}
@@ -12,7 +17,7 @@ use Rattle.mlk_app.specs.declared.source.Sources.{Sources}
 use Rattle.mlk_pool.specs.Headline.{RefusesTexts}
 use Rattle.mlk_outcome.specs.declared.refusal.NoReport.{NoReport}
 use Rattle.mlk_outcome.specs.declared.refusal.NoReport.TheVariants as refusal
-use Rattle.mlk_app.specs.Ran.{IsPrinted, IsRefusedFor}
+use Rattle.mlk_app.specs.Ran.{IsPrinted, IsRefusedFor, IsUnwritten}
 
 -- what is printed of trees that make a program, and of the text of rules
 abbrev pub IsPrintedOfTrees : ProgramRequest → Option (Bor Baseline) → List RoutineTree → Sources → List ℕ → ℕ → Type 0
@@ -25,3 +30,16 @@ IsPrintedOfTexts program known sources text status = (trees : List RoutineTree) 
 -- why nothing is printed of them
 abbrev pub IsRefusedSources : Sources → NoReport → Type 0
 IsRefusedSources sources r = RefusesTexts refusal.Check sources.routines.items sources.rules.items (IsRefusedFor sources.work) r
+
+-- known faults are refused only if they are given
+abbrev pub RefusesGiven : {E : Type 0} → Option (Vec ℕ Global) → Failure E → Type 0
+RefusesGiven text failure.OutOfMemory = Unit {0}
+RefusesGiven text (failure.Refused fault) = is_some text ≡ true
+
+-- the report is answered, or that its faults can't be written as known ones, where memory doesn't run out
+abbrev pub IsReportAnswer : ProgramRequest → List ℕ → ℕ → Answer → Type 0
+IsReportAnswer program text status (answer.Report said ended) = (said ≡ text) × (ended ≡ status)
+IsReportAnswer program text status (answer.Refused line notice help) = ⊥
+IsReportAnswer program text status (answer.Unread line help) = IsUnwritten program line
+IsReportAnswer program text status (answer.Usage said) = ⊥
+IsReportAnswer program text status answer.OutOfMemory = Unit {0}

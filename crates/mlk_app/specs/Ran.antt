@@ -40,7 +40,7 @@ use Rattle.mlk_baseline.specs.declared.baseline.BaselineFault.{BaselineFault}
 use Rattle.mlk_baseline.specs.Known.{IsComparison}
 use Rattle.mlk_forms.specs.Rendering.{IsRendered, IsNoticed, printed_rows}
 use Rattle.mlk_app.specs.Printed.{fault_line, rules_line, certificate_line, missing_line, workers_line, stuck_line, events_line, baseline_line, file_line, no_page_line}
-use Rattle.mlk_app.specs.Files.{Texts, Folders, AreFound, AreTexts, AreSources, IsFirstLost, given_path, cert_format, paths_of}
+use Rattle.mlk_app.specs.Files.{Texts, Folders, AreFound, AreTexts, AreSources, IsFirstLost, given_path, cert_format, paths_of, program_paths}
 use Rattle.mlk_cli.specs.CommandLine.{IsRequest, AsksNothing, bytes_of}
 use Rattle.mlk_program.specs.Program.{IsProgram}
 use Rattle.mlk_rules.specs.declared.rules.RuleLists.{RuleLists}
@@ -343,18 +343,14 @@ IsRefusedThere holds (request.Explain code) line = line ≡ no_page_line code.no
 abbrev pub IsRefusedSo : Texts → Request → List ℕ → Option (List ℕ) → Type 0
 IsRefusedSo holds request line notice = IsRefusedThere holds request line × IsNoticed (output_in request) notice
 
--- the file that could not be written, if one was to be
-abbrev pub IsUnwrittenBy : Request → List ℕ → Type 0
-IsUnwrittenBy (request.Program program) line = IsUnwritten program line
-IsUnwrittenBy (request.Convert certificate format) line = ⊥
-IsUnwrittenBy (request.Survey survey) line = ⊥
-IsUnwrittenBy (request.Suggest suggestion) line = ⊥
-IsUnwrittenBy (request.Stubs stubs) line = ⊥
-IsUnwrittenBy (request.Explain code) line = ⊥
-
--- the first path of a request that can't be read, or the one that can't be written
+-- the first path of a request that can't be read; of a program also the one that can't be written
 abbrev pub IsUnread : Texts → (List ℕ → Type 0) → Request → List ℕ → Type 0
-IsUnread holds unreadable request line = IsFirstUnread holds unreadable (paths_of request) line ⊎ IsUnwrittenBy request line
+IsUnread holds unreadable (request.Program program) line = IsFirstUnread holds unreadable (program_paths program) line ⊎ IsUnwritten program line
+IsUnread holds unreadable (request.Convert certificate format) line = IsFirstUnread holds unreadable (paths_of (request.Convert certificate format)) line
+IsUnread holds unreadable (request.Survey survey) line = IsFirstUnread holds unreadable (paths_of (request.Survey survey)) line
+IsUnread holds unreadable (request.Suggest suggestion) line = IsFirstUnread holds unreadable (paths_of (request.Suggest suggestion)) line
+IsUnread holds unreadable (request.Stubs stubs) line = IsFirstUnread holds unreadable (paths_of (request.Stubs stubs)) line
+IsUnread holds unreadable (request.Explain code) line = ⊥
 
 -- What the program answers to a request. Want of memory says nothing.
 abbrev pub Answers : Texts → (List ℕ → Type 0) → Request → Answer → Type 0
@@ -394,30 +390,55 @@ IsWithRoutines (request.Suggest suggestion) found (request.Suggest other) = (byt
 IsWithRoutines (request.Stubs stubs) found (request.Stubs other) = (bytes_of other.routines.items ≡ found) × (other ≡ record stubs { routines = other.routines })
 IsWithRoutines r found other = other ≡ r
 
--- the paths that a file lists: none if there is no file. Which they are is not said.
+-- the paths that a text lists: none if there is no text. Which they are is not said.
+abbrev pub MayList : Bool → List (List ℕ) → Type 0
+MayList false paths = paths ≡ []
+MayList true paths = Unit {0}
+
+-- the paths that a file lists: none if there is no file
 abbrev pub AreListed : Texts → Option (Bor (List ℕ)) → List (List ℕ) → Type 0
 AreListed holds None paths = paths ≡ []
 AreListed holds (Some list) paths = (text : List ℕ) × holds list.now text
 
--- What the words ask for, with the routines that are found at its paths, and at those that a file lists: of a folder those below it.
-pub record Finds {A : Type 0} (holds : Texts) (below : Folders) (words : List (String A)) (request : Request) : Type 0 where
-  pub line : CommandLine
-  pub asked : IsRequest words line
+-- What a command line asks for, with the routines that are found at its paths, and at those that a file lists: of a folder those below
+-- it.
+pub record Finds (holds : Texts) (below : Folders) (line : CommandLine) (request : Request) : Type 0 where
   pub listed : List (List ℕ)
   pub of_list : AreListed holds line.list listed
   pub paths : List (List ℕ)
   pub found : AreFound below (named_paths line.request ++ listed) paths
-  pub with : IsWithRoutines line.request paths request
+  pub replaced : IsWithRoutines line.request paths request
 
 -- the list of routines, or a folder, that can't be read
 abbrev pub IsUnfound : (List ℕ → Type 0) → List ℕ → Type 0
 IsUnfound unreadable line = (path : List ℕ) × unreadable path × (line ≡ file_line path)
 
--- What the program answers to its words: the answer to their request, or that they ask for nothing.
+-- what is answered where a list of routines, or a folder, can't be read
+abbrev pub TellsUnfound : (List ℕ → Type 0) → Answer → Type 0
+TellsUnfound unreadable (answer.Report text status) = ⊥
+TellsUnfound unreadable (answer.Refused line notice help) = ⊥
+TellsUnfound unreadable (answer.Unread line help) = IsUnfound unreadable line
+TellsUnfound unreadable (answer.Usage text) = ⊥
+TellsUnfound unreadable answer.OutOfMemory = Unit {0}
+
+-- What is answered to a request with the routines that are found at these paths.
+abbrev pub AnswersFound : Texts → Folders → (List ℕ → Type 0) → Request → List (List ℕ) → Answer → Type 0
+AnswersFound holds below unreadable named paths a = TellsUnfound unreadable a
+    ⊎ ((found : List (List ℕ)) × (request : Request) × AreFound below paths found × IsWithRoutines named found request × Answers holds unreadable request a)
+
+-- What is answered to a command line: the answer to its request with the routines that are found.
+abbrev pub AnswersLine : Texts → Folders → (List ℕ → Type 0) → CommandLine → Answer → Type 0
+AnswersLine holds below unreadable line (answer.Report text status) = (request : Request) × Finds holds below line request × IsReported holds request text status
+AnswersLine holds below unreadable line (answer.Refused text notice help) = (request : Request) × Finds holds below line request × IsRefusedSo holds request text notice
+AnswersLine holds below unreadable line (answer.Unread text help) = ((request : Request) × Finds holds below line request × IsUnread holds unreadable request text) ⊎ IsUnfound unreadable text
+AnswersLine holds below unreadable line (answer.Usage text) = ⊥
+AnswersLine holds below unreadable line answer.OutOfMemory = Unit {0}
+
+-- What the program answers to its words: the answer to what they ask for, or that they ask for nothing.
 abbrev pub AnswersWords : {A : Type 0} → Texts → Folders → (List ℕ → Type 0) → List (String A) → Answer → Type 0
-AnswersWords holds below unreadable words (answer.Report text status) = (request : Request) × Finds holds below words request × IsReported holds request text status
-AnswersWords holds below unreadable words (answer.Refused line notice help) = (request : Request) × Finds holds below words request × IsRefusedSo holds request line notice
-AnswersWords holds below unreadable words (answer.Unread line help) = ((request : Request) × Finds holds below words request × IsUnread holds unreadable request line) ⊎ IsUnfound unreadable line
+AnswersWords holds below unreadable words (answer.Report text status) = (line : CommandLine) × IsRequest words line × AnswersLine holds below unreadable line (answer.Report text status)
+AnswersWords holds below unreadable words (answer.Refused text notice help) = (line : CommandLine) × IsRequest words line × AnswersLine holds below unreadable line (answer.Refused text notice help)
+AnswersWords holds below unreadable words (answer.Unread text help) = (line : CommandLine) × IsRequest words line × AnswersLine holds below unreadable line (answer.Unread text help)
 AnswersWords holds below unreadable words (answer.Usage text) = AsksNothing words
 AnswersWords holds below unreadable words answer.OutOfMemory = Unit {0}
 

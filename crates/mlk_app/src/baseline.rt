@@ -1,7 +1,8 @@
 // Known faults: which faults of a report are new beside them, and the file in which all of them are known.
 
-ghost use Rattle.std.specs.Prelude.{◌≡◌, IfOk, is_some, length};
+ghost use Rattle.std.specs.Prelude.{◌≡◌, IfErr, IfOk, is_some, length};
 ghost use Rattle.mlk_baseline.specs.Known.{IsComparison};
+ghost use Rattle.mlk_app.specs.Printing.{RefusesGiven};
 ghost use Rattle.mlk_app.specs.Ran.{AreCompared};
 
 use crate::source::Sources;
@@ -31,7 +32,8 @@ pub(crate) fn known_faults<'s>(
     alloc: Global,
     sources: &'s Sources<'_>,
 ) -> Result<Option<Baseline<'s>>, Failure<BaselineFault>>
-    ensures { IfOk result (λ known. is_some known ≡ is_some sources.now.baseline) }
+    ensures ok { IfOk result (λ known. is_some known ≡ is_some sources.now.baseline) }
+    ensures refused { IfErr result (RefusesGiven sources.now.baseline) }
 {
     match &sources.baseline {
         Some(text) => Ok(Some(read_baseline(alloc, text.as_slice())?)),

@@ -3,7 +3,10 @@
 ghost use Rattle.std.specs.Prelude.{◌≡◌, ◌≢◌, IfOk};
 ghost use Rattle.std.specs.IoError.{error_kind};
 ghost use Rattle.mlk_cli.specs.declared.words.Request.TheVariants as wanted;
-ghost use Rattle.mlk_app.specs.Ran.{style_in, IsErrorLine, IsRefusalLine, TellsRefusal, TellsFault, TellsBaseline, TellsUnread, TellsPage, Answers, AnswersWords, Ran};
+ghost use Rattle.mlk_app.specs.Ran.{style_in, IsErrorLine, IsRefusalLine, TellsRefusal, TellsFault, TellsBaseline, TellsUnread, TellsUnfound, TellsPage, Answers, AnswersFound, AnswersLine, AnswersWords, Ran};
+ghost use Rattle.mlk_app.specs.Files.{AreTexts, LosesPath};
+ghost use Rattle.mlk_app.specs.Printing.{IsReportAnswer};
+ghost use Rattle.mlk_cli.specs.CommandLine.{bytes_of};
 ghost use Rattle.mlk_forms.specs.Rendering.{IsNoticed};
 ghost use Rattle.mlk_outcome.specs.Refusals.{IsOfOpenGate, IsNotShut};
 
@@ -16,8 +19,8 @@ use crate::printed::{
     stuck_line, workers_line,
 };
 use crate::refused::{refused_file, rule_file, spot_in};
-use crate::routines::{all_paths, find_routines, found_paths, read_list, with_routines};
-use crate::source::{FileError, Files, Sources, cert_format, read_file, read_files, read_sources};
+use crate::routines::{all_paths, find_routines, found_paths, list_of, with_routines};
+use crate::source::{FileError, Files, Sources, cert_format, read_file, read_files, read_given, read_sources};
 use crate::stubs::answer_stubs;
 use crate::suggestion::answer_suggestion;
 use crate::work::{Printed, print_sources, style_in};
@@ -200,19 +203,53 @@ fn unwritten_answer(alloc: Global, path: &str) -> Answer
     }
 }
 
+// Writes the known faults, if there are any to write.
+fn write_known<F: Files>(files: &F, path: &str, known: &Option<Vec<u8>>) -> io::Result<()> {
+    match known {
+        Some(text) => files.write(path, text.as_slice()),
+        None => Ok(()),
+    }
+}
+
 // Writes the faults of a report as known ones, if that is asked for, and answers with the report.
 fn report_answer<F: Files>(
     alloc: Global,
     program: &ProgramRequest<'_>,
     printed: Printed,
     files: &F,
-) -> Answer {
-    if let (Some(path), Some(text)) = (program.new_baseline, &printed.new_baseline) {
-        if files.write(path, text.as_slice()).is_err() {
-            return unwritten_answer(alloc, path);
-        }
+) -> Answer
+    ensures { IsReportAnswer program.now printed.entry.text printed.entry.status result }
+{
+    let Some(path) = program.new_baseline else {
+        return Answer::Report(printed.text, printed.status);
+    };
+    if write_known(files, path, &printed.new_baseline).is_err() {
+        return unwritten_answer(alloc, path);
     }
     Answer::Report(printed.text, printed.status)
+}
+
+// What is answered to a request for a program whose files have these texts.
+fn answer_sources<R: Threads + Wait + Sync, F: Files, W: Watch>(
+    runner: &Runner<'_, R, W>,
+    program: &ProgramRequest<'_>,
+    sources: &Sources<'_>,
+    files: &F,
+    explaining: Explaining,
+) -> Answer
+    requires { AreTexts (F.holds files.now) program.now sources.now }
+    ensures { Answers (F.holds files.now) (F.unreadable files.now) (wanted.Program program.now) result }
+{
+    let alloc = runner.alloc;
+    let known = match known_faults(alloc, sources) {
+        Ok(known) => known,
+        Err(Failure::OutOfMemory) => return Answer::OutOfMemory,
+        Err(Failure::Refused(fault)) => return baseline_answer(alloc, &fault),
+    };
+    match print_sources(runner, sources, program, known.as_ref()) {
+        Ok(printed) => report_answer(alloc, program, printed, files),
+        Err(refusal) => refusal_answer(runner, &refusal, program, sources, explaining),
+    }
 }
 
 // What is answered to a request for a program, from the texts of its files.
@@ -226,14 +263,7 @@ fn answer_program<R: Threads + Wait + Sync, F: Files, W: Watch>(
 {
     let alloc = runner.alloc;
     match read_files(alloc, files, program) {
-        Ok(sources) => match known_faults(alloc, &sources) {
-            Ok(known) => match print_sources(runner, &sources, program, known.as_ref()) {
-                Ok(printed) => report_answer(alloc, program, printed, files),
-                Err(refusal) => refusal_answer(runner, &refusal, program, &sources, explaining),
-            },
-            Err(Failure::OutOfMemory) => Answer::OutOfMemory,
-            Err(Failure::Refused(fault)) => baseline_answer(alloc, &fault),
-        },
+        Ok(sources) => answer_sources(runner, program, &sources, files, explaining),
         Err(FileError::OutOfMemory) => Answer::OutOfMemory,
         Err(FileError::Unread(path)) => {
             let is_explained = is_refusal_explained(program, explaining);
@@ -326,7 +356,10 @@ fn unfound_answer<F: Files>(
     files: &F,
     error: &FileError<'_>,
     explaining: Explaining,
-) -> Answer {
+) -> Answer
+    requires { LosesPath (F.unreadable files.now) error.now }
+    ensures { TellsUnfound (F.unreadable files.now) result }
+{
     match error {
         FileError::OutOfMemory => Answer::OutOfMemory,
         FileError::Unread(path) => {
@@ -335,26 +368,26 @@ fn unfound_answer<F: Files>(
     }
 }
 
-// What is answered to a request whose routines are these, and those below folders among them.
+// What is answered to a request whose routines are at these paths, and below those that are folders.
 fn answer_paths<R: Threads + Wait + Sync, F: Files, W: Watch>(
     runner: &Runner<'_, R, W>,
     request: Request<'_>,
     paths: &[&str],
     files: &F,
     explaining: Explaining,
-) -> Answer {
+) -> Answer
+    ensures { AnswersFound (F.holds files.now) (F.below files.now) (F.unreadable files.now) request.entry (bytes_of paths.now) result }
+{
     let alloc = runner.alloc;
     let found = match find_routines(alloc, files, paths) {
         Ok(found) => found,
         Err(error) => return unfound_answer(alloc, files, &error, explaining),
     };
-    match found_paths(alloc, found.as_slice()) {
-        Ok(routines) => {
-            let request = with_routines(request, routines);
-            answer_request(runner, &request, files, explaining)
-        }
-        Err(AllocError) => Answer::OutOfMemory,
-    }
+    let Ok(routines) = found_paths(alloc, found.as_slice()) else {
+        return Answer::OutOfMemory;
+    };
+    let request = with_routines(request, routines);
+    answer_request(runner, &request, files, explaining)
 }
 
 // What is answered to a command line: its routines are found, and its request is answered.
@@ -363,17 +396,19 @@ fn answer_line<R: Threads + Wait + Sync, F: Files, W: Watch>(
     line: CommandLine<'_>,
     files: &F,
     explaining: Explaining,
-) -> Answer {
+) -> Answer
+    ensures { AnswersLine (F.holds files.now) (F.below files.now) (F.unreadable files.now) line.entry result }
+{
     let alloc = runner.alloc;
     let CommandLine { request, list } = line;
-    let text = match read_list(alloc, files, list) {
+    let text = match read_given(alloc, files, list) {
         Ok(text) => text,
         Err(error) => return unfound_answer(alloc, files, &error, explaining),
     };
-    let Ok(listed) = str::from_utf8(text.as_slice()) else {
-        return unread_answer(alloc, files, list.unwrap_or(""), false);
+    let Ok(list) = list_of(alloc, &text) else {
+        return Answer::OutOfMemory;
     };
-    match all_paths(alloc, &request, listed) {
+    match all_paths(alloc, &request, &list) {
         Ok(paths) => answer_paths(runner, request, paths.as_slice(), files, explaining),
         Err(AllocError) => Answer::OutOfMemory,
     }

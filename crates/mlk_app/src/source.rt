@@ -187,8 +187,8 @@ fn read_work<'a, F: Files>(
     }
 }
 
-// The text of the file at a path, if one is given.
-fn read_given<'a, F: Files>(
+/// The text of the file at a path, if one is given.
+pub(crate) fn read_given<'a, F: Files>(
     alloc: Global,
     files: &F,
     path: Option<&'a str>,
