@@ -91,3 +91,12 @@ loses-past holds unreadable (asked.Replay path) (work.Check text given) paths e 
 loses-past holds unreadable (asked.Replay path) (work.Make format) paths e held lost = absurd held
 loses-past holds unreadable (asked.Replay path) (work.Verify given) paths e held lost = absurd held
 loses-past holds unreadable (asked.Replay path) (work.Replay text) paths e held lost = loses-after holds unreadable path.now text.items paths e held lost
+
+-- what is lost after the texts of routines were had
+pub loses-behind : (holds : Texts) (unreadable : List ℕ → Type 0) (paths : List (Bor (List ℕ))) (sources : List Source) (more : List (List ℕ)) (e : FileError) → AreSources holds paths sources → LosesFirst holds unreadable more e
+    → LosesFirst holds unreadable (bytes_of paths ++ more) e
+loses-behind holds unreadable [] [] more e read lost = lost
+loses-behind holds unreadable [] (source ∷ sources) more e read lost = absurd read
+loses-behind holds unreadable (path ∷ paths) [] more e read lost = absurd read
+loses-behind holds unreadable (path ∷ paths) (source ∷ sources) more e read lost =
+    loses-after holds unreadable path.now source.text.items (bytes_of paths ++ more) e read.0.1 (loses-behind holds unreadable paths sources more e read.1 lost)

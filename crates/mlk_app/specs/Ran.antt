@@ -1,6 +1,6 @@
 -- What the program says: what it prints on standard output, what it tells on the error stream, and the status that
 -- it ends with. This project's own choice.
-use Rattle.std.specs.Prelude.{◌≡◌, ◌⊎◌, ◌||◌, ◌++◌, ℕ, List, [], ◌∷◌, length, Bool, true, false, Option, None, Some, option_map, String}
+use Rattle.std.specs.Prelude.{◌≡◌, ◌⊎◌, ◌||◌, ◌++◌, ℕ, List, [], ◌∷◌, length, Bool, true, false, Option, None, Some, option_copied, String}
 use Rattle.std.specs.Io.KnownBytes.{Keeps, Appends}
 use Rattle.mlk_syntax.specs.Trees.{RoutineTree}
 use Rattle.mlk_walk.specs.declared.report.Row.{Row}
@@ -97,7 +97,7 @@ pub record IsPrintedBeside (style : ReportStyle) (comparison : Option (Bor Compa
 -- The same, where the faults are compared with known ones if there are such.
 pub record IsReportPrinted (program : ProgramRequest) (known : Option (Bor Baseline)) (trees : List RoutineTree) (rows : List Row) (text : List ℕ) (status : ℕ) : Type 0 where
   pub comparison : Option (Bor Comparison)
-  pub compared : AreCompared known rows (option_map (λ c. c.now) comparison)
+  pub compared : AreCompared known rows (option_copied comparison)
   pub printed : IsPrintedBeside (style_in program.asked) comparison trees rows text status
 
 -- the line of what the check itself refuses
