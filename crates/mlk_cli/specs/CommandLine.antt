@@ -1,6 +1,6 @@
 -- What the words of a command line ask for, by what `clap` makes of them. This project's own choice.
 use Rattle.std.specs.Borrow.{Bor}
-use Rattle.std.specs.Prelude.{option_map, ℕ, ◌≡◌, ◌==◌, ◌<◌, ◌^◌, List, [], Option, Some, None, Bool, if◌then◌else◌, codes, true, false, map, string_bytes, String}
+use Rattle.std.specs.Prelude.{option_map, ℕ, ◌≡◌, ◌==◌, ◌<◌, ◌^◌, List, [], Option, Some, None, Bool, if◌then◌else◌, not, ◌&&◌, codes, true, false, map, string_bytes, String}
 use Rattle.std.specs.List.{list_any, starts_with}
 use Rattle.std.specs.Str.Parse.{IsNumeral, digits_value, without_leading_plus}
 use Rattle.clap.specs.Words.{Row, Text, all_of, first_of, one_of, subcommand_of}
@@ -93,11 +93,12 @@ IsQuiet rows quiet = IsFlag (codes "quiet") rows quiet
 abbrev pub ExitsZero : List Row → Bool → Type 0
 ExitsZero rows zero = IsFlag (codes "exit-zero") rows zero
 
--- Only text is explained, or is reduced to its answer, and not both.
-pub record IsPossible (style : ReportStyle) : Type 0 where
-  pub explained : style.is_explained ≡ true → style.output ≡ Plain
-  pub quiet : style.is_quiet ≡ true → style.output ≡ Plain
-  pub apart : style.is_explained ≡ true → style.is_quiet ≡ false
+-- Only text is explained, or reduced to its answer, and not both.
+abbrev pub goes_together : Output → Bool → Bool → Bool
+goes_together Plain explained quiet = not (explained && quiet)
+goes_together Json explained quiet = not explained && not quiet
+goes_together Sarif explained quiet = not explained && not quiet
+goes_together Lines explained quiet = not explained && not quiet
 
 -- the style of a report
 pub record IsStyle (rows : List Row) (style : ReportStyle) : Type 0 where
@@ -106,7 +107,7 @@ pub record IsStyle (rows : List Row) (style : ReportStyle) : Type 0 where
   pub explained : IsExplained rows style.is_explained
   pub quiet : IsQuiet rows style.is_quiet
   pub zero : ExitsZero rows style.exits_zero
-  pub possible : IsPossible style
+  pub possible : goes_together style.output style.is_explained style.is_quiet ≡ true
 
 abbrev pub GivesStyle : List Row → Option ReportStyle → Type 0
 GivesStyle rows None = (style : ReportStyle) → IsStyle rows style → ⊥

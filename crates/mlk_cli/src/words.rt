@@ -1,12 +1,12 @@
 // The command line, as `clap` reads it.
 
-ghost use Rattle.std.specs.Prelude.{◌≡◌, ◌≢◌, ◌↔◌, codes, IfOk, IfErr, IsTrue, true};
+ghost use Rattle.std.specs.Prelude.{◌≡◌, ◌≢◌, codes, IfOk, IfErr, true};
 ghost use Rattle.clap.specs.Words.{found_of, rows_of, kind_of};
 ghost use Rattle.clap.specs.Takes.{takes};
 ghost use Rattle.clap.specs.declared.error.kind.ErrorKind.TheVariants.{OutOfMemory};
 ghost use Rattle.clap.specs.Simple.{subcommand_rows_of};
 ghost use Rattle.mlk_cli_grammar.specs.Grammar.{mlock_app};
-ghost use Rattle.mlk_cli.specs.CommandLine.{GivesNumber, GivesFormat, NamesOutput, GivesOutput, GivesFlag, IsPossible, GivesStyle, GivesWalk, GivesSurveyOutput, GivesAsked, GivesRoutines, GivesProgram, GivesSurvey, GivesSuggestion, IsWanted, GivesWanted, GivesStubs, GivesConversion, GivesPaths, GivesLine, texts_of, names_list, lists_routines, Asks, IsRequest, LacksRequest};
+ghost use Rattle.mlk_cli.specs.CommandLine.{GivesNumber, GivesFormat, NamesOutput, GivesOutput, GivesFlag, goes_together, GivesStyle, GivesWalk, GivesSurveyOutput, GivesAsked, GivesRoutines, GivesProgram, GivesSurvey, GivesSuggestion, IsWanted, GivesWanted, GivesStubs, GivesConversion, GivesPaths, GivesLine, texts_of, names_list, lists_routines, Asks, IsRequest, LacksRequest};
 
 use clap::error::ErrorKind;
 use clap::{ArgMatches, Error};
@@ -219,14 +219,14 @@ fn flag_of(matches: &ArgMatches<'_>, option: &str) -> Option<bool>
     None
 }
 
-// Whether a report may have this style.
-fn is_possible(style: &ReportStyle) -> bool
-    ensures { IsTrue result ↔ IsPossible style.now }
+// Whether a report of this form may be explained, or be reduced to its answer.
+fn goes_together(output: Output, is_explained: bool, is_quiet: bool) -> bool
+    ensures { result ≡ goes_together output is_explained is_quiet }
 {
-    if style.output == Output::Text {
-        return !(style.is_explained && style.is_quiet);
+    match output {
+        Output::Text => !(is_explained && is_quiet),
+        Output::Json | Output::Sarif | Output::Lines => !is_explained && !is_quiet,
     }
-    !style.is_explained && !style.is_quiet
 }
 
 fn style_of(matches: &ArgMatches<'_>) -> Option<ReportStyle>
@@ -247,17 +247,16 @@ fn style_of(matches: &ArgMatches<'_>) -> Option<ReportStyle>
     let Some(exits_zero) = flag_of(matches, "exit-zero") else {
         return None;
     };
-    let style = ReportStyle {
+    if !goes_together(output, is_explained, is_quiet) {
+        return None;
+    }
+    Some(ReportStyle {
         output,
         is_strict,
         is_explained,
         is_quiet,
         exits_zero,
-    };
-    if !is_possible(&style) {
-        return None;
-    }
-    Some(style)
+    })
 }
 
 // How many workers a command was given, and the style of its report.

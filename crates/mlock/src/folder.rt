@@ -1,6 +1,6 @@
 // Folders of routines.
 
-use std::alloc::AllocError;
+use std::alloc::Global;
 use std::fs::{DirEntry, metadata, read_dir};
 use std::io;
 
@@ -15,32 +15,29 @@ pub(crate) fn is_folder(rt: &HostRuntime, path: &str) -> bool {
 // What is found below a folder: folders that were not looked into yet, and routines.
 #[derive(Drop)]
 struct Found {
+    alloc: Global,
     folders: Vec<String>,
     routines: Vec<String>,
 }
 
 impl Found {
-    // Adds what is in a folder: a folder, but no link to one, or a file of a routine.
+    // Adds what is in a folder, if it is a folder, but no link to one, or a routine's file.
     fn add(&mut self, entry: &DirEntry) -> io::Result<()> {
-        let path = entry.path().as_str();
-        let kind = entry.file_type()?;
-        if kind.is_dir() {
-            self.folders.push(owned(&self.folders, path)?)?;
+        let path = String::from_str(self.alloc, entry.path().as_str())?;
+        if entry.file_type()?.is_dir() {
+            self.folders.push(path)?;
         } else if path.ends_with(".m") {
-            self.routines.push(owned(&self.routines, path)?)?;
+            self.routines.push(path)?;
         }
         Ok(())
     }
-}
-
-fn owned(list: &Vec<String>, path: &str) -> Result<String, AllocError> {
-    String::from_str(*list.allocator(), path)
 }
 
 /// Lists the files `*.m` below a folder, in the order of their paths. Links to folders are not followed.
 pub(crate) fn routines_below(rt: &HostRuntime, folder: &str) -> io::Result<Vec<String>> {
     let alloc = rt.alloc();
     let mut found = Found {
+        alloc,
         folders: Vec::new(alloc),
         routines: Vec::new(alloc),
     };
