@@ -119,7 +119,7 @@ impl<'t> Baseline<'t> {
     fn gone(&self, alloc: Global, met: &Met<'_>) -> Result<Vec<GoneFault<'t>>, AllocError> {
         let mut gone = Vec::new(alloc);
         for (key, known) in &self.counts {
-            let count = known.saturating_sub(met.count(key));
+            let count = known.saturating_sub(met.count(*key));
             if count > 0 {
                 push_sparing(&mut gone, GoneFault { key: *key, count })?;
             }

@@ -31,7 +31,10 @@ fn push_at(found: &mut Vec<Row>, rows: &[Row], number: usize) -> Result<(), Allo
     ensures { OnOk result (found.new.items ≡ found.old.items ++ row_if_there (slice_get rows.now number)) }
 {
     match row_at(rows, number) {
-        Some(row) => found.push(*row),
+        Some(row) => {
+            found.push(*row)?;
+            Ok(())
+        }
         None => Ok(()),
     }
 }

@@ -9,7 +9,7 @@ use mlk_app::{Explaining, Files, Runner, Unwatched, run};
 use mlk_case_text::{Case, cases_of};
 use std::alloc::{AllocError, Global};
 use std::cell::RefCell;
-use std::io::{self, Read, Write};
+use std::io::{self, ErrorKind, Read, Write};
 use std::sync::Wait;
 use std::thread::Threads;
 
@@ -51,7 +51,9 @@ impl Files for CaseFiles<'_> {
     }
 
     fn write(&self, path: &str, text: &[u8]) -> io::Result<()> {
-        let mut written = self.written.borrow_mut();
+        let Ok(mut written) = self.written.try_borrow_mut() else {
+            return Err(io::Error::from(ErrorKind::ResourceBusy));
+        };
         written.extend_from_slice(b"-- ")?;
         written.extend_from_slice(path.as_bytes())?;
         written.extend_from_slice(b"\n")?;
@@ -88,7 +90,8 @@ fn push_answer<R: Threads + Wait + Sync>(
         &mut errors,
     );
     out.extend_from_slice(errors.as_slice())?;
-    out.extend_from_slice(files.written.borrow().as_slice())?;
+    let written = files.written.into_inner();
+    out.extend_from_slice(written.as_slice())?;
     writeln!(out, "= {status}")
 }
 
