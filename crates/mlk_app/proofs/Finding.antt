@@ -19,7 +19,7 @@ pub found-more : (below : Folders) (paths : List (Bor (List ℕ))) (i : ℕ) (d 
 found-more below paths i d at done longer less here is before more h =
     let path = (slice_index_or paths i d).now in
     let this : AreFound below (bytes_of (drop i paths)) (or_itself path at ++ more) =
-      subst (λ l. AreFound below (bytes_of l) (or_itself path at ++ more)) (sym (drop_more paths i d less)) (at, more, here, h, refl) in
+    subst (λ l. AreFound below (bytes_of l) (or_itself path at ++ more)) (sym (drop_more paths i d less)) (at, more, here, h, refl) in
     subst (AreFound below (bytes_of paths)) (sym (append_assoc done (or_itself path at) more) ∙ ap (λ l. l ++ more) (sym is)) (before (or_itself path at ++ more) this)
 
 pub found-all : (below : Folders) (paths : List (Bor (List ℕ))) (i : ℕ) (done : List (List ℕ)) → length paths ≤ i

@@ -15,12 +15,14 @@ use crate::baseline::known_faults;
 use crate::help::{Explaining, certificate_help, is_refusal_explained, refusal_help, why_unread};
 use crate::notice::notice_of;
 use crate::printed::{
-    baseline_line, certificate_line, events_line, fault_line, file_line, missing_line, no_page_line, rules_line,
-    stuck_line, workers_line,
+    baseline_line, certificate_line, events_line, fault_line, file_line, missing_line,
+    no_page_line, rules_line, stuck_line, workers_line,
 };
 use crate::refused::{refused_file, rule_file, spot_in};
 use crate::routines::{all_paths, find_routines, found_paths, list_of, with_routines};
-use crate::source::{FileError, Files, Sources, cert_format, read_file, read_files, read_given, read_sources};
+use crate::source::{
+    FileError, Files, Sources, cert_format, read_file, read_files, read_given, read_sources,
+};
 use crate::stubs::answer_stubs;
 use crate::suggestion::answer_suggestion;
 use crate::work::{Printed, print_sources, style_in};

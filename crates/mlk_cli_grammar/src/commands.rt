@@ -5,11 +5,12 @@ ghost use Rattle.clap.specs.Words.{app_of, rule_of, with_rule, with_subcommand};
 ghost use Rattle.mlk_cli_grammar.specs.Grammar.{path_rule, routines_rule, workers_rule, format_rule, output_rule, flag_rule, file_rule, with_routines, with_style, with_baseline, with_report, check_app, make_app, verify_app, replay_app, convert_app, survey_app, suggest_app, for_rule, stubs_app, explain_app, no_command_app, mlock_app};
 
 use crate::help::{
-    ABOUT, BASELINE_HELP, BESIDE_HELP, CERT_HELP, CHECK_HELP, CHECK_MORE, CODE_HELP, CONVERT_HELP, CONVERT_MORE,
-    EVENTS_HELP, EXIT_ZERO_HELP, EXPLAIN_HELP, FILES_HELP, FOR_HELP, FORMAT_HELP, INSTEAD_HELP, MAKE_HELP, MAKE_MORE,
-    OUTPUT_HELP, PAGE_HELP, PAGE_MORE, QUIET_HELP, REPLAY_HELP, REPLAY_MORE, ROUTINE_HELP, RULES_HELP,
-    STRICT_HELP, STUBS_HELP, STUBS_MORE, SUGGEST_HELP, SUGGEST_MORE, SURVEY_HELP, SURVEY_MORE,
-    SURVEY_OUTPUT_HELP, VERIFY_HELP, VERIFY_MORE, VERSION, WORKERS_HELP, WRITE_BASELINE_HELP,
+    ABOUT, BASELINE_HELP, BESIDE_HELP, CERT_HELP, CHECK_HELP, CHECK_MORE, CODE_HELP, CONVERT_HELP,
+    CONVERT_MORE, EVENTS_HELP, EXIT_ZERO_HELP, EXPLAIN_HELP, FILES_HELP, FOR_HELP, FORMAT_HELP,
+    INSTEAD_HELP, MAKE_HELP, MAKE_MORE, OUTPUT_HELP, PAGE_HELP, PAGE_MORE, QUIET_HELP, REPLAY_HELP,
+    REPLAY_MORE, ROUTINE_HELP, RULES_HELP, STRICT_HELP, STUBS_HELP, STUBS_MORE, SUGGEST_HELP,
+    SUGGEST_MORE, SURVEY_HELP, SURVEY_MORE, SURVEY_OUTPUT_HELP, VERIFY_HELP, VERIFY_MORE, VERSION,
+    WORKERS_HELP, WRITE_BASELINE_HELP,
 };
 use clap::builder::ValueParser;
 use clap::{Arg, ArgAction, Command, value_parser};
@@ -130,12 +131,7 @@ fn with_baseline<'a>(alloc: Global, command: Command<'a>) -> Result<Command<'a>,
 {
     command
         .arg(file_option(alloc, "baseline", "FILE", BASELINE_HELP))?
-        .arg(file_option(
-            alloc,
-            "write-baseline",
-            "FILE",
-            WRITE_BASELINE_HELP,
-        ))
+        .arg(file_option(alloc, "write-baseline", "FILE", WRITE_BASELINE_HELP))
 }
 
 // A command with the number of workers, and the options for its report.

@@ -14,11 +14,7 @@ use mlk_walk::Row;
 use std::alloc::{AllocError, Global};
 
 // `LABEL^ROUTINE`
-fn entry_text(
-    alloc: Global,
-    program: &Program<'_>,
-    entry: EntryId,
-) -> Result<Vec<u8>, AllocError>
+fn entry_text(alloc: Global, program: &Program<'_>, entry: EntryId) -> Result<Vec<u8>, AllocError>
     ensures { IfOk result (λ text. text.items ≡ entry_text (map routine_of program.now) entry) }
 {
     match program.text_of(alloc, entry)? {

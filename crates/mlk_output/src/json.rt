@@ -3,8 +3,8 @@
 ghost use Rattle.std.specs.Prelude.{◌≡◌, IfOk, length, string_bytes};
 ghost use Rattle.mlk_output.specs.Documents.{IsJsonReport, known_in};
 
-use crate::coverage::coverage_value;
 use crate::comparison::{add_comparison, known_in};
+use crate::coverage::coverage_value;
 use crate::document::{Members, json_document};
 use crate::gap::gap_value;
 use crate::notice::{Notice, NoticePlace};

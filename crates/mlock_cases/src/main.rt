@@ -9,7 +9,7 @@ use mlk_app::{Explaining, Files, Runner, Unwatched, run};
 use mlk_case_text::{Case, cases_of};
 use std::alloc::{AllocError, Global};
 use std::cell::RefCell;
-use std::io::{self, ErrorKind, Read, Write};
+use std::io::{self, Read, Write};
 use std::sync::Wait;
 use std::thread::Threads;
 
@@ -51,9 +51,7 @@ impl Files for CaseFiles<'_> {
     }
 
     fn write(&self, path: &str, text: &[u8]) -> io::Result<()> {
-        let Ok(mut written) = self.written.try_borrow_mut() else {
-            return Err(io::Error::from(ErrorKind::ResourceBusy));
-        };
+        let mut written = self.written.try_borrow_mut()?;
         written.extend_from_slice(b"-- ")?;
         written.extend_from_slice(path.as_bytes())?;
         written.extend_from_slice(b"\n")?;
