@@ -148,6 +148,58 @@ suggests_no_stubs : option_map (λ p. first_of (codes "stubs") p.1) (subcommand_
 unfolding clap_on_literals
 suggests_no_stubs = refl
 
+-- known faults, and what is printed of a report
+abbrev known_words : List Text
+known_words = codes "mlock" ∷ codes "check" ∷ codes "--baseline" ∷ codes "k" ∷ codes "--quiet" ∷ codes "r" ∷ codes "c" ∷ codes "A.m" ∷ codes "--write-baseline=n" ∷ []
+
+reads_known : option_map (λ p. first_of (codes "baseline") p.1) (subcommand_of (mlock_app false) known_words) ≡ Some (Some (codes "k"))
+unfolding clap_on_literals
+reads_known = refl
+
+writes_known : option_map (λ p. first_of (codes "write-baseline") p.1) (subcommand_of (mlock_app false) known_words) ≡ Some (Some (codes "n"))
+unfolding clap_on_literals
+writes_known = refl
+
+knows_nothing : option_map (λ p. first_of (codes "baseline") p.1) (subcommand_of (mlock_app false) words) ≡ Some None
+unfolding clap_on_literals
+knows_nothing = refl
+
+is_quiet : option_map (λ p. first_of (codes "quiet") p.1) (subcommand_of (mlock_app false) known_words) ≡ Some (Some (codes "true"))
+unfolding clap_on_literals
+is_quiet = refl
+
+exits_as_ever : option_map (λ p. first_of (codes "exit-zero") p.1) (subcommand_of (mlock_app false) known_words) ≡ Some (Some (codes "false"))
+unfolding clap_on_literals
+exits_as_ever = refl
+
+-- routines that a file lists
+abbrev list_words : List Text
+list_words = codes "mlock" ∷ codes "verify" ∷ codes "--files-from" ∷ codes "l" ∷ codes "r" ∷ []
+
+reads_list : option_map (λ p. first_of (codes "files-from") p.1) (subcommand_of (mlock_app true) list_words) ≡ Some (Some (codes "l"))
+unfolding clap_on_literals
+reads_list = refl
+
+reads_no_routine : option_map (λ p. all_of (codes "ROUTINE") p.1) (subcommand_of (mlock_app true) list_words) ≡ Some None
+unfolding clap_on_literals
+reads_no_routine = refl
+
+takes_list : takes (mlock_app true) list_words ≡ true
+unfolding clap_on_literals
+takes_list = refl
+
+takes_list_beside : takes (mlock_app true) (codes "mlock" ∷ codes "survey" ∷ codes "A.m" ∷ codes "--files-from=l" ∷ []) ≡ true
+unfolding clap_on_literals
+takes_list_beside = refl
+
+converts_no_list : takes (mlock_app true) (codes "mlock" ∷ codes "convert" ∷ codes "--files-from=l" ∷ codes "c" ∷ []) ≡ false
+unfolding clap_on_literals
+converts_no_list = refl
+
+makes_no_baseline : takes (mlock_app false) (codes "mlock" ∷ codes "make" ∷ codes "--baseline=k" ∷ codes "r" ∷ codes "A.m" ∷ []) ≡ false
+unfolding clap_on_literals
+makes_no_baseline = refl
+
 -- words that are taken, and words that are not
 takes_words : takes (mlock_app false) words ≡ true
 unfolding clap_on_literals
