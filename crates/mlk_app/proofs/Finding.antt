@@ -3,7 +3,7 @@ use Rattle.std.proofs.Common.{◌≡◌, ◌∙◌, ℕ, ◌<◌, ◌≤◌, ◌
 use Rattle.std.specs.Prelude.{◌⊎◌, String}
 use Rattle.std.proofs.lemmas.List.{drop_all, drop_more}
 use Rattle.mlk_cli.specs.CommandLine.{IsRequest, bytes_of}
-use Rattle.mlk_cli.specs.declared.words.CommandLine.{CommandLine}
+use Rattle.mlk_cli.specs.declared.words.Invocation.{Invocation}
 use Rattle.mlk_cli.specs.declared.words.Request.{Request}
 use Rattle.mlk_app.specs.declared.answer.Answer.{Answer}
 use Rattle.mlk_app.specs.declared.answer.Answer.TheVariants as answer
@@ -32,14 +32,14 @@ lost-path holds unreadable paths error.OutOfMemory lost = record {}
 lost-path holds unreadable paths (error.Unread path) lost = lost.lost
 
 -- what is answered where something is not found, or where all is found
-pub unfound-line : (holds : Texts) (below : Folders) (unreadable : List ℕ → Type 0) (line : CommandLine) (a : Answer) → TellsUnfound unreadable a → AnswersLine holds below unreadable line a
+pub unfound-line : (holds : Texts) (below : Folders) (unreadable : List ℕ → Type 0) (line : Invocation) (a : Answer) → TellsUnfound unreadable a → AnswersLine holds below unreadable line a
 unfound-line holds below unreadable line (answer.Report text status) told = absurd told
 unfound-line holds below unreadable line (answer.Refused text notice help) told = absurd told
 unfound-line holds below unreadable line (answer.Unread text help) told = inr told
 unfound-line holds below unreadable line (answer.Usage text) told = absurd told
 unfound-line holds below unreadable line answer.OutOfMemory told = record {}
 
-pub found-line : (holds : Texts) (below : Folders) (unreadable : List ℕ → Type 0) (line : CommandLine) (listed : List (List ℕ)) (a : Answer) → AreListed holds line.list listed
+pub found-line : (holds : Texts) (below : Folders) (unreadable : List ℕ → Type 0) (line : Invocation) (listed : List (List ℕ)) (a : Answer) → AreListed holds line.list listed
     → AnswersFound holds below unreadable line.request (named_paths line.request ++ listed) a → AnswersLine holds below unreadable line a
 found-line holds below unreadable line listed a of_list (inl told) = unfound-line holds below unreadable line a told
 found-line holds below unreadable line listed (answer.Report text status) of_list (inr (paths, request, found, replaced, h)) =
@@ -51,7 +51,7 @@ found-line holds below unreadable line listed (answer.Unread text help) of_list 
 found-line holds below unreadable line listed (answer.Usage text) of_list (inr (paths, request, found, replaced, h)) = absurd h
 found-line holds below unreadable line listed answer.OutOfMemory of_list (inr h) = record {}
 
-pub words-answer : {A : Type 0} → (holds : Texts) (below : Folders) (unreadable : List ℕ → Type 0) (words : List (String A)) (line : CommandLine) (a : Answer) → IsRequest words line → AnswersLine holds below unreadable line a
+pub words-answer : {A : Type 0} → (holds : Texts) (below : Folders) (unreadable : List ℕ → Type 0) (words : List (String A)) (line : Invocation) (a : Answer) → IsRequest words line → AnswersLine holds below unreadable line a
     → AnswersWords holds below unreadable words a
 words-answer holds below unreadable words line (answer.Report text status) asked h = (line, asked, h)
 words-answer holds below unreadable words line (answer.Refused text notice help) asked h = (line, asked, h)

@@ -13,7 +13,7 @@ use Rattle.mlk_cli.specs.declared.words.ProgramRequest.{ProgramRequest}
 use Rattle.mlk_cli.specs.declared.words.SurveyRequest.{SurveyRequest}
 use Rattle.mlk_cli.specs.declared.words.SuggestRequest.{SuggestRequest}
 use Rattle.mlk_cli.specs.declared.words.StubsRequest.{StubsRequest}
-use Rattle.mlk_cli.specs.declared.words.CommandLine.{CommandLine}
+use Rattle.mlk_cli.specs.declared.words.Invocation.{Invocation}
 use Rattle.mlk_cli.specs.declared.words.Request.{Request}
 use Rattle.mlk_cli.specs.declared.words.Request.TheVariants as request
 use Rattle.mlk_text.specs.declared.failure.Failure.TheVariants as failure
@@ -402,7 +402,7 @@ AreListed holds (Some list) paths = (text : List ℕ) × holds list.now text
 
 -- What a command line asks for, with the routines that are found at its paths, and at those that a file lists: of a folder those below
 -- it.
-pub record Finds (holds : Texts) (below : Folders) (line : CommandLine) (request : Request) : Type 0 where
+pub record Finds (holds : Texts) (below : Folders) (line : Invocation) (request : Request) : Type 0 where
   pub listed : List (List ℕ)
   pub of_list : AreListed holds line.list listed
   pub paths : List (List ℕ)
@@ -427,7 +427,7 @@ AnswersFound holds below unreadable named paths a = TellsUnfound unreadable a
     ⊎ ((found : List (List ℕ)) × (request : Request) × AreFound below paths found × IsWithRoutines named found request × Answers holds unreadable request a)
 
 -- What is answered to a command line: the answer to its request with the routines that are found.
-abbrev pub AnswersLine : Texts → Folders → (List ℕ → Type 0) → CommandLine → Answer → Type 0
+abbrev pub AnswersLine : Texts → Folders → (List ℕ → Type 0) → Invocation → Answer → Type 0
 AnswersLine holds below unreadable line (answer.Report text status) = (request : Request) × Finds holds below line request × IsReported holds request text status
 AnswersLine holds below unreadable line (answer.Refused text notice help) = (request : Request) × Finds holds below line request × IsRefusedSo holds request text notice
 AnswersLine holds below unreadable line (answer.Unread text help) = ((request : Request) × Finds holds below line request × IsUnread holds unreadable request text) ⊎ IsUnfound unreadable text
@@ -436,9 +436,9 @@ AnswersLine holds below unreadable line answer.OutOfMemory = Unit {0}
 
 -- What the program answers to its words: the answer to what they ask for, or that they ask for nothing.
 abbrev pub AnswersWords : {A : Type 0} → Texts → Folders → (List ℕ → Type 0) → List (String A) → Answer → Type 0
-AnswersWords holds below unreadable words (answer.Report text status) = (line : CommandLine) × IsRequest words line × AnswersLine holds below unreadable line (answer.Report text status)
-AnswersWords holds below unreadable words (answer.Refused text notice help) = (line : CommandLine) × IsRequest words line × AnswersLine holds below unreadable line (answer.Refused text notice help)
-AnswersWords holds below unreadable words (answer.Unread text help) = (line : CommandLine) × IsRequest words line × AnswersLine holds below unreadable line (answer.Unread text help)
+AnswersWords holds below unreadable words (answer.Report text status) = (line : Invocation) × IsRequest words line × AnswersLine holds below unreadable line (answer.Report text status)
+AnswersWords holds below unreadable words (answer.Refused text notice help) = (line : Invocation) × IsRequest words line × AnswersLine holds below unreadable line (answer.Refused text notice help)
+AnswersWords holds below unreadable words (answer.Unread text help) = (line : Invocation) × IsRequest words line × AnswersLine holds below unreadable line (answer.Unread text help)
 AnswersWords holds below unreadable words (answer.Usage text) = AsksNothing words
 AnswersWords holds below unreadable words answer.OutOfMemory = Unit {0}
 

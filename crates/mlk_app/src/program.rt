@@ -29,7 +29,7 @@ use crate::work::{Printed, print_sources, style_in};
 use mlk_baseline::BaselineFault;
 use mlk_cert::CertFault;
 use mlk_cli::{
-    CommandLine, Format, ProgramRequest, Request, SurveyRequest, UsageError, read_request,
+    Format, Invocation, ProgramRequest, Request, SurveyRequest, UsageError, read_request,
 };
 use mlk_forms::{render_notice, render_pages, render_survey};
 use mlk_outcome::{NoReport, convert};
@@ -395,14 +395,14 @@ fn answer_paths<R: Threads + Wait + Sync, F: Files, W: Watch>(
 // What is answered to a command line: its routines are found, and its request is answered.
 fn answer_line<R: Threads + Wait + Sync, F: Files, W: Watch>(
     runner: &Runner<'_, R, W>,
-    line: CommandLine<'_>,
+    line: Invocation<'_>,
     files: &F,
     explaining: Explaining,
 ) -> Answer
     ensures { AnswersLine (F.holds files.now) (F.below files.now) (F.unreadable files.now) line.entry result }
 {
     let alloc = runner.alloc;
-    let CommandLine { request, list } = line;
+    let Invocation { request, list } = line;
     let text = match read_given(alloc, files, list) {
         Ok(text) => text,
         Err(error) => return unfound_answer(alloc, files, &error, explaining),

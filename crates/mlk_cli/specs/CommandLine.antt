@@ -23,7 +23,7 @@ use Rattle.mlk_cli.specs.declared.words.WantedStubs.TheVariants as wanted
 use Rattle.mlk_cli.specs.declared.words.StubsRequest.{StubsRequest}
 use Rattle.mlk_cli.specs.declared.words.Request.{Request}
 use Rattle.mlk_cli.specs.declared.words.Request.TheVariants as request
-use Rattle.mlk_cli.specs.declared.words.CommandLine.{CommandLine}
+use Rattle.mlk_cli.specs.declared.words.Invocation.{Invocation}
 use Rattle.mlk_cli.specs.declared.words.UsageError.{UsageError}
 use Rattle.mlk_cli.specs.declared.words.UsageError.TheVariants as usage
 
@@ -236,12 +236,12 @@ GivesPaths name rows None = (asked : Request) → IsGiven name rows asked → �
 GivesPaths name rows (Some asked) = IsGiven name rows asked
 
 -- the command that was met was given what the request has, and the path of the file that lists more routines
-abbrev pub IsMet : Option (Text × List Row) → CommandLine → Type 0
+abbrev pub IsMet : Option (Text × List Row) → Invocation → Type 0
 IsMet met line = (name : Text) × (rows : List Row) × (met ≡ Some (name, rows)) × IsGiven name rows line.request × IsPathOf (codes "files-from") rows line.list
 
 -- what the command that was met gives: nothing where it was given what no request has
-abbrev pub GivesLine : Option (Text × List Row) → Option CommandLine → Type 0
-GivesLine met None = (line : CommandLine) → IsMet met line → ⊥
+abbrev pub GivesLine : Option (Text × List Row) → Option Invocation → Type 0
+GivesLine met None = (line : Invocation) → IsMet met line → ⊥
 GivesLine met (Some line) = IsMet met line
 
 abbrev pub texts_of : {A : Type 0} → List (String A) → List Text
@@ -256,16 +256,16 @@ abbrev pub lists_routines : {A : Type 0} → List (String A) → Bool
 lists_routines words = list_any names_list (texts_of words)
 
 -- what the words ask for, if anything
-abbrev pub Asks : {A : Type 0} → List (String A) → Option CommandLine → Type 0
+abbrev pub Asks : {A : Type 0} → List (String A) → Option Invocation → Type 0
 Asks words line = GivesLine (subcommand_of (mlock_app (lists_routines words)) (texts_of words)) line
 
 -- The words name a command and give it the paths of the request, and what else it has, as `clap` reads them.
-abbrev pub IsRequest : {A : Type 0} → List (String A) → CommandLine → Type 0
+abbrev pub IsRequest : {A : Type 0} → List (String A) → Invocation → Type 0
 IsRequest words line = IsMet (subcommand_of (mlock_app (lists_routines words)) (texts_of words)) line
 
 -- `clap` does not take the words, or they are those of no request.
 abbrev pub AsksNothing : {A : Type 0} → List (String A) → Type 0
-AsksNothing words = takes (mlock_app (lists_routines words)) (texts_of words) ≡ true → (line : CommandLine) → IsRequest words line → ⊥
+AsksNothing words = takes (mlock_app (lists_routines words)) (texts_of words) ≡ true → (line : Invocation) → IsRequest words line → ⊥
 
 -- Why there is no request. Want of memory says nothing.
 abbrev pub LacksRequest : {A : Type 0} → List (String A) → UsageError → Type 0

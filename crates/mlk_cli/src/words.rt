@@ -142,7 +142,7 @@ pub enum Request<'a> {
 
 /// What the words ask for, and the path of the file that lists more routines, if it is given.
 #[derive(Drop, Debug)]
-pub struct CommandLine<'a> {
+pub struct Invocation<'a> {
     pub request: Request<'a>,
     pub list: Option<&'a str>,
 }
@@ -525,7 +525,7 @@ fn command_request<'a>(
 fn line_of<'a>(
     alloc: Global,
     matches: &ArgMatches<'a>,
-) -> Result<Option<CommandLine<'a>>, AllocError>
+) -> Result<Option<Invocation<'a>>, AllocError>
     ensures { IfOk result (GivesLine (subcommand_rows_of matches.now)) }
 {
     let Some((name, inner)) = matches.subcommand() else {
@@ -535,7 +535,7 @@ fn line_of<'a>(
         return Ok(None);
     };
     let list = inner.get_str("files-from");
-    Ok(Some(CommandLine { request, list }))
+    Ok(Some(Invocation { request, list }))
 }
 
 // Whether a word names a file that lists routines.
@@ -557,7 +557,7 @@ fn lists_routines(words: &[String]) -> bool
     false
 }
 
-fn read_words<'a>(alloc: Global, words: &'a [String]) -> Result<Option<CommandLine<'a>>, Error>
+fn read_words<'a>(alloc: Global, words: &'a [String]) -> Result<Option<Invocation<'a>>, Error>
     ensures asks { IfOk result (Asks words.now) }
     ensures passes { IfErr result (λ e. takes (mlock_app (lists_routines words.now)) (texts_of words.now) ≡ true → kind_of e ≡ OutOfMemory) }
 {
@@ -574,7 +574,7 @@ fn no_request(alloc: Global) -> UsageError {
 }
 
 /// What the words ask for; the first word is the program's name.
-pub fn read_request<'a>(alloc: Global, words: &'a [String]) -> Result<CommandLine<'a>, UsageError>
+pub fn read_request<'a>(alloc: Global, words: &'a [String]) -> Result<Invocation<'a>, UsageError>
     ensures asks { IfOk result (IsRequest words.now) }
     ensures refused { IfErr result (LacksRequest words.now) }
 {
