@@ -7,11 +7,11 @@ _mlock() {
     if [ "$before" = "=" ]; then before=${COMP_WORDS[COMP_CWORD - 2]}; fi
     COMPREPLY=()
     if [ "$COMP_CWORD" -eq 1 ]; then
-        mapfile -t COMPREPLY < <(compgen -W "check make verify replay convert survey suggest explain help --help --version" -- "$word")
+        mapfile -t COMPREPLY < <(compgen -W "check make verify replay convert survey suggest stubs explain help --help --version" -- "$word")
         return
     fi
     case ${COMP_WORDS[1]}:$before in
-        help:*) words="check make verify replay convert survey suggest explain" ;;
+        help:*) words="check make verify replay convert survey suggest stubs explain" ;;
         check:--workers) words="" ;;
         check:--output) words="text json sarif" ;;
         make:--format) words="1 2" ;;
@@ -19,6 +19,7 @@ _mlock() {
         verify:--output) words="text json sarif" ;;
         convert:--format) words="1 2" ;;
         survey:--output) words="text json" ;;
+        stubs:--for) words="" ;;
         *)
             if [[ $word != -* ]]; then
                 compopt -o filenames
@@ -34,7 +35,8 @@ _mlock() {
             replay) words="--help" ;;
             convert) words="--format --help" ;;
             survey) words="--output --help" ;;
-            suggest) words="--beside --help" ;;
+            suggest) words="--beside --stubs --help" ;;
+            stubs) words="--for --help" ;;
             explain) words="--help" ;;
         esac
     fi
