@@ -1,6 +1,7 @@
 -- What the words of a command line ask for, by what `clap` makes of them. This project's own choice.
 use Rattle.std.specs.Borrow.{Bor}
-use Rattle.std.specs.Prelude.{option_map, ℕ, ◌≡◌, ◌==◌, ◌<◌, ◌^◌, List, [], Option, Some, None, Bool, if◌then◌else◌, not, ◌&&◌, codes, true, false, map, string_bytes, String}
+use Rattle.std.specs.Global.{Global}
+use Rattle.std.specs.Prelude.{option_map, ℕ, ◌≡◌, ◌==◌, ◌<◌, ◌^◌, List, [], Option, Some, None, Bool, if◌then◌else◌, not, ◌&&◌, codes, true, false, map, string_bytes, String, Vec}
 use Rattle.std.specs.List.{list_any, starts_with}
 use Rattle.std.specs.Str.Parse.{IsNumeral, digits_value, without_leading_plus}
 use Rattle.clap.specs.Words.{Row, Text, all_of, first_of, one_of, subcommand_of}
@@ -158,9 +159,9 @@ paths_or_list None None = None
 abbrev pub AreRoutines : List Row → List (Bor (List ℕ)) → Type 0
 AreRoutines rows routines = paths_or_list (all_of (codes "ROUTINE") rows) (first_of (codes "files-from") rows) ≡ Some (bytes_of routines)
 
-abbrev pub GivesRoutines : List Row → Option (List (Bor (List ℕ))) → Type 0
-GivesRoutines rows None = (routines : List (Bor (List ℕ))) → AreRoutines rows routines → ⊥
-GivesRoutines rows (Some routines) = AreRoutines rows routines
+abbrev pub GivesRoutines : List Row → Option (Vec (Bor (List ℕ)) Global) → Type 0
+GivesRoutines rows None = (routines : Vec (Bor (List ℕ)) Global) → AreRoutines rows routines.items → ⊥
+GivesRoutines rows (Some routines) = AreRoutines rows routines.items
 
 -- the request has the paths, and what else the command of a name was given
 pub record IsProgramGiven (name : Text) (rows : List Row) (program : ProgramRequest) : Type 0 where

@@ -11,7 +11,7 @@ returns-in_default-get_str c = λ program given.
 
 pub returns-in_default-2 : goal.returns-in_default-2
 returns-in_default-2 c = λ program given.
-    let none = subst (GivesRoutines (rows_of (found_of c.args.matches.now))) c.in_default-2.is c.in_ok-routines.ensures in none program.routines.items given.routines
+    let none = subst (GivesRoutines (rows_of (found_of c.args.matches.now))) c.in_default-2.is c.in_ok-routines.ensures in none program.routines given.routines
 
 pub returns : goal.returns
 returns c =

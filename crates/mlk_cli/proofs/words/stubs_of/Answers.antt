@@ -9,7 +9,7 @@ returns-in_default c = λ stubs given.
 
 pub returns-in_default-2 : goal.returns-in_default-2
 returns-in_default-2 c = λ stubs given.
-    let none = subst (GivesRoutines (rows_of (found_of c.args.matches.now))) c.in_default-2.is c.in_ok-routines.ensures in none stubs.routines.items given.routines
+    let none = subst (GivesRoutines (rows_of (found_of c.args.matches.now))) c.in_default-2.is c.in_ok-routines.ensures in none stubs.routines given.routines
 
 pub returns : goal.returns
 returns c =

@@ -7,7 +7,7 @@ use Rattle.mlk_cli.proofs.words.suggestion_of.Goals as goal
 
 pub returns-in_default : goal.returns-in_default
 returns-in_default c = λ suggestion given.
-    let none = subst (GivesRoutines (rows_of (found_of c.args.matches.now))) c.in_default.is c.in_ok-routines.ensures in none suggestion.routines.items given.routines
+    let none = subst (GivesRoutines (rows_of (found_of c.args.matches.now))) c.in_default.is c.in_ok-routines.ensures in none suggestion.routines given.routines
 
 pub returns-in_default-flag_of : goal.returns-in_default-flag_of
 returns-in_default-flag_of c = λ suggestion given. only-false (codes "stubs") (rows_of (found_of c.args.matches.now)) c.flag_of.result (grind rules) c.flag_of.ensures given.of_rules

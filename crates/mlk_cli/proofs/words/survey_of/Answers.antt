@@ -5,7 +5,7 @@ use Rattle.mlk_cli.proofs.words.survey_of.Goals as goal
 
 pub returns-in_default : goal.returns-in_default
 returns-in_default c = λ survey given.
-    let none = subst (GivesRoutines (rows_of (found_of c.args.matches.now))) c.in_default.is c.in_ok-routines.ensures in none survey.routines.items given.routines
+    let none = subst (GivesRoutines (rows_of (found_of c.args.matches.now))) c.in_default.is c.in_ok-routines.ensures in none survey.routines given.routines
 
 pub returns : goal.returns
 returns c =
