@@ -13,10 +13,10 @@ returns c = record {
   reported = c.in_ok-hazards.ensures;
   found = c.in_ok-gaps.ensures;
   printed = subst (λ (gaps : List Gap). IsReportAs c.args.style.is_explained c.args.style.output (map routine_of c.args.inputs.now.routines.now) c.args.report.now c.in_ok-hazards.hazards.items gaps c.in_ok-text.text)
-  c.as_slice-found.ensures.value
-  (subst (λ (hazards : List HazardAt). IsReportAs c.args.style.is_explained c.args.style.output (map routine_of c.args.inputs.now.routines.now) c.args.report.now hazards c.as_slice-found.result.now c.in_ok-text.text)
-  c.as_slice-reported.ensures.value c.in_ok-text.ensures);
+      c.as_slice-found.ensures.value
+      (subst (λ (hazards : List HazardAt). IsReportAs c.args.style.is_explained c.args.style.output (map routine_of c.args.inputs.now.routines.now) c.args.report.now hazards c.as_slice-found.result.now c.in_ok-text.text)
+      c.as_slice-reported.ensures.value c.in_ok-text.ensures);
   ended = c.passes-passes.ensures
-  ∙ ap (λ (hazards : List HazardAt). passes c.args.report.now hazards c.as_slice-found.result.now) c.as_slice-reported.ensures.value
-  ∙ ap (λ (gaps : List Gap). passes c.args.report.now c.in_ok-hazards.hazards.items gaps) c.as_slice-found.ensures.value;
+      ∙ ap (λ (hazards : List HazardAt). passes c.args.report.now hazards c.as_slice-found.result.now) c.as_slice-reported.ensures.value
+      ∙ ap (λ (gaps : List Gap). passes c.args.report.now c.in_ok-hazards.hazards.items gaps) c.as_slice-found.ensures.value;
 }
