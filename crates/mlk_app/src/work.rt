@@ -134,10 +134,10 @@ fn printed_report(
 }
 
 // Prints `report`, which is of a program by `certificate`, with all that explains it in the style that is asked for.
-fn print_explained<R: Threads + Wait + Sync, W: Watch>(
+fn print_explained<'a, R: Threads + Wait + Sync, W: Watch>(
     runner: &Runner<'_, R, W>,
-    subject: &Subject<'_>,
-    certificate: &Certificate,
+    subject: &'a Subject<'a>,
+    certificate: &'a Certificate,
     is_made: bool,
     report: &Report,
 ) -> Result<Printed, AllocError>
