@@ -11,7 +11,7 @@ ghost use Rattle.mlk_app.specs.Ran.{style_in, status_of, IsReportPrinted, IsRepo
 ghost use Rattle.mlk_app.specs.Printing.{IsPrintedOfTrees, IsPrintedOfTexts, IsRefusedSources};
 
 use crate::answer::{NO, YES};
-use crate::behind::{Search, is_explained};
+use crate::behind::{find_behind, is_explained};
 use crate::source::{Sources, Work, copied_texts};
 use mlk_cert::{CertFormat, Certificate, read_cert};
 use mlk_cli::{Asked, Output, ProgramRequest, ReportStyle};
@@ -134,31 +134,28 @@ fn printed_report(
 }
 
 // Prints `report`, which is of a program by `certificate`, with all that explains it in the style that is asked for.
-fn print_explained<'a, R: Threads + Wait + Sync, W: Watch>(
+fn print_explained<R: Threads + Wait + Sync, W: Watch>(
     runner: &Runner<'_, R, W>,
-    subject: &'a Subject<'a>,
-    certificate: &'a Certificate,
+    subject: &Subject<'_>,
+    certificate: &Certificate,
     is_made: bool,
     report: &Report,
 ) -> Result<Printed, AllocError>
     ensures { IfOk result (λ p. IsReportPrinted (style_in subject.now.request.now.asked) (map routine_of subject.now.program.now) report.now p.text p.status) }
 {
     let alloc = runner.alloc;
-    let program = subject.program;
-    let rules = subject.rules;
+    let style = style_in(&subject.request.asked);
+    let coverage = reported_coverage(alloc, subject.program, subject.rules, style)?;
     let texts = shown_texts(alloc, subject.sources, subject.request)?;
     let grounds = Grounds {
-        program,
+        program: subject.program,
         texts: texts.as_slice(),
-        rules,
+        rules: subject.rules,
         rule_text: subject.sources.rules.as_slice(),
         certificate,
         is_made,
     };
-    let style = style_in(&subject.request.asked);
-    let search = Search::new(alloc, subject.sources, &grounds, style);
-    let behind = search.run(runner, report, style)?;
-    let coverage = reported_coverage(alloc, program, rules, style)?;
+    let behind = find_behind(runner, subject.sources, &grounds, report, style)?;
     let explanations = Explanations {
         grounds: &grounds,
         behind: &behind,
