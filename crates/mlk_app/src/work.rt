@@ -12,7 +12,7 @@ ghost use Rattle.mlk_app.specs.Printing.{IsPrintedOfTrees, IsPrintedOfTexts, IsR
 
 use crate::answer::{NO, YES};
 use crate::baseline::{compare_faults, uses_keys};
-use crate::behind::{Search, is_explained};
+use crate::behind::{find_behind, is_explained};
 use crate::source::{Sources, Work, copied_texts};
 use mlk_baseline::Baseline;
 use mlk_cert::{CertFormat, Certificate, read_cert};
@@ -153,28 +153,21 @@ fn print_explained<R: Threads + Wait + Sync, W: Watch>(
     ensures { IfOk result (λ p. IsReportPrinted subject.now.request.now subject.now.known (map routine_of subject.now.program.now) report.now p.text p.status) }
 {
     let alloc = runner.alloc;
-    let program = subject.program;
-    let rules = subject.rules;
+    let style = style_in(&subject.request.asked);
+    let coverage = reported_coverage(alloc, subject.program, subject.rules, style)?;
     let texts = shown_texts(alloc, subject.sources, subject.request)?;
     let grounds = Grounds {
-        program,
+        program: subject.program,
         texts: texts.as_slice(),
-        rules,
+        rules: subject.rules,
         rule_text: subject.sources.rules.as_slice(),
         certificate,
         is_made,
     };
     let request = subject.request;
-    let style = style_in(&request.asked);
     let beside = compare_faults(alloc, &grounds, report, subject.known, request)?;
-    let search = Search::new(alloc, subject.sources, &grounds, style);
-    // Beside known faults, only new ones are of interest, and most faults behind others are behind known ones.
-    let behind = if subject.known.is_some() {
-        search.found()
-    } else {
-        search.run(runner, report, style)?
-    };
-    let coverage = reported_coverage(alloc, program, rules, style)?;
+    let is_compared = subject.known.is_some();
+    let behind = find_behind(runner, subject.sources, &grounds, report, style, is_compared)?;
     let explanations = Explanations {
         grounds: &grounds,
         behind: &behind,
