@@ -1,6 +1,7 @@
 -- What the words of a command line ask for.
 use Rattle.std.specs.Borrow.{Bor}
 use Rattle.std.proofs.Common.{◌≡◌, ◌∙◌, sym, ap, subst, ℕ, ◌<◌, ◌^◌, List, Bool, true, false, Option, Some, None, Result, Ok, Err, refl, codes, slice_index, arith}
+use Rattle.std.specs.Prelude.{option_map}
 use Rattle.std.specs.Str.Parse.{ParsesUnsigned, IsNumeral, digits_value, without_leading_plus}
 use Rattle.clap.specs.Matches.{ReadsOne}
 use Rattle.clap.specs.Words.{Text, Row, first_of, one_of}
@@ -29,6 +30,13 @@ plus_and_zeros = ((omega arith, (omega arith, (omega arith, (omega arith, tt))))
 
 some_same : {X : Type 0} {x y : X} → Some x ≡ Some y → x ≡ y
 some_same e = cc
+
+-- where an option has a value, its two parts are known if each is
+pub both-parts : {A X Y : Type 0} (f : A → X) (g : A → Y) (met : Option A) (x : X) (y : Y)
+    → Some x ≡ option_map f met → Some y ≡ option_map (λ (p : X × Y). p.1) (option_map {U = X × Y} (λ a. (f a, g a)) met) → option_map {U = X × Y} (λ a. (f a, g a)) met ≡ Some (x, y)
+both-parts f g None x y first second = let bad = first in cc bad
+both-parts f g (Some a) x y first second =
+    ap (λ q. Some (q, g a)) (sym (some_same first)) ∙ ap (λ q. Some (x, q)) (sym (some_same second))
 
 -- the number of an option is what is read of the text that a command was given
 pub gives-number : (option : Text) (E : Type 0) (gives : List ℕ → Result ℕ E → Type 0) (rows : List Row) (given : Option Text) (read : Option ℕ)

@@ -254,7 +254,7 @@ names_list word = starts_with ◌==◌ word (codes "--files-from")
 
 -- Some word does, so that no routine has to be given.
 abbrev pub lists_routines : {A : Type 0} → List (String A) → Bool
-lists_routines words = list_any names_list (texts_of words)
+lists_routines words = list_any (λ w. names_list (string_bytes w)) words
 
 -- what the words ask for, if anything
 abbrev pub Asks : {A : Type 0} → List (String A) → Option Invocation → Type 0

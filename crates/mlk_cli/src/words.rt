@@ -549,12 +549,7 @@ fn names_list(word: &str) -> bool
 fn lists_routines(words: &[String]) -> bool
     ensures { result ≡ lists_routines words.now }
 {
-    for word in words {
-        if names_list(word.as_str()) {
-            return true;
-        }
-    }
-    false
+    words.iter().any(|word| names_list(word.as_str()))
 }
 
 fn read_words<'a>(alloc: Global, words: &'a [String]) -> Result<Option<Invocation<'a>>, Error>
