@@ -72,7 +72,7 @@ pub(crate) fn compare_faults<'b>(
     known: Option<&Baseline<'b>>,
     request: &ProgramRequest<'_>,
 ) -> Result<KnownBeside<'b>, AllocError>
-    ensures { IfOk result (λ beside. AreCompared known report.now beside.comparison) }
+    ensures { IfOk result (λ beside. AreCompared known.entry report.now beside.comparison) }
 {
     let new_baseline = match request.new_baseline {
         Some(_) => Some(known_text(alloc, grounds, report)?),

@@ -206,7 +206,7 @@ fn report_answer<F: Files>(
     printed: Printed,
     files: &F,
 ) -> Answer
-    ensures { IsReportAnswer program.now printed.entry.text printed.entry.status result }
+    ensures { IsReportAnswer program.now printed.text printed.status result }
 {
     let Some(path) = program.new_baseline else {
         return Answer::Report(printed.text, printed.status);

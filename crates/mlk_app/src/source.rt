@@ -193,8 +193,8 @@ pub(crate) fn read_given<'a, F: Files>(
     files: &F,
     path: Option<&'a str>,
 ) -> Result<Option<Vec<u8>>, FileError<'a>>
-    ensures ok { IfOk result (IsGivenText (F.holds files.now) path) }
-    ensures lost { IfErr result (LosesFirst (F.holds files.now) (F.unreadable files.now) (given_path path)) }
+    ensures ok { IfOk result (IsGivenText (F.holds files.now) path.entry) }
+    ensures lost { IfErr result (LosesFirst (F.holds files.now) (F.unreadable files.now) (given_path path.entry)) }
 {
     match path {
         Some(path) => Ok(Some(read_file(alloc, files, path)?)),

@@ -304,7 +304,7 @@ fn print_routines<R: Threads + Wait + Sync, W: Watch>(
     known: Option<&Baseline<'_>>,
 ) -> Result<Printed, NoReport>
     requires { AreFormed (map routine_of routines.now) }
-    ensures ok { IfOk result (λ p. IsPrintedOfTrees request.now known (map routine_of routines.now) sources.now p.text p.status) }
+    ensures ok { IfOk result (λ p. IsPrintedOfTrees request.now known.entry (map routine_of routines.now) sources.now p.text p.status) }
     ensures refused { IfErr result (RefusesTrees refusal.Check (map routine_of routines.now) sources.now.rules.items (IsRefusedFor sources.now.work)) }
 {
     let alloc = runner.alloc;
@@ -331,7 +331,7 @@ pub(crate) fn print_sources<R: Threads + Wait + Sync, W: Watch>(
     request: &ProgramRequest<'_>,
     known: Option<&Baseline<'_>>,
 ) -> Result<Printed, NoReport>
-    ensures ok { IfOk result (λ p. IsPrintedOfTexts request.now known sources.now p.text p.status) }
+    ensures ok { IfOk result (λ p. IsPrintedOfTexts request.now known.entry sources.now p.text p.status) }
     ensures refused { IfErr result (IsRefusedSources sources.now) }
 {
     let routines = read_routines(runner, sources.routines.as_slice())?;

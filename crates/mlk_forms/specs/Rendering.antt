@@ -54,7 +54,7 @@ answered_text trees rows known gone = (row_lines trees rows ++ answer_line known
 
 -- The place of a row before its line, `PATH:line:column: `. Which path it is, is not said.
 abbrev pub IsPlace : Row → List ℕ → Type 0
-IsPlace r text = (path : List ℕ) × (text ≡ path ++ codes ":" ++ place_text r.fault.line r.fault.column ++ codes ": ")
+IsPlace r text = (path : List ℕ) × (text ≡ path ++ (codes ":" ++ (place_text r.fault.line r.fault.column ++ codes ": ")))
 
 -- lines of rows, each after its place, are added to a text
 abbrev pub ArePlaced : List RoutineTree → List Row → List ℕ → List ℕ → Type 0

@@ -57,7 +57,7 @@ pub(crate) fn gone_lines(
     alloc: Global,
     comparison: Option<&Comparison<'_>>,
 ) -> Result<Vec<u8>, AllocError>
-    ensures { IfOk result (λ gone. AreGone comparison gone.items) }
+    ensures { IfOk result (λ gone. AreGone comparison.entry gone.items) }
 {
     let mut text = Vec::new(alloc);
     if let Some(comparison) = comparison {

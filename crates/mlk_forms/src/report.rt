@@ -292,12 +292,8 @@ pub fn render_report(
     let printed = rows.as_slice();
     let gone = gone_lines(alloc, explanations.comparison)?;
     let below = gone.as_slice();
-    let shown = Shown {
-        report,
-        rows: printed,
-        known: known_in(explanations.comparison),
-        gone: below,
-    };
+    let known = known_in(explanations.comparison);
+    let shown = Shown::new(report, printed, known, below);
     let text = styled_text(alloc, inputs, &shown, style, &warnings, explanations)?;
     let passes = passes(printed, &warnings);
     Ok(PrintedReport { text, passes })

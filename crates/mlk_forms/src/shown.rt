@@ -19,6 +19,24 @@ pub(crate) struct Shown<'a> {
     pub(crate) gone: &'a [u8],
 }
 
+impl<'a> Shown<'a> {
+    pub(crate) fn new(
+        report: &'a Report,
+        rows: &'a [Row],
+        known: usize,
+        gone: &'a [u8],
+    ) -> Shown<'a>
+        ensures { (result.rows.now ≡ rows.now) × (result.known ≡ known) × (result.gone.now ≡ gone.now) }
+    {
+        Shown {
+            report,
+            rows,
+            known,
+            gone,
+        }
+    }
+}
+
 // The row with this number.
 fn row_at(rows: &[Row], number: usize) -> Option<&Row>
     ensures { option_copied result ≡ slice_get rows.now number }
@@ -56,7 +74,7 @@ pub(crate) fn printed_rows(
     report: &Report,
     comparison: Option<&Comparison<'_>>,
 ) -> Result<Vec<Row>, AllocError>
-    ensures { IfOk result (λ rows. rows.items ≡ printed_rows comparison report.now) }
+    ensures { IfOk result (λ rows. rows.items ≡ printed_rows comparison.entry report.now) }
 {
     let rows = report.rows();
     match comparison {

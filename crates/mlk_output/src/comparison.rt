@@ -11,7 +11,7 @@ use std::alloc::{AllocError, Global};
 
 /// How many faults are known, and are not among those of the report.
 pub fn known_in(comparison: Option<&Comparison<'_>>) -> usize
-    ensures { result ≡ known_in comparison }
+    ensures { result ≡ known_in comparison.entry }
 {
     match comparison {
         Some(comparison) => comparison.known,
