@@ -1,7 +1,7 @@
 -- Routines that are found at paths, and what is answered with them.
 use Rattle.std.proofs.Common.{◌≡◌, ◌∙◌, ℕ, ◌<◌, ◌≤◌, ◌+◌, ◌++◌, List, [], ◌∷◌, length, drop, slice_index_or, sym, ap, subst, refl, Bor, Option, inl, inr, append_assoc, append-nil}
 use Rattle.std.specs.Prelude.{◌⊎◌, String}
-use Rattle.std.proofs.lemmas.List.{drop_all, drop_more}
+use Rattle.std.proofs.lemmas.List.{drop_all, drop_more, map-append}
 use Rattle.mlk_cli.specs.CommandLine.{IsRequest, bytes_of}
 use Rattle.mlk_cli.specs.declared.words.Invocation.{Invocation}
 use Rattle.mlk_cli.specs.declared.words.Request.{Request}
@@ -26,6 +26,13 @@ pub found-all : (below : Folders) (paths : List (Bor (List ℕ))) (i : ℕ) (don
     → ((more : List (List ℕ)) → AreFound below (bytes_of (drop i paths)) more → AreFound below (bytes_of paths) (done ++ more)) → AreFound below (bytes_of paths) done
 found-all below paths i done past before =
     subst (AreFound below (bytes_of paths)) (append-nil done) (before [] (subst (λ l. AreFound below (bytes_of l) []) (sym (drop_all i paths past)) refl))
+
+-- a line is added to the paths
+pub line-more : (start added : List (List ℕ)) (paths longer : List (Bor (List ℕ))) (line : Bor (List ℕ)) → bytes_of paths ≡ start ++ added → longer ≡ paths ++ line ∷ []
+    → bytes_of longer ≡ start ++ (added ++ line.now ∷ [])
+line-more start added paths longer line before pushed =
+    ap (λ (l : List (Bor (List ℕ))). bytes_of l) pushed ∙ map-append (λ (p : Bor (List ℕ)). p.now) paths (line ∷ []) ∙ ap (λ t. t ++ line.now ∷ []) before
+    ∙ append_assoc start added (line.now ∷ [])
 
 pub lost-path : (holds : Texts) (unreadable : List ℕ → Type 0) (paths : List (List ℕ)) (e : FileError) → LosesFirst holds unreadable paths e → LosesPath unreadable e
 lost-path holds unreadable paths error.OutOfMemory lost = record {}

@@ -18,12 +18,13 @@ use crate::printed::{
     baseline_line, certificate_line, events_line, fault_line, file_line, missing_line,
     no_page_line, rules_line, stuck_line, workers_line,
 };
+use crate::refused::{refused_file, rule_file, spot_in};
 use crate::routines::{all_paths, find_routines, found_paths, list_of, with_routines};
 use crate::source::{
     FileError, Files, Sources, cert_format, read_file, read_files, read_given, read_sources,
 };
 use crate::stubs::answer_stubs;
-use crate::stuck::render_stuck;
+use crate::stuck::render_refusal;
 use crate::suggestion::answer_suggestion;
 use crate::work::{Printed, print_sources, style_in};
 use mlk_baseline::BaselineFault;
@@ -31,10 +32,11 @@ use mlk_cert::CertFault;
 use mlk_cli::{
     Format, Invocation, ProgramRequest, Request, SurveyRequest, UsageError, read_request,
 };
-use mlk_forms::{render_notice, render_pages, render_survey};
+use mlk_forms::{render_pages, render_survey};
 use mlk_outcome::{NoReport, convert};
 use mlk_pool::{CheckError, ReportText};
-use mlk_text::{Code, Failure};
+use mlk_refusal_text::Spot;
+use mlk_text::Failure;
 use mlk_watch::{Runner, Watch};
 use std::alloc::{AllocError, Global};
 use std::io::{self, ErrorKind, Write};
@@ -70,6 +72,25 @@ fn refusal_line(alloc: Global, refusal: &NoReport) -> Result<ReportText, AllocEr
     }
 }
 
+// What is printed beside the line of a refusal that is at `spot`.
+fn notice_at<R: Threads + Wait + Sync, W: Watch>(
+    runner: &Runner<'_, R, W>,
+    refusal: &NoReport,
+    program: &ProgramRequest<'_>,
+    sources: &Sources<'_>,
+    line: &ReportText,
+    spot: Option<Spot>,
+) -> Result<Option<ReportText>, AllocError>
+    ensures { IfOk result (IsNoticed (style_in program.now.asked).output) }
+{
+    let refused = refused_file(refusal, program, sources);
+    let file = refused.unwrap_or(rule_file(program, sources));
+    match notice_of(refusal, program, line.as_bytes(), file, spot) {
+        Some(notice) => render_refusal(runner, &notice, program, sources),
+        None => Ok(None),
+    }
+}
+
 // What is printed of a refusal beside its line.
 fn notice<R: Threads + Wait + Sync, W: Watch>(
     runner: &Runner<'_, R, W>,
@@ -80,15 +101,10 @@ fn notice<R: Threads + Wait + Sync, W: Watch>(
 ) -> Result<Option<ReportText>, AllocError>
     ensures { IfOk result (IsNoticed (style_in program.now.asked).output) }
 {
-    let alloc = runner.alloc;
-    let output = style_in(&program.asked).output;
-    let notice = notice_of(alloc, refusal, program, sources, line.as_bytes())?;
-    match &notice {
-        Some(notice) if notice.code == Code::GaveUp => {
-            render_stuck(runner, notice, program, sources)
-        }
-        Some(notice) => render_notice(alloc, notice, output),
-        None => Ok(None),
+    let refused = refused_file(refusal, program, sources);
+    match spot_in(runner.alloc, refusal, &refused) {
+        Ok(spot) => notice_at(runner, refusal, program, sources, line, spot),
+        Err(AllocError) => Err(AllocError),
     }
 }
 

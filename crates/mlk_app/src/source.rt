@@ -1,8 +1,8 @@
 // The files that a command names.
 
-ghost use Rattle.std.specs.Prelude.{◌≡◌, ◌≢◌, List, ℕ, IfOk, IfErr, length};
+ghost use Rattle.std.specs.Prelude.{◌≡◌, ◌≢◌, List, ℕ, Option, IfOk, IfErr, length};
 ghost use Rattle.std.specs.IoError.{error_kind};
-ghost use Rattle.mlk_app.specs.Files.{IsFileName, IsNameStem, IsPathStem, IsSource, AreSources, IsWork, AreTexts, cert_format, work_path, program_paths, Loses, LosesFirst};
+ghost use Rattle.mlk_app.specs.Files.{IsFileName, IsNameStem, IsPathStem, IsSource, AreSources, IsWork, IsGivenText, AreTexts, cert_format, given_path, work_path, program_paths, texts_below, Loses, LosesFirst};
 ghost use Rattle.mlk_cli.specs.CommandLine.{bytes_of};
 
 use mlk_cert::CertFormat;

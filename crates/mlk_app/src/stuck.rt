@@ -8,16 +8,16 @@ use crate::source::{Sources, copied_texts};
 use crate::work::style_in;
 use mlk_cli::{Output, ProgramRequest};
 use mlk_explain::{ExplainedAs, ExplainedFaults, Grounds};
-use mlk_forms::render_notice;
+use mlk_forms::{render_given_up, render_notice};
 use mlk_make::make_despite;
 use mlk_outcome::OpenGate;
-use mlk_output::{FoundDespite, Notice, ReportSources};
+use mlk_output::{Notice, ReportSources};
 use mlk_pool::{ReportText, read_routines, report_by};
 use mlk_program::{Program, link};
 use mlk_rules::Rules;
 use mlk_rules_file::read_rules;
 use mlk_syntax::Routine;
-use mlk_text::Failure;
+use mlk_text::{Code, Failure};
 use mlk_watch::{Runner, Watch};
 use std::alloc::{AllocError, Global};
 use std::sync::Wait;
@@ -108,34 +108,16 @@ pub(crate) fn push_faults<R: Threads + Wait + Sync, W: Watch>(
     Ok(())
 }
 
-// Writes `notice` for other programs, with these faults.
-fn render_found(
-    alloc: Global,
-    notice: &Notice<'_>,
-    program: &ProgramRequest<'_>,
-    routines: &[Routine],
-    faults: &ExplainedFaults,
-) -> Result<Option<ReportText>, AllocError>
-    ensures { IfOk result (IsNoticed (style_in program.now.asked).output) }
-{
-    let output = style_in(&program.asked).output;
-    let inputs = ReportSources {
+// What the faults of these routines are about.
+fn inputs_of<'a>(program: &'a ProgramRequest<'a>, routines: &'a [Routine]) -> ReportSources<'a> {
+    ReportSources {
         routines,
         paths: program.routines.as_slice(),
         rules_path: program.rules,
         rule_text: &[],
         texts: &[],
         free_reads: &[],
-    };
-    let found = FoundDespite {
-        inputs: &inputs,
-        faults,
-    };
-    let notice = Notice {
-        despite: Some(found),
-        ..*notice
-    };
-    render_notice(alloc, &notice, output)
+    }
 }
 
 // Writes `notice` for other programs, with the faults of a program of which no certificate can be made.
@@ -155,12 +137,13 @@ fn render_despite<R: Threads + Wait + Sync, W: Watch>(
     };
     let trees = routines.as_slice();
     let faults = explain_routines(runner, trees, sources, ExplainedAs::Stories)?;
-    render_found(alloc, notice, program, trees, &faults)
+    let inputs = inputs_of(program, trees);
+    render_given_up(alloc, notice, &inputs, &faults, output)
 }
 
-/// Writes the notice of a program of which no certificate can be made, with the faults that are found all the same. For these the
-/// texts are read once more. Nothing is written, and nothing looked for, if a text is asked for.
-pub(crate) fn render_stuck<R: Threads + Wait + Sync, W: Watch>(
+/// Writes the notice of a refusal. That of a program of which no certificate can be made has the faults that are found all the same;
+/// for these the texts are read once more. Nothing is written, and nothing looked for, if a text is asked for.
+pub(crate) fn render_refusal<R: Threads + Wait + Sync, W: Watch>(
     runner: &Runner<'_, R, W>,
     notice: &Notice<'_>,
     program: &ProgramRequest<'_>,
@@ -169,8 +152,9 @@ pub(crate) fn render_stuck<R: Threads + Wait + Sync, W: Watch>(
     ensures { IfOk result (IsNoticed (style_in program.now.asked).output) }
 {
     let output = style_in(&program.asked).output;
-    match output {
-        Output::Text | Output::Lines => render_notice(runner.alloc, notice, output),
-        Output::Json | Output::Sarif => render_despite(runner, notice, program, sources),
+    let is_text = matches!(output, Output::Text | Output::Lines);
+    if is_text || notice.code != Code::GaveUp {
+        return render_notice(runner.alloc, notice, output);
     }
+    render_despite(runner, notice, program, sources)
 }

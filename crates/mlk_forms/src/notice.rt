@@ -5,7 +5,8 @@ ghost use Rattle.mlk_pool.specs.Texts.{line_end};
 ghost use Rattle.mlk_forms.specs.Rendering.{IsNoticed};
 
 use mlk_cli::Output;
-use mlk_output::{Notice, notice_json, notice_sarif};
+use mlk_explain::ExplainedFaults;
+use mlk_output::{Notice, ReportSources, given_up_json, given_up_sarif, notice_json, notice_sarif};
 use mlk_pool::ReportText;
 use std::alloc::{AllocError, Global};
 
@@ -21,6 +22,23 @@ pub fn render_notice(
         Output::Text | Output::Lines => Ok(None),
         Output::Json => Ok(Some(with_end(notice_json(alloc, notice)?)?)),
         Output::Sarif => Ok(Some(with_end(notice_sarif(alloc, notice)?)?)),
+    }
+}
+
+/// The same of the refusal of a program of which no certificate can be made, with the `faults` that are found all the same.
+pub fn render_given_up(
+    alloc: Global,
+    notice: &Notice<'_>,
+    inputs: &ReportSources<'_>,
+    faults: &ExplainedFaults,
+    output: Output,
+) -> Result<Option<ReportText>, AllocError>
+    ensures { IfOk result (IsNoticed output) }
+{
+    match output {
+        Output::Text | Output::Lines => Ok(None),
+        Output::Json => Ok(Some(with_end(given_up_json(alloc, notice, inputs, faults)?)?)),
+        Output::Sarif => Ok(Some(with_end(given_up_sarif(alloc, notice, inputs, faults)?)?)),
     }
 }
 

@@ -184,17 +184,34 @@ fn refusal_value(alloc: Global, notice: &Notice<'_>) -> Result<Value, AllocError
     object(alloc, members)
 }
 
-/// A refusal as one JSON object, on lines with indents: `answer`, which is `refused`, `refusal`, and `faults`, if any were found
-/// all the same.
-pub fn notice_json(alloc: Global, notice: &Notice<'_>) -> Result<String, AllocError> {
+// The members of a refusal's object.
+fn notice_members<'a>(
+    alloc: Global,
+    notice: &Notice<'_>,
+) -> Result<Vec<(&'static str, Field<'a>)>, AllocError> {
     let refusal = refusal_value(alloc, notice)?;
-    let mut members = vec![in alloc;
+    vec![in alloc;
         ("answer", Field::Text("refused")),
         ("refusal", Field::Value(refusal)),
-    ]?;
-    if let Some(found) = &notice.despite {
-        let faults = explained_value(alloc, found.inputs, found.faults)?;
-        members.push(("faults", Field::Value(faults)))?;
-    }
+    ]
+}
+
+/// A refusal as one JSON object, on lines with indents: `answer`, which is `refused`, and `refusal`.
+pub fn notice_json(alloc: Global, notice: &Notice<'_>) -> Result<String, AllocError> {
+    let members = notice_members(alloc, notice)?;
+    object(alloc, members)?.to_string_pretty(alloc)
+}
+
+/// The refusal of a program of which no certificate can be made, as one JSON object: besides `answer` and `refusal` it has `faults`,
+/// those that are found all the same.
+pub fn given_up_json(
+    alloc: Global,
+    notice: &Notice<'_>,
+    inputs: &ReportSources<'_>,
+    faults: &ExplainedFaults,
+) -> Result<String, AllocError> {
+    let mut members = notice_members(alloc, notice)?;
+    let faults = explained_value(alloc, inputs, faults)?;
+    members.push(("faults", Field::Value(faults)))?;
     object(alloc, members)?.to_string_pretty(alloc)
 }

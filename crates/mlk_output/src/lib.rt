@@ -18,8 +18,8 @@ mod sarif;
 mod story;
 
 pub use comparison::known_in;
-pub use json::{notice_json, report_json};
-pub use notice::{FoundDespite, Notice, NoticePlace};
+pub use json::{given_up_json, notice_json, report_json};
+pub use notice::{Notice, NoticePlace};
 pub use row::ReportSources;
-pub use sarif::{notice_sarif, report_sarif};
+pub use sarif::{given_up_sarif, notice_sarif, report_sarif};
 pub use story::Findings;

@@ -17,7 +17,7 @@ use crate::rule::{all_rules_values, rule_id, rules_values};
 use crate::story::{Findings, story_line};
 use mlk_code_pages::page_of;
 use mlk_coverage::Gap;
-use mlk_explain::{Story, WayPoint};
+use mlk_explain::{ExplainedFaults, Story, WayPoint};
 use mlk_hazards::HazardAt;
 use mlk_report_text::Piece::{Bytes, Number, Words};
 use mlk_report_text::{Field, escape_bytes, member, object, text_of};
@@ -407,25 +407,41 @@ fn refused_invocation(
     })
 }
 
-// Adds the faults that were found all the same to the properties of the run of a refusal.
-fn add_found(alloc: Global, notice: &Notice<'_>, run: &mut Members) -> Result<(), AllocError> {
-    let Some(found) = &notice.despite else {
-        return Ok(());
-    };
-    let faults = explained_value(alloc, found.inputs, found.faults)?;
-    let properties = member(alloc, "faults", Field::Value(faults))?;
-    put(run, alloc, "properties", properties)
-}
-
-/// Writes a refusal as SARIF: a run that was not successful, whose one result is the refusal at its place, or at the file that
-/// it is about. So a build server doesn't take the run for one without faults. Faults that were found all the same are a property
-/// of the run.
-pub fn notice_sarif(alloc: Global, notice: &Notice<'_>) -> Result<String, AllocError> {
+// The one result of the run of a refusal.
+fn notice_results(alloc: Global, notice: &Notice<'_>) -> Result<Vec<Value>, AllocError> {
     let line = refused_line(alloc, notice)?;
     let mut results = Vec::new(alloc);
     results.push(refusal_value(alloc, notice, line)?)?;
+    Ok(results)
+}
+
+// The members of the run of a refusal besides its result.
+fn notice_run(alloc: Global, notice: &Notice<'_>) -> Result<Members, AllocError> {
+    let line = refused_line(alloc, notice)?;
     let invocation = refused_invocation(alloc, notice, line)?;
-    let mut run = run_members(alloc, rules_values(alloc)?, invocation)?;
-    add_found(alloc, notice, &mut run)?;
+    run_members(alloc, rules_values(alloc)?, invocation)
+}
+
+/// Writes a refusal as SARIF: a run that was not successful, whose one result is the refusal at its place, or at the file that
+/// it is about. So a build server doesn't take the run for one without faults.
+pub fn notice_sarif(alloc: Global, notice: &Notice<'_>) -> Result<String, AllocError> {
+    let results = notice_results(alloc, notice)?;
+    let run = notice_run(alloc, notice)?;
+    sarif_document(alloc, results, run)
+}
+
+/// Writes the refusal of a program of which no certificate can be made as SARIF. The faults that are found all the same are no
+/// results, but a property of the run.
+pub fn given_up_sarif(
+    alloc: Global,
+    notice: &Notice<'_>,
+    inputs: &ReportSources<'_>,
+    faults: &ExplainedFaults,
+) -> Result<String, AllocError> {
+    let results = notice_results(alloc, notice)?;
+    let mut run = notice_run(alloc, notice)?;
+    let faults = explained_value(alloc, inputs, faults)?;
+    let properties = member(alloc, "faults", Field::Value(faults))?;
+    put(&mut run, alloc, "properties", properties)?;
     sarif_document(alloc, results, run)
 }
