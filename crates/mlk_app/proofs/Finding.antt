@@ -1,6 +1,7 @@
 -- Routines that are found at paths, and what is answered with them.
-use Rattle.std.proofs.Common.{◌≡◌, ◌∙◌, ℕ, ◌<◌, ◌≤◌, ◌+◌, ◌++◌, List, [], ◌∷◌, length, drop, slice_index_or, sym, ap, subst, refl, Bor, Option, inl, inr, append_assoc, append-nil}
-use Rattle.std.specs.Prelude.{◌⊎◌, String}
+use Rattle.std.proofs.Common.{◌≡◌, ◌∙◌, ℕ, ◌<◌, ◌≤◌, ◌+◌, ◌++◌, List, [], ◌∷◌, length, drop, slice_index_or, sym, ap, subst, refl, Bor, Option, inl, inr, append_assoc, append-nil, Some, None, Bool}
+use Rattle.std.specs.Prelude.{◌⊎◌, String, Vec, is_some}
+use Rattle.std.specs.Global.{Global}
 use Rattle.std.proofs.lemmas.List.{drop_all, drop_more, map-append}
 use Rattle.mlk_cli.specs.CommandLine.{IsRequest, bytes_of}
 use Rattle.mlk_cli.specs.declared.words.Invocation.{Invocation}
@@ -9,8 +10,8 @@ use Rattle.mlk_app.specs.declared.answer.Answer.{Answer}
 use Rattle.mlk_app.specs.declared.answer.Answer.TheVariants as answer
 use Rattle.mlk_app.specs.declared.source.FileError.{FileError}
 use Rattle.mlk_app.specs.declared.source.FileError.TheVariants as error
-use Rattle.mlk_app.specs.Files.{AreFound, Folders, LosesFirst, LosesPath, Texts, or_itself}
-use Rattle.mlk_app.specs.Ran.{AnswersFound, AnswersLine, AnswersWords, AreListed, IsUnfound, TellsUnfound, named_paths}
+use Rattle.mlk_app.specs.Files.{AreFound, IsGivenText, Folders, LosesFirst, LosesPath, Texts, or_itself}
+use Rattle.mlk_app.specs.Ran.{AreListed, MayList, AnswersFound, AnswersLine, AnswersWords, IsUnfound, TellsUnfound, named_paths}
 
 pub found-more : (below : Folders) (paths : List (Bor (List ℕ))) (i : ℕ) (d : Bor (List ℕ)) (at : Option (List (List ℕ))) (done longer : List (List ℕ)) → i < length paths
     → below (slice_index_or paths i d).now at → longer ≡ done ++ or_itself (slice_index_or paths i d).now at
@@ -57,6 +58,13 @@ found-line holds below unreadable line listed (answer.Unread text help) of_list 
     inl (request, record { listed = listed; of_list = of_list; paths = paths; found = found; replaced = replaced }, h)
 found-line holds below unreadable line listed (answer.Usage text) of_list (inr (paths, request, found, replaced, h)) = absurd h
 found-line holds below unreadable line listed answer.OutOfMemory of_list (inr h) = record {}
+
+-- The paths are those of a list if one is given.
+pub listed-if-given : (holds : Texts) (path : Option (Bor (List ℕ))) (text : Option (Vec ℕ Global)) (given : Bool) (paths : List (List ℕ)) → IsGivenText holds path text → given ≡ is_some text → MayList given paths → AreListed holds path paths
+listed-if-given holds None None given paths read same may = subst (λ (g : Bool). MayList g paths) same may
+listed-if-given holds None (Some text) given paths read same may = absurd read
+listed-if-given holds (Some path) None given paths read same may = absurd read
+listed-if-given holds (Some path) (Some text) given paths read same may = (text.items, read)
 
 pub words-answer : {A : Type 0} → (holds : Texts) (below : Folders) (unreadable : List ℕ → Type 0) (words : List (String A)) (line : Invocation) (a : Answer) → IsRequest words line → AnswersLine holds below unreadable line a
     → AnswersWords holds below unreadable words a

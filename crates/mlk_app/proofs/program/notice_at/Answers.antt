@@ -3,4 +3,4 @@ use Rattle.mlk_app.proofs.Saying.{no-notice}
 use Rattle.mlk_app.proofs.program.notice_at.Goals as goal
 
 pub returns-in-None : goal.returns-in-None
-returns-in-None c = no-notice (style_in c.args.program.now.asked).output
+returns-in-None g c = no-notice (style_in c.args.program.now.asked).output
