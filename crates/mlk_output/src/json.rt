@@ -190,10 +190,11 @@ fn notice_members<'a>(
     notice: &Notice<'_>,
 ) -> Result<Vec<(&'static str, Field<'a>)>, AllocError> {
     let refusal = refusal_value(alloc, notice)?;
-    vec![in alloc;
+    let members = vec![in alloc;
         ("answer", Field::Text("refused")),
         ("refusal", Field::Value(refusal)),
-    ]
+    ]?;
+    Ok(members)
 }
 
 /// A refusal as one JSON object, on lines with indents: `answer`, which is `refused`, and `refusal`.
