@@ -5,7 +5,7 @@ ghost use Rattle.mlk_output.specs.Documents.{IsJsonReport, known_in};
 
 use crate::comparison::{add_comparison, known_in};
 use crate::coverage::coverage_value;
-use crate::document::{Members, json_document};
+use crate::document::{Members, json_document, put_text};
 use crate::gap::gap_value;
 use crate::notice::{Notice, NoticePlace};
 use crate::row::{ReportSources, RoutineNumbers};
@@ -185,22 +185,18 @@ fn refusal_value(alloc: Global, notice: &Notice<'_>) -> Result<Value, AllocError
 }
 
 // The members of a refusal's object.
-fn notice_members<'a>(
-    alloc: Global,
-    notice: &Notice<'_>,
-) -> Result<Vec<(&'static str, Field<'a>)>, AllocError> {
+fn notice_members(alloc: Global, notice: &Notice<'_>) -> Result<Members, AllocError> {
+    let mut members = Map::new(alloc);
+    put_text(alloc, &mut members, "answer", "refused")?;
     let refusal = refusal_value(alloc, notice)?;
-    let members = vec![in alloc;
-        ("answer", Field::Text("refused")),
-        ("refusal", Field::Value(refusal)),
-    ]?;
+    put(&mut members, alloc, "refusal", refusal)?;
     Ok(members)
 }
 
 /// A refusal as one JSON object, on lines with indents: `answer`, which is `refused`, and `refusal`.
 pub fn notice_json(alloc: Global, notice: &Notice<'_>) -> Result<String, AllocError> {
     let members = notice_members(alloc, notice)?;
-    object(alloc, members)?.to_string_pretty(alloc)
+    Value::Object(members).to_string_pretty(alloc)
 }
 
 /// The refusal of a program of which no certificate can be made, as one JSON object: besides `answer` and `refusal` it has `faults`,
@@ -213,6 +209,6 @@ pub fn given_up_json(
 ) -> Result<String, AllocError> {
     let mut members = notice_members(alloc, notice)?;
     let faults = explained_value(alloc, inputs, faults)?;
-    members.push(("faults", Field::Value(faults)))?;
-    object(alloc, members)?.to_string_pretty(alloc)
+    put(&mut members, alloc, "faults", faults)?;
+    Value::Object(members).to_string_pretty(alloc)
 }
