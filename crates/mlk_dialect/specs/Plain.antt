@@ -17,7 +17,7 @@ behind_code b =
     else place.Code b
 
 -- where reading is behind a byte
-unfoldable pub behind : Place → ℕ → Place
+abbrev pub behind : Place → ℕ → Place
 behind (place.Code before) b = behind_code b
 behind place.Quoted b = if (b == 34) || ends_line b then place.Code b else place.Quoted
 behind place.Comment b = if ends_line b then place.Code b else place.Comment

@@ -11,14 +11,14 @@ abbrev pub any_value : ℕ → List ℕ
 any_value zeros = 49 ∷ 69 ∷ replicate zeros 48
 
 -- A function that gives any value, with its parenthesis: `$A(`, `$FN(`, and `$A(` with one more argument, a number.
-unfoldable pub any_function : ℕ → List ℕ
+abbrev pub any_function : ℕ → List ℕ
 any_function len =
     if len == 3 then codes "$A("
     else if len == 4 then codes "$FN("
     else codes "$A(" ++ (replicate (len - 4) 49 ++ codes ",")
 
 -- What a word is in the plain text. Each is as long as the word.
-unfoldable pub form_of : Word → List ℕ
+abbrev pub form_of : Word → List ℕ
 form_of word.AtMost = codes "'>"
 form_of word.AtLeast = codes "'<"
 form_of word.NotAtMost = codes ">++"
@@ -75,7 +75,7 @@ named_word name (b ∷ xs) =
     else None
 
 -- a word with `$`, of which the rest is given
-unfoldable pub dollar_word : List ℕ → Option Word
+abbrev pub dollar_word : List ℕ → Option Word
 dollar_word xs = named_word (take (letters xs) xs) (drop (letters xs) xs)
 
 -- `<=` and `>=`, by the two bytes
@@ -91,7 +91,7 @@ sign_word less more [] = None
 sign_word less more (b ∷ xs) = sign_by less more b xs
 
 -- the word that begins with the byte `b` before `xs`, behind the byte `before`
-unfoldable pub word_at : ℕ → ℕ → List ℕ → Option Word
+abbrev pub word_at : ℕ → ℕ → List ℕ → Option Word
 word_at before b xs =
     if b == 36 then (if may_begin before then dollar_word xs else None)
     else if b == 39 then sign_word word.NotAtMost word.NotAtLeast xs

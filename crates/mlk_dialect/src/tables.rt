@@ -1,6 +1,8 @@
 // The closed lists of words beyond the subset, in either case.
 
 ghost use Rattle.std.specs.Prelude.{◌≡◌, map};
+ghost use Rattle.std.specs.List.{list_any};
+ghost use Rattle.std.specs.Str.{str_eq_ignore_ascii_case};
 ghost use Rattle.mlk_dialect.specs.Tables.{is_one_of, is_variable, is_function, is_zdata, is_text_name};
 
 const SESSION_VARIABLES: &[&[u8]] = &[
@@ -29,11 +31,16 @@ const SYSTEM_FUNCTIONS: &[&[u8]] = &[
     b"ZSEARCH", b"ZSYSLOG", b"ZTRNLNM",
 ];
 
-#[tactic(auto, using(crate::proofs::Names::any_now))]
+fn has_word(names: &[&[u8]], word: &[u8]) -> bool
+    ensures { result ≡ list_any (λ n. str_eq_ignore_ascii_case word.now n.now) names.now }
+{
+    names.iter().any(|name| word.eq_ignore_ascii_case(name))
+}
+
 fn is_one_of(names: &[&[u8]], word: &[u8]) -> bool
     ensures { result ≡ is_one_of (map (λ n. n.now) names.now) word.now }
 {
-    names.iter().any(|name| word.eq_ignore_ascii_case(name))
+    has_word(names, word)
 }
 
 /// Whether `word` is a special variable that only gives a value.
