@@ -24,14 +24,14 @@ form_of word.AtLeast = codes "'<"
 form_of word.NotAtMost = codes ">++"
 form_of word.NotAtLeast = codes "<++"
 form_of (word.Value len) = any_value (len - 2)
-form_of (word.Line name line) = any_value (name + suc line)
+form_of (word.Line name rest) = any_value name ++ replicate rest 48
 form_of (word.Function len) = any_function len
 form_of word.Data = codes "++++$D("
 
 -- whether a report rests on the premise that this word touches no data and no lock
 abbrev pub is_inert : Word → Bool
 is_inert (word.Value len) = true
-is_inert (word.Line name line) = true
+is_inert (word.Line name rest) = true
 is_inert (word.Function len) = true
 is_inert word.Data = true
 is_inert w = false
@@ -56,7 +56,7 @@ line_bytes = prefix_len is_line_byte
 -- the parenthesis that ends `$TEXT` of a line
 abbrev pub text_end : ℕ → ℕ → List ℕ → Option Word
 text_end name line [] = None
-text_end name line (b ∷ xs) = if (b == 41) && may_end xs then Some (word.Line name line) else None
+text_end name line (b ∷ xs) = if (b == 41) && may_end xs then Some (word.Line name (suc line)) else None
 
 -- `$TEXT(..)` of a line behind its parenthesis, where its name has `name` bytes
 abbrev pub text_call : ℕ → List ℕ → Option Word

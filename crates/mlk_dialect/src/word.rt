@@ -20,8 +20,8 @@ pub enum Word {
     NotAtLeast,
     /// A special variable of so many bytes. It is read as any value.
     Value(usize),
-    /// `$TEXT` of a line: of so many bytes behind `$` up to its parenthesis, and so many from there to the end. It is read as any value.
-    Line { name: usize, line: usize },
+    /// `$TEXT` of a line: how many bytes its name has, and how many are behind the parenthesis after it. It is read as any value.
+    Line { name: usize, rest: usize },
     /// The name of a function and the parenthesis behind it, of so many bytes. It gives any value.
     Function(usize),
     /// `$ZDATA(`, which looks at what `$DATA(` does.
@@ -77,7 +77,12 @@ pub(crate) fn form_of(alloc: Global, word: Word) -> Result<Vec<u8>, AllocError>
         Word::NotAtMost => Vec::from_slice(alloc, b">++"),
         Word::NotAtLeast => Vec::from_slice(alloc, b"<++"),
         Word::Value(len) => value_form(alloc, len.saturating_sub(2)),
-        Word::Line { name, line } => value_form(alloc, name.saturating_add(line)),
+        Word::Line { name, rest } => {
+            let mut form = value_form(alloc, name)?;
+            let zeros = Vec::from_elem(alloc, b'0', rest)?;
+            form.extend_from_slice(zeros.as_slice())?;
+            Ok(form)
+        }
         Word::Function(len) => function_form(alloc, len),
         Word::Data => Vec::from_slice(alloc, b"++++$D("),
     }
@@ -118,7 +123,10 @@ fn text_call(name: usize, bytes: &[u8]) -> Option<Word>
     let line = line_bytes(bytes);
     let (_, rest) = bytes.split_at(line);
     match rest.split_first() {
-        Some((b')', after)) if may_end(after) => Some(Word::Line { name, line }),
+        Some((b')', after)) if may_end(after) => Some(Word::Line {
+            name,
+            rest: line + 1,
+        }),
         _ => None,
     }
 }
