@@ -1,0 +1,10 @@
+//! The plain text of a routine that has words beyond the subset: each is replaced by one that is read as any value, byte for byte
+//! at the same place.
+#![tactic(auto)]
+
+mod plain;
+mod tables;
+mod word;
+
+pub use plain::{PlainText, plain_text};
+
