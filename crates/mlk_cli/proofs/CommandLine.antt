@@ -11,6 +11,7 @@ use Rattle.mlk_cli.specs.declared.words.Format.{Format}
 use Rattle.mlk_cli.specs.declared.words.Format.TheVariants.{First, Second}
 use Rattle.mlk_cli.specs.declared.words.Output.{Output}
 use Rattle.mlk_cli.specs.declared.words.Output.TheVariants as output
+use Rattle.mlk_cli.specs.declared.words.Dialect.{Dialect}
 use Rattle.mlk_cli.specs.declared.words.SurveyOutput.{SurveyOutput}
 use Rattle.mlk_cli.specs.declared.words.SurveyOutput.TheVariants as surveyed
 use Rattle.mlk_cli.specs.declared.words.ReportStyle.{ReportStyle}
@@ -22,7 +23,7 @@ use Rattle.mlk_cli.specs.declared.words.StubsRequest.{StubsRequest}
 use Rattle.mlk_cli.specs.declared.words.Request.{Request}
 use Rattle.mlk_cli.specs.declared.words.Request.TheVariants as request
 use Rattle.mlk_cli.specs.declared.words.ProgramRequest.{ProgramRequest}
-use Rattle.mlk_cli.specs.CommandLine.{IsAsked, IsNumber, IsNumberOf, IsFormat, IsWalk, IsOutput, output_word, NamesOutput, GivesOutput, IsFlag, GivesFlag, IsExplained, IsQuiet, goes_together, IsStyle, IsSurveyOutput, IsSurvey, IsSuggestion, IsWanted, IsStubs, IsConversion, IsProgramGiven, IsGiven, GivesNumber}
+use Rattle.mlk_cli.specs.CommandLine.{IsAsked, IsNumber, IsNumberOf, IsFormat, IsWalk, IsOutput, output_word, NamesOutput, GivesOutput, NamesDialect, GivesDialect, IsFlag, GivesFlag, IsExplained, IsQuiet, goes_together, IsStyle, IsSurveyOutput, IsSurvey, IsSuggestion, IsWanted, IsStubs, IsConversion, IsProgramGiven, IsGiven, GivesNumber}
 
 -- a number of workers, after a plus and zeros
 plus_and_zeros : IsNumber (codes "+004") 4
@@ -105,6 +106,10 @@ suggest-not-explain e = let bad : ◌≡◌ {A = ℕ} 101 115 = starts_suggest (
 pub named-output : (rows : List Row) (text : Text) (r : Option Output) → first_of (codes "output") rows ≡ Some text → NamesOutput text r → GivesOutput rows r
 named-output rows text None is none = λ output h. none output (some_same (sym is ∙ h))
 named-output rows text (Some output) is named = is ∙ ap Some named
+
+pub named-dialect : (rows : List Row) (text : Text) (r : Option Dialect) → first_of (codes "dialect") rows ≡ Some text → NamesDialect text r → GivesDialect rows r
+named-dialect rows text None is none = λ d h. none d (some_same (sym is ∙ h))
+named-dialect rows text (Some d) is named = is ∙ ap Some named
 
 pub not-flag : (option : Text) (rows : List Row) (text : Text) → first_of option rows ≡ Some text → (text ≡ codes "true" → ⊥) → (text ≡ codes "false" → ⊥) → (flag : Bool) → IsFlag option rows flag → ⊥
 not-flag option rows text is no-true no-false true h = no-true (some_same (sym is ∙ h))

@@ -13,6 +13,8 @@ use Rattle.mlk_cli.specs.declared.words.Format.{Format}
 use Rattle.mlk_cli.specs.declared.words.Format.TheVariants.{First, Second}
 use Rattle.mlk_cli.specs.declared.words.Output.{Output}
 use Rattle.mlk_cli.specs.declared.words.Output.TheVariants.{Text as Plain, Json, Sarif, Lines}
+use Rattle.mlk_cli.specs.declared.words.Dialect.{Dialect}
+use Rattle.mlk_cli.specs.declared.words.Dialect.TheVariants as dialect
 use Rattle.mlk_cli.specs.declared.words.SurveyOutput.{SurveyOutput}
 use Rattle.mlk_cli.specs.declared.words.SurveyOutput.TheVariants as surveyed
 use Rattle.mlk_cli.specs.declared.words.ReportStyle.{ReportStyle}
@@ -71,6 +73,23 @@ IsOutput rows output = first_of (codes "output") rows ≡ Some (output_word outp
 abbrev pub GivesOutput : List Row → Option Output → Type 0
 GivesOutput rows None = (output : Output) → IsOutput rows output → ⊥
 GivesOutput rows (Some output) = IsOutput rows output
+
+-- the word for how much of M is read
+abbrev pub dialect_word : Dialect → Text
+dialect_word dialect.Standard = codes "standard"
+dialect_word dialect.Extended = codes "extended"
+
+abbrev pub NamesDialect : Text → Option Dialect → Type 0
+NamesDialect text None = (d : Dialect) → text ≡ dialect_word d → ⊥
+NamesDialect text (Some d) = text ≡ dialect_word d
+
+-- how much of M a command was asked to read
+abbrev pub IsDialect : List Row → Dialect → Type 0
+IsDialect rows d = first_of (codes "dialect") rows ≡ Some (dialect_word d)
+
+abbrev pub GivesDialect : List Row → Option Dialect → Type 0
+GivesDialect rows None = (d : Dialect) → IsDialect rows d → ⊥
+GivesDialect rows (Some d) = IsDialect rows d
 
 -- whether a command was given the option of this name
 abbrev pub IsFlag : Text → List Row → Bool → Type 0
@@ -168,6 +187,7 @@ pub record IsProgramGiven (name : Text) (rows : List Row) (program : ProgramRequ
   pub asked : IsAsked name rows program.asked
   pub rules : first_of (codes "RULES") rows ≡ Some program.rules.now
   pub routines : AreRoutines rows program.routines.items
+  pub dialect : IsDialect rows program.dialect
   pub baseline : IsPathOf (codes "baseline") rows program.baseline
   pub new_baseline : IsPathOf (codes "write-baseline") rows program.new_baseline
 
@@ -186,6 +206,7 @@ GivesConversion rows (Some c) = IsConversion rows c.0 c.1
 -- the routines to survey, and the form of the survey
 pub record IsSurvey (rows : List Row) (survey : SurveyRequest) : Type 0 where
   pub routines : AreRoutines rows survey.routines.items
+  pub dialect : IsDialect rows survey.dialect
   pub output : IsSurveyOutput rows survey.output
 
 abbrev pub GivesSurvey : List Row → Option SurveyRequest → Type 0
@@ -195,6 +216,7 @@ GivesSurvey rows (Some survey) = IsSurvey rows survey
 -- the routines for which rules are suggested, not stubs, and the path of the rules that are there already, if it is given
 pub record IsSuggestion (rows : List Row) (suggestion : SuggestRequest) : Type 0 where
   pub routines : AreRoutines rows suggestion.routines.items
+  pub dialect : IsDialect rows suggestion.dialect
   pub of_rules : IsFlag (codes "stubs") rows false
   pub beside : IsPathOf (codes "beside") rows suggestion.beside
 
@@ -217,6 +239,7 @@ GivesWanted name rows (Some wanted) = IsWanted name rows wanted
 pub record IsStubs (name : Text) (rows : List Row) (stubs : StubsRequest) : Type 0 where
   pub wanted : IsWanted name rows stubs.wanted
   pub routines : AreRoutines rows stubs.routines.items
+  pub dialect : IsDialect rows stubs.dialect
 
 abbrev pub GivesStubs : Text → List Row → Option StubsRequest → Type 0
 GivesStubs name rows None = (stubs : StubsRequest) → IsStubs name rows stubs → ⊥

@@ -6,7 +6,7 @@ ghost use Rattle.clap.specs.Takes.{takes};
 ghost use Rattle.clap.specs.declared.error.kind.ErrorKind.TheVariants.{OutOfMemory};
 ghost use Rattle.clap.specs.Simple.{subcommand_rows_of};
 ghost use Rattle.mlk_cli_grammar.specs.Grammar.{mlock_app};
-ghost use Rattle.mlk_cli.specs.CommandLine.{GivesNumber, GivesFormat, NamesOutput, GivesOutput, GivesFlag, goes_together, GivesStyle, GivesWalk, GivesSurveyOutput, GivesAsked, GivesRoutines, GivesProgram, GivesSurvey, GivesSuggestion, IsWanted, GivesWanted, GivesStubs, GivesConversion, GivesPaths, GivesLine, texts_of, names_list, lists_routines, Asks, IsRequest, LacksRequest};
+ghost use Rattle.mlk_cli.specs.CommandLine.{GivesNumber, GivesFormat, NamesOutput, GivesOutput, NamesDialect, GivesDialect, GivesFlag, goes_together, GivesStyle, GivesWalk, GivesSurveyOutput, GivesAsked, GivesRoutines, GivesProgram, GivesSurvey, GivesSuggestion, IsWanted, GivesWanted, GivesStubs, GivesConversion, GivesPaths, GivesLine, texts_of, names_list, lists_routines, Asks, IsRequest, LacksRequest};
 
 use clap::error::ErrorKind;
 use clap::{ArgMatches, Error};
@@ -18,7 +18,7 @@ const LIST_OPTION: &[u8] = b"--files-from";
 
 // What is said if `clap` takes the words and they are those of no request.
 const NO_REQUEST: &str =
-    "error: these values don't go together, or there is no such value: '--output' of 'check' and 'verify' is text, json, sarif or lines, that of 'survey' is text or json; '--explain' and '--quiet' go with text, and not with each other; '--stubs' goes without '--beside'
+    "error: these values don't go together, or there is no such value: '--dialect' is standard or extended; '--output' of 'check' and 'verify' is text, json, sarif or lines, that of 'survey' is text or json; '--explain' and '--quiet' go with text, and not with each other; '--stubs' goes without '--beside'
 
 For more information, try '--help'.
 ";
@@ -38,6 +38,15 @@ pub enum Output {
     Sarif,
     /// text with the place of each fault before its line, as editors read it
     Lines,
+}
+
+/// How much of M is read.
+#[derive(Clone, Copy, Debug, PartialEq, Eq)]
+pub enum Dialect {
+    /// the subset of the standard
+    Standard,
+    /// words beyond it too, each as any value
+    Extended,
 }
 
 /// The form of a survey.
@@ -86,6 +95,7 @@ pub struct ProgramRequest<'a> {
     pub asked: Asked<'a>,
     pub rules: &'a str,
     pub routines: Vec<&'a str>,
+    pub dialect: Dialect,
     /// the path of the faults that are known, if it is given
     pub baseline: Option<&'a str>,
     /// the path at which the faults of the report are to be listed as known ones, if it is given
@@ -96,6 +106,7 @@ pub struct ProgramRequest<'a> {
 #[derive(Drop, Debug)]
 pub struct SurveyRequest<'a> {
     pub routines: Vec<&'a str>,
+    pub dialect: Dialect,
     pub output: SurveyOutput,
 }
 
@@ -104,6 +115,7 @@ pub struct SurveyRequest<'a> {
 pub struct SuggestRequest<'a> {
     pub beside: Option<&'a str>,
     pub routines: Vec<&'a str>,
+    pub dialect: Dialect,
 }
 
 /// Which routines get a stub.
@@ -122,6 +134,7 @@ pub enum WantedStubs<'a> {
 pub struct StubsRequest<'a> {
     pub wanted: WantedStubs<'a>,
     pub routines: Vec<&'a str>,
+    pub dialect: Dialect,
 }
 
 /// What `mlock` is asked for.
@@ -339,6 +352,28 @@ fn routines_of<'a>(
     }
 }
 
+fn dialect_named(text: &str) -> Option<Dialect>
+    ensures { NamesDialect text.now result }
+{
+    if text == "standard" {
+        return Some(Dialect::Standard);
+    }
+    if text == "extended" {
+        return Some(Dialect::Extended);
+    }
+    None
+}
+
+// How much of M a command was asked to read.
+fn dialect_of(matches: &ArgMatches<'_>) -> Option<Dialect>
+    ensures { GivesDialect (rows_of (found_of matches.now)) result }
+{
+    let Some(text) = matches.get_str("dialect") else {
+        return None;
+    };
+    dialect_named(text)
+}
+
 // What the command of this name asks for of a program, by what it was given.
 fn program_of<'a>(
     alloc: Global,
@@ -356,12 +391,16 @@ fn program_of<'a>(
     let Some(routines) = routines_of(alloc, matches)? else {
         return Ok(None);
     };
+    let Some(dialect) = dialect_of(matches) else {
+        return Ok(None);
+    };
     let baseline = matches.get_str("baseline");
     let new_baseline = matches.get_str("write-baseline");
     Ok(Some(ProgramRequest {
         asked,
         rules,
         routines,
+        dialect,
         baseline,
         new_baseline,
     }))
@@ -390,10 +429,17 @@ fn survey_of<'a>(
     let Some(routines) = routines_of(alloc, matches)? else {
         return Ok(None);
     };
+    let Some(dialect) = dialect_of(matches) else {
+        return Ok(None);
+    };
     let Some(output) = survey_output_of(matches) else {
         return Ok(None);
     };
-    Ok(Some(SurveyRequest { routines, output }))
+    Ok(Some(SurveyRequest {
+        routines,
+        dialect,
+        output,
+    }))
 }
 
 // The suggestion that is asked for.
@@ -406,11 +452,18 @@ fn suggestion_of<'a>(
     let Some(routines) = routines_of(alloc, matches)? else {
         return Ok(None);
     };
+    let Some(dialect) = dialect_of(matches) else {
+        return Ok(None);
+    };
     let Some(false) = flag_of(matches, "stubs") else {
         return Ok(None);
     };
     let beside = matches.get_str("beside");
-    Ok(Some(SuggestRequest { beside, routines }))
+    Ok(Some(SuggestRequest {
+        beside,
+        routines,
+        dialect,
+    }))
 }
 
 // Which routines get a stub by `stubs`.
@@ -461,7 +514,14 @@ fn stubs_of<'a>(
     let Some(routines) = routines_of(alloc, matches)? else {
         return Ok(None);
     };
-    Ok(Some(StubsRequest { wanted, routines }))
+    let Some(dialect) = dialect_of(matches) else {
+        return Ok(None);
+    };
+    Ok(Some(StubsRequest {
+        wanted,
+        routines,
+        dialect,
+    }))
 }
 
 // What the command of this name, which reads routines, asks for, by what it was given.

@@ -200,6 +200,19 @@ makes_no_baseline : takes (mlock_app false) (codes "mlock" ∷ codes "make" ∷ 
 unfolding clap_on_literals
 makes_no_baseline = refl
 
+-- how much of M is read
+reads_dialect : option_map (λ p. first_of (codes "dialect") p.1) (subcommand_of (mlock_app false) (codes "mlock" ∷ codes "survey" ∷ codes "--dialect" ∷ codes "extended" ∷ codes "A.m" ∷ [])) ≡ Some (Some (codes "extended"))
+unfolding clap_on_literals
+reads_dialect = refl
+
+reads_standard : option_map (λ p. first_of (codes "dialect") p.1) (subcommand_of (mlock_app false) words) ≡ Some (Some (codes "standard"))
+unfolding clap_on_literals
+reads_standard = refl
+
+converts_in_no_dialect : takes (mlock_app false) (codes "mlock" ∷ codes "convert" ∷ codes "--dialect=extended" ∷ codes "c" ∷ []) ≡ false
+unfolding clap_on_literals
+converts_in_no_dialect = refl
+
 -- words that are taken, and words that are not
 takes_words : takes (mlock_app false) words ≡ true
 unfolding clap_on_literals

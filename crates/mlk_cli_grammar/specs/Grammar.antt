@@ -34,9 +34,13 @@ flag_rule id = record (new_rule id) { long = Some id; action = Some SetTrue }
 abbrev pub file_rule : Text → Rule
 file_rule id = record (new_rule id) { long = Some id; value_names = 1; action = Some Set }
 
--- a command with the paths of its routines, and `--files-from FILE`, the file that lists more of them
+-- `--dialect NAME`, which is `standard` where it is left out
+abbrev pub dialect_rule : Rule
+dialect_rule = record (new_rule (codes "dialect")) { long = Some (codes "dialect"); value_names = 1; action = Some Set; defaults = codes "standard" ∷ [] }
+
+-- a command with the paths of its routines, `--files-from FILE`, the file that lists more of them, and how much of M is read
 abbrev pub with_routines : Bool → App → App
-with_routines listed app = with_rule (with_rule app (routines_rule listed)) (file_rule (codes "files-from"))
+with_routines listed app = with_rule (with_rule (with_rule app (routines_rule listed)) (file_rule (codes "files-from"))) dialect_rule
 
 -- a command with the options for the style of its report
 abbrev pub with_style : App → App

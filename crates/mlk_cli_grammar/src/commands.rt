@@ -2,11 +2,11 @@
 
 ghost use Rattle.std.specs.Prelude.{◌≡◌, IfOk, true, false};
 ghost use Rattle.clap.specs.Words.{app_of, rule_of, with_rule, with_subcommand};
-ghost use Rattle.mlk_cli_grammar.specs.Grammar.{path_rule, routines_rule, workers_rule, format_rule, output_rule, flag_rule, file_rule, with_routines, with_style, with_baseline, with_report, check_app, make_app, verify_app, replay_app, convert_app, survey_app, suggest_app, for_rule, stubs_app, explain_app, no_command_app, mlock_app};
+ghost use Rattle.mlk_cli_grammar.specs.Grammar.{path_rule, routines_rule, workers_rule, format_rule, output_rule, flag_rule, file_rule, dialect_rule, with_routines, with_style, with_baseline, with_report, check_app, make_app, verify_app, replay_app, convert_app, survey_app, suggest_app, for_rule, stubs_app, explain_app, no_command_app, mlock_app};
 
 use crate::help::{
     ABOUT, BASELINE_HELP, BESIDE_HELP, CERT_HELP, CHECK_HELP, CHECK_MORE, CODE_HELP, CONVERT_HELP,
-    CONVERT_MORE, EVENTS_HELP, EXIT_ZERO_HELP, EXPLAIN_HELP, FILES_HELP, FOR_HELP, FORMAT_HELP,
+    CONVERT_MORE, DIALECT_HELP, EVENTS_HELP, EXIT_ZERO_HELP, EXPLAIN_HELP, FILES_HELP, FOR_HELP, FORMAT_HELP,
     INSTEAD_HELP, MAKE_HELP, MAKE_MORE, OUTPUT_HELP, PAGE_HELP, PAGE_MORE, QUIET_HELP, REPLAY_HELP,
     REPLAY_MORE, ROUTINE_HELP, RULES_HELP, STRICT_HELP, STUBS_HELP, STUBS_MORE, SUGGEST_HELP,
     SUGGEST_MORE, SURVEY_HELP, SURVEY_MORE, SURVEY_OUTPUT_HELP, VERIFY_HELP, VERIFY_MORE, VERSION,
@@ -50,7 +50,20 @@ fn file_option<'a>(alloc: Global, id: &'a str, value: &'a str, help: &'a str) ->
         .help(help)
 }
 
-// A command with the paths of its routines, and the file that lists more of them.
+// How much of M is read, which is the standard's subset if the words say nothing.
+fn dialect_option<'a>(alloc: Global) -> Arg<'a>
+    ensures rule { rule_of result ≡ dialect_rule }
+    ensures local { result.global ≡ false }
+{
+    Arg::new(alloc, "dialect")
+        .long("dialect")
+        .value_name("NAME")
+        .action(ArgAction::Set)
+        .default_value("standard")
+        .help(DIALECT_HELP)
+}
+
+// A command with the paths of its routines, the file that lists more of them, and how much of M is read.
 fn with_routines<'a>(
     alloc: Global,
     command: Command<'a>,
@@ -60,7 +73,8 @@ fn with_routines<'a>(
 {
     command
         .arg(routines(alloc, is_listed))?
-        .arg(file_option(alloc, "files-from", "FILE", FILES_HELP))
+        .arg(file_option(alloc, "files-from", "FILE", FILES_HELP))?
+        .arg(dialect_option(alloc))
 }
 
 // The number of workers; its range is not looked at here.

@@ -10,6 +10,9 @@ pub(crate) const ROUTINE_HELP: &str =
 pub(crate) const FILES_HELP: &str =
     "A file that lists more routines, a path a line, read after the others; with it, ROUTINE may be left out";
 
+pub(crate) const DIALECT_HELP: &str =
+    "How much of M is read: standard, or extended, which reads words of vendors as any value too; a `yes` then says on how many of them it rests";
+
 pub(crate) const WORKERS_HELP: &str = "How many workers walk entries side by side, 1 to 64";
 
 pub(crate) const FORMAT_HELP: &str =

@@ -20,6 +20,7 @@ returns c =
       asked = c.in-Some.ensures;
       rules = sym (first_value-rows found (codes "RULES")) ∙ sym c.get_str.ensures ∙ ap (option_map (λ s. s.now)) c.in-Some-get_str.is;
       routines = subst (GivesRoutines (rows_of found)) c.in-Some-2.is c.in_ok-routines.ensures;
+      dialect = c.in-Some-dialect_of.ensures;
       baseline = sym (first_value-rows found (codes "baseline")) ∙ sym c.get_str-baseline.ensures;
       new_baseline = sym (first_value-rows found (codes "write-baseline")) ∙ sym c.get_str-new_baseline.ensures;
     }

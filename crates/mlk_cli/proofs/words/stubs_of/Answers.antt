@@ -17,4 +17,5 @@ returns c =
     record {
       wanted = subst (GivesWanted c.args.name.now (rows_of found)) c.in-Some.is c.in_ok-wanted.ensures;
       routines = subst (GivesRoutines (rows_of found)) c.in-Some-2.is c.in_ok-routines.ensures;
+      dialect = c.in-Some-dialect_of.ensures;
     }

@@ -17,6 +17,7 @@ returns c =
     let found = found_of c.args.matches.now in
     record {
       routines = subst (GivesRoutines (rows_of found)) c.in-Some.is c.in_ok-routines.ensures;
+      dialect = c.in-Some-dialect_of.ensures;
       of_rules = search rules;
       beside = sym (first_value-rows found (codes "beside")) ∙ sym c.get_str-beside.ensures;
     }

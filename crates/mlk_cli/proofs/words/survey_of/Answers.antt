@@ -12,5 +12,6 @@ returns c =
     let found = found_of c.args.matches.now in
     record {
       routines = subst (GivesRoutines (rows_of found)) c.in-Some.is c.in_ok-routines.ensures;
+      dialect = c.in-Some-dialect_of.ensures;
       output = c.in-Some-survey_output_of.ensures;
     }

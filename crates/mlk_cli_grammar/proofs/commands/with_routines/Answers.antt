@@ -6,4 +6,5 @@ use Rattle.mlk_cli_grammar.proofs.commands.with_routines.Goals as goal
 pub returns : goal.returns
 returns c =
     let one = c.in_ok-arg.ensures.shape c.routines.ensures.local ∙ ap₂ with_rule refl c.routines.ensures.rule in
-    IfOk-weaker c.arg-2.result _ _ (λ made h. h.shape c.file_option.ensures.local ∙ ap₂ with_rule one c.file_option.ensures.rule) c.arg-2.ensures
+    let two = c.in_ok-arg-2.ensures.shape c.file_option.ensures.local ∙ ap₂ with_rule one c.file_option.ensures.rule in
+    IfOk-weaker c.arg-3.result _ _ (λ made h. h.shape c.dialect_option.ensures.local ∙ ap₂ with_rule two c.dialect_option.ensures.rule) c.arg-3.ensures
