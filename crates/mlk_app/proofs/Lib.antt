@@ -1,5 +1,6 @@
 pub mod Paths
 pub mod Sources
+pub mod Dialects
 pub mod Saying
 pub mod Suggesting
 mod NeverShut

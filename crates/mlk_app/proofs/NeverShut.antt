@@ -8,6 +8,7 @@ use Rattle.mlk_outcome.proofs.NeverShut.{not-reported, not-by-text, unmade-open,
 use Rattle.mlk_app.specs.declared.source.Sources.{Sources}
 use Rattle.mlk_app.specs.declared.source.Work.{Work}
 use Rattle.mlk_app.specs.declared.source.Work.TheVariants as work
+use Rattle.mlk_app.specs.Dialects.{as_read}
 use Rattle.mlk_app.specs.Ran.{IsRefusedFor}
 use Rattle.mlk_app.specs.Printing.{IsRefusedSources}
 
@@ -19,4 +20,4 @@ work-open (work.Verify workers) trees rules r (inr (blocks, h)) = not-reported w
 work-open (work.Replay events) trees rules r h = not-replayed trees rules events.items r h
 
 pub not-shut : (sources : Sources) (r : NoReport) → IsRefusedSources sources r → IsNotShut r
-not-shut sources r h = texts-open (IsRefusedFor sources.work) (work-open sources.work) sources.routines.items sources.rules.items r h
+not-shut sources r h = texts-open (IsRefusedFor sources.work) (work-open sources.work) (as_read sources) sources.rules.items r h

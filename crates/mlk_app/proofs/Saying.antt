@@ -31,25 +31,25 @@ use Rattle.mlk_cli.specs.CommandLine.{bytes_of}
 use Rattle.mlk_outcome.specs.Conversion.{IsUnconverted}
 use Rattle.mlk_app.specs.Printing.{IsPrintedOfTexts, IsRefusedSources, IsReportAnswer}
 use Rattle.mlk_app.specs.Printed.{baseline_line}
-use Rattle.mlk_app.specs.Ran.{style_in, status_in, status_of, AreKnown, IsBaselineRefused, IsPrintedBeside, IsProgramReported, TellsBaseline, TellsRefusal, TellsFault, TellsUnread, TellsPage, Answers}
+use Rattle.mlk_app.specs.Ran.{style_in, status_in, status_of, AreKnown, IsBaselineRefused, IsPrintedBeside, IsProgramReported, PrintsSurvey, TellsBaseline, TellsRefusal, TellsFault, TellsUnread, TellsPage, Answers}
 
 one-not-zero : ◌≡◌ {A = ℕ} 1 0 → ⊥
 one-not-zero e = omega (arith, e)
 
 -- what is printed of a report
-report-yes : (style : ReportStyle) (comparison : Option (Bor Comparison)) (trees : List RoutineTree) (rows : List Row) (text : List ℕ) (passed zero : Bool) → IsRendered style comparison trees rows text passed → zero ≡ false
+report-yes : (style : ReportStyle) (rests : Option ℕ) (comparison : Option (Bor Comparison)) (trees : List RoutineTree) (rows : List Row) (text : List ℕ) (passed zero : Bool) → IsRendered style rests comparison trees rows text passed → zero ≡ false
     → status_of (passed || zero) ≡ 0 → printed_rows comparison rows ≡ []
-report-yes style comparison trees rows text true zero printed not ended = passed-no-row style comparison trees rows text printed
-report-yes style comparison trees rows text false true printed not ended = cc
-report-yes style comparison trees rows text false false printed not ended = absurd (one-not-zero ended)
+report-yes style rests comparison trees rows text true zero printed not ended = passed-no-row style rests comparison trees rows text printed
+report-yes style rests comparison trees rows text false true printed not ended = cc
+report-yes style rests comparison trees rows text false false printed not ended = absurd (one-not-zero ended)
 
-pub report-printed : (style : ReportStyle) (comparison : Option (Bor Comparison)) (trees : List RoutineTree) (rows : List Row) (text : List ℕ) (passed : Bool) (status : ℕ) → IsRendered style comparison trees rows text passed
-    → status ≡ status_in style passed → IsPrintedBeside style comparison trees rows text status
-report-printed style comparison trees rows text passed status printed ended = record {
+pub report-printed : (style : ReportStyle) (rests : Option ℕ) (comparison : Option (Bor Comparison)) (trees : List RoutineTree) (rows : List Row) (text : List ℕ) (passed : Bool) (status : ℕ) → IsRendered style rests comparison trees rows text passed
+    → status ≡ status_in style passed → IsPrintedBeside style rests comparison trees rows text status
+report-printed style rests comparison trees rows text passed status printed ended = record {
   passed = passed;
   printed = printed;
   ended = ended;
-  yes = λ not zero. report-yes style comparison trees rows text passed style.exits_zero printed not (sym ended ∙ zero);
+  yes = λ not zero. report-yes style rests comparison trees rows text passed style.exits_zero printed not (sym ended ∙ zero);
 }
 
 pub no-notice : (output : Output) → IsNoticed output None
@@ -166,6 +166,20 @@ fault-answers holds unreadable certificate format given fault (answer.Usage text
 fault-answers holds unreadable certificate format given fault answer.OutOfMemory held refused printed = record {}
 
 -- what is answered where a routine of a survey can't be read
+pub survey-answers : (holds : Texts) (unreadable : List ℕ → Type 0) (survey : SurveyRequest) (sources : List Source) (a : Answer) → AreSources holds survey.routines.items sources → PrintsSurvey a
+    → Answers holds unreadable (request.Survey survey) a
+survey-answers holds unreadable survey sources (answer.Report text status) texts printed = (
+  record {
+    sources = sources;
+    texts = texts;
+  },
+  printed,
+)
+survey-answers holds unreadable survey sources (answer.Refused line notice help) texts printed = absurd printed
+survey-answers holds unreadable survey sources (answer.Unread line help) texts printed = absurd printed
+survey-answers holds unreadable survey sources (answer.Usage text) texts printed = absurd printed
+survey-answers holds unreadable survey sources answer.OutOfMemory texts printed = record {}
+
 pub unsurveyed-answers : (holds : Texts) (unreadable : List ℕ → Type 0) (survey : SurveyRequest) (path : Bor (List ℕ)) (a : Answer) → LosesFirst holds unreadable (bytes_of survey.routines.items) (error.Unread path)
     → TellsUnread path.now a → Answers holds unreadable (request.Survey survey) a
 unsurveyed-answers holds unreadable survey path (answer.Report text status) lost printed = absurd printed

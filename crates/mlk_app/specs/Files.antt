@@ -3,6 +3,7 @@
 use Rattle.std.specs.Prelude.{Option, None, Some, option_map, map, String, string_bytes, Vec, ℕ, ◌≡◌, ◌<◌, ◌⊎◌, List, [], ◌∷◌, ◌++◌, length, slice_index}
 use Rattle.std.specs.Borrow.{Bor}
 use Rattle.std.specs.Global.{Global}
+use Rattle.mlk_app.specs.Dialects.{ArePlainIn}
 use Rattle.mlk_app.specs.declared.source.FileError.{FileError}
 use Rattle.mlk_app.specs.declared.source.FileError.TheVariants as error
 use Rattle.mlk_pool.specs.declared.source.Source.{Source}
@@ -93,6 +94,7 @@ pub record AreTexts (holds : Texts) (program : ProgramRequest) (sources : Source
   pub rules : holds program.rules.now sources.rules.items
   pub work : IsWork holds program.asked sources.work
   pub routines : AreSources holds program.routines.items sources.routines.items
+  pub plain : ArePlainIn program.dialect sources.routines.items sources.plain
   pub baseline : IsGivenText holds program.baseline sources.baseline
 
 abbrev pub work_path : Asked → List (List ℕ)

@@ -1,4 +1,5 @@
 pub mod Printed
 pub mod Files
+pub mod Dialects
 pub mod Ran
 pub mod Printing

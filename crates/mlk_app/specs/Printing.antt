@@ -17,19 +17,30 @@ use Rattle.mlk_app.specs.declared.source.Sources.{Sources}
 use Rattle.mlk_pool.specs.Headline.{RefusesTexts}
 use Rattle.mlk_outcome.specs.declared.refusal.NoReport.{NoReport}
 use Rattle.mlk_outcome.specs.declared.refusal.NoReport.TheVariants as refusal
-use Rattle.mlk_app.specs.Ran.{IsPrinted, IsRefusedFor, IsUnwritten}
+use Rattle.mlk_app.specs.declared.work.Subject.{Subject}
+use Rattle.mlk_app.specs.Dialects.{as_read, rests_of}
+use Rattle.mlk_app.specs.Ran.{ReportRequest, IsPrinted, IsRefusedFor, IsUnwritten}
+
+-- what a report of sources is asked for with
+abbrev pub request_of : ProgramRequest → Option (Bor Baseline) → Sources → ReportRequest
+request_of program known sources = record { program = program; known = known; rests = rests_of sources }
+
+-- and what a subject's is
+abbrev pub asked_of : Subject → ReportRequest
+asked_of subject = request_of subject.request.now subject.known subject.sources.now
 
 -- what is printed of trees that make a program, and of the text of rules
 abbrev pub IsPrintedOfTrees : ProgramRequest → Option (Bor Baseline) → List RoutineTree → Sources → List ℕ → ℕ → Type 0
-IsPrintedOfTrees program known trees sources text status = IsProgram trees × (rules : RuleLists) × SaysRules sources.rules.items rules × IsPrinted program known trees rules sources.work text status
+IsPrintedOfTrees program known trees sources text status =
+    IsProgram trees × (rules : RuleLists) × SaysRules sources.rules.items rules × IsPrinted (request_of program known sources) trees rules sources.work text status
 
 -- and of the texts of routines
 abbrev pub IsPrintedOfTexts : ProgramRequest → Option (Bor Baseline) → Sources → List ℕ → ℕ → Type 0
-IsPrintedOfTexts program known sources text status = (trees : List RoutineTree) × AreRead sources.routines.items trees × IsPrintedOfTrees program known trees sources text status
+IsPrintedOfTexts program known sources text status = (trees : List RoutineTree) × AreRead (as_read sources) trees × IsPrintedOfTrees program known trees sources text status
 
 -- why nothing is printed of them
 abbrev pub IsRefusedSources : Sources → NoReport → Type 0
-IsRefusedSources sources r = RefusesTexts refusal.Check sources.routines.items sources.rules.items (IsRefusedFor sources.work) r
+IsRefusedSources sources r = RefusesTexts refusal.Check (as_read sources) sources.rules.items (IsRefusedFor sources.work) r
 
 -- known faults are refused only if they are given
 abbrev pub RefusesGiven : {E : Type 0} → Option (Vec ℕ Global) → Failure E → Type 0

@@ -40,6 +40,7 @@ use Rattle.mlk_baseline.specs.declared.baseline.BaselineFault.{BaselineFault}
 use Rattle.mlk_baseline.specs.Known.{IsComparison}
 use Rattle.mlk_forms.specs.Rendering.{IsRendered, IsNoticed, printed_rows}
 use Rattle.mlk_app.specs.Printed.{fault_line, rules_line, certificate_line, missing_line, workers_line, stuck_line, events_line, baseline_line, file_line, no_page_line}
+use Rattle.mlk_app.specs.Dialects.{as_read, rests_of}
 use Rattle.mlk_app.specs.Files.{Texts, Folders, AreFound, AreTexts, AreSources, IsFirstLost, given_path, cert_format, paths_of, program_paths}
 use Rattle.mlk_cli.specs.CommandLine.{IsRequest, AsksNothing, bytes_of}
 use Rattle.mlk_program.specs.Program.{IsProgram}
@@ -79,6 +80,13 @@ status_of false = 1
 abbrev pub status_in : ReportStyle → Bool → ℕ
 status_in style passed = status_of (passed || style.exits_zero)
 
+-- What a report is asked for with: the request of the words, the faults that are known, if there are such, and, if words beyond the
+-- subset are read, on how many of them it rests.
+pub record ReportRequest : Type 0 where
+  pub program : ProgramRequest
+  pub known : Option (Bor Baseline)
+  pub rests : Option ℕ
+
 -- The faults of a report are compared with known ones if there are such.
 abbrev pub AreCompared : Option (Bor Baseline) → List Row → Option Comparison → Type 0
 AreCompared None rows comparison = comparison ≡ None
@@ -88,17 +96,17 @@ AreCompared (Some known) rows (Some comparison) = IsComparison (length rows) com
 -- What is printed of a report, and the status: in whatever form it is printed, 0 says that it has no row, or, beside known faults, no
 -- row that is new, unless the words ask for 0 in any case. In the plain style it passes if it has none, and the text is that of the
 -- report.
-pub record IsPrintedBeside (style : ReportStyle) (comparison : Option (Bor Comparison)) (trees : List RoutineTree) (rows : List Row) (text : List ℕ) (status : ℕ) : Type 0 where
+pub record IsPrintedBeside (style : ReportStyle) (rests : Option ℕ) (comparison : Option (Bor Comparison)) (trees : List RoutineTree) (rows : List Row) (text : List ℕ) (status : ℕ) : Type 0 where
   pub passed : Bool
-  pub printed : IsRendered style comparison trees rows text passed
+  pub printed : IsRendered style rests comparison trees rows text passed
   pub ended : status ≡ status_in style passed
   pub yes : style.exits_zero ≡ false → status ≡ 0 → printed_rows comparison rows ≡ []
 
 -- The same, where the faults are compared with known ones if there are such.
-pub record IsReportPrinted (program : ProgramRequest) (known : Option (Bor Baseline)) (trees : List RoutineTree) (rows : List Row) (text : List ℕ) (status : ℕ) : Type 0 where
+pub record IsReportPrinted (asked : ReportRequest) (trees : List RoutineTree) (rows : List Row) (text : List ℕ) (status : ℕ) : Type 0 where
   pub comparison : Option (Bor Comparison)
-  pub compared : AreCompared known rows (option_copied comparison)
-  pub printed : IsPrintedBeside (style_in program.asked) comparison trees rows text status
+  pub compared : AreCompared asked.known rows (option_copied comparison)
+  pub printed : IsPrintedBeside (style_in asked.program.asked) asked.rests comparison trees rows text status
 
 -- the line of what the check itself refuses
 abbrev pub IsErrorLine : CheckError → List ℕ → Type 0
@@ -121,24 +129,25 @@ IsRefusalLine (refusal.GaveUp entry fault) line = line ≡ stuck_line entry faul
 IsRefusalLine (refusal.Events fault) line = line ≡ events_line fault
 
 -- the report of a program by rules and a certificate's blocks is printed
-abbrev pub IsReportOfBlocks : ProgramRequest → Option (Bor Baseline) → List RoutineTree → RuleLists → List EntryCert → List ℕ → ℕ → Type 0
-IsReportOfBlocks program known trees rules blocks text status = (rows : List Row) × IsReportBy trees rules blocks rows × IsReportPrinted program known trees rows text status
+abbrev pub IsReportOfBlocks : ReportRequest → List RoutineTree → RuleLists → List EntryCert → List ℕ → ℕ → Type 0
+IsReportOfBlocks asked trees rules blocks text status = (rows : List Row) × IsReportBy trees rules blocks rows × IsReportPrinted asked trees rows text status
 
 -- the report by the certificate with this text is printed
-abbrev pub IsReportByText : ProgramRequest → Option (Bor Baseline) → List RoutineTree → RuleLists → List ℕ → List ℕ → ℕ → Type 0
-IsReportByText program known trees rules cert_text text status = (blocks : List EntryCert) × Spells blocks cert_text × IsReportOfBlocks program known trees rules blocks text status
+abbrev pub IsReportByText : ReportRequest → List RoutineTree → RuleLists → List ℕ → List ℕ → ℕ → Type 0
+IsReportByText asked trees rules cert_text text status =
+    (blocks : List EntryCert) × Spells blocks cert_text × IsReportOfBlocks asked trees rules blocks text status
 
 -- the report by a certificate that is made is printed; which certificate it is, is not said
-abbrev pub IsReportOfMade : ProgramRequest → Option (Bor Baseline) → List RoutineTree → RuleLists → List ℕ → ℕ → Type 0
-IsReportOfMade program known trees rules text status = (blocks : List EntryCert) × IsReportOfBlocks program known trees rules blocks text status
+abbrev pub IsReportOfMade : ReportRequest → List RoutineTree → RuleLists → List ℕ → ℕ → Type 0
+IsReportOfMade asked trees rules text status = (blocks : List EntryCert) × IsReportOfBlocks asked trees rules blocks text status
 
 -- What is printed of a program and its rules, by what is asked, and the status: the report by the certificate that is given, or by
 -- one that is made; the text of a certificate that is made; what is shown of jobs after events.
-abbrev pub IsPrinted : ProgramRequest → Option (Bor Baseline) → List RoutineTree → RuleLists → Work → List ℕ → ℕ → Type 0
-IsPrinted program known trees rules (work.Check given workers) text status = IsReportByText program known trees rules given.items text status
-IsPrinted program known trees rules (work.Verify workers) text status = IsReportOfMade program known trees rules text status
-IsPrinted program known trees rules (work.Make format) text status = IsMade trees rules format text × (status ≡ 0)
-IsPrinted program known trees rules (work.Replay events) text status = IsReplayed trees rules events.items text × (status ≡ 0)
+abbrev pub IsPrinted : ReportRequest → List RoutineTree → RuleLists → Work → List ℕ → ℕ → Type 0
+IsPrinted asked trees rules (work.Check given workers) text status = IsReportByText asked trees rules given.items text status
+IsPrinted asked trees rules (work.Verify workers) text status = IsReportOfMade asked trees rules text status
+IsPrinted asked trees rules (work.Make format) text status = IsMade trees rules format text × (status ≡ 0)
+IsPrinted asked trees rules (work.Replay events) text status = IsReplayed trees rules events.items text × (status ≡ 0)
 
 -- why there is no report by a certificate that is made
 abbrev pub RefusesMade : ℕ → List RoutineTree → RuleLists → NoReport → Type 0
@@ -175,6 +184,14 @@ TellsRules fault (answer.Refused line notice help) = (line ≡ rules_line fault)
 TellsRules fault (answer.Unread line help) = ⊥
 TellsRules fault (answer.Usage text) = ⊥
 TellsRules fault answer.OutOfMemory = Unit {0}
+
+-- a survey, which says nothing of what it must say, where memory doesn't run out
+abbrev pub PrintsSurvey : Answer → Type 0
+PrintsSurvey (answer.Report text status) = status ≡ 0
+PrintsSurvey (answer.Refused line notice help) = ⊥
+PrintsSurvey (answer.Unread line help) = ⊥
+PrintsSurvey (answer.Usage text) = ⊥
+PrintsSurvey answer.OutOfMemory = Unit {0}
 
 -- the text of a rule file, where memory doesn't run out
 abbrev pub PrintsRules : Answer → Type 0
@@ -236,20 +253,20 @@ pub record IsProgramReported (holds : Texts) (program : ProgramRequest) (text : 
   pub sources : Sources
   pub texts : AreTexts holds program sources
   pub trees : List RoutineTree
-  pub read : AreRead sources.routines.items trees
+  pub read : AreRead (as_read sources) trees
   pub linked : IsProgram trees
   pub rules : RuleLists
   pub said : SaysRules sources.rules.items rules
   pub known : Option (Bor Baseline)
   pub beside : AreKnown program.baseline known
-  pub printed : IsPrinted program known trees rules sources.work text status
+  pub printed : IsPrinted (record { program = program; known = known; rests = rests_of sources }) trees rules sources.work text status
 
 -- The refusal of the texts at the paths of a program: of its routines, of their linking, of its rules, or for what is asked.
 pub record IsProgramRefused (holds : Texts) (program : ProgramRequest) (line : List ℕ) : Type 0 where
   pub sources : Sources
   pub texts : AreTexts holds program sources
   pub reason : NoReport
-  pub refused : RefusesTexts refusal.Check sources.routines.items sources.rules.items (IsRefusedFor sources.work) reason
+  pub refused : RefusesTexts refusal.Check (as_read sources) sources.rules.items (IsRefusedFor sources.work) reason
   pub printed : IsRefusalLine reason line
 
 -- a line of the known faults is refused; which one, is not said

@@ -1,5 +1,6 @@
 // What is found behind the faults of a report.
 
+use crate::dialect::read_in;
 use crate::source::Sources;
 use crate::stuck::{WORKERS, none_if_refused};
 use mlk_behind::{KnownFaults, Patch, mended_texts, next_round};
@@ -152,7 +153,8 @@ impl<'a> Search<'a> {
         texts: &[Vec<u8>],
     ) -> Result<Vec<Patch>, AllocError> {
         let nothing = Vec::new(self.alloc);
-        let sources = sources_with(self.alloc, self.sources, texts)?;
+        let mended = sources_with(self.alloc, self.sources, texts)?;
+        let sources = read_in(self.alloc, self.sources.dialect(), mended)?;
         let read = read_routines(runner, sources.as_slice());
         let Some(routines) = none_if_refused(read)? else {
             return Ok(nothing);

@@ -5,6 +5,7 @@
 mod answer;
 mod baseline;
 mod behind;
+mod dialect;
 mod file;
 mod help;
 mod notice;

@@ -3,7 +3,7 @@
 ghost use Rattle.std.specs.Prelude.{◌≡◌, ◌≢◌, IfOk};
 ghost use Rattle.std.specs.IoError.{error_kind};
 ghost use Rattle.mlk_cli.specs.declared.words.Request.TheVariants as wanted;
-ghost use Rattle.mlk_app.specs.Ran.{style_in, IsErrorLine, IsRefusalLine, TellsRefusal, TellsFault, TellsBaseline, TellsUnread, TellsUnfound, TellsPage, Answers, AnswersFound, AnswersLine, AnswersWords, Ran};
+ghost use Rattle.mlk_app.specs.Ran.{style_in, IsErrorLine, IsRefusalLine, PrintsSurvey, TellsRefusal, TellsFault, TellsBaseline, TellsUnread, TellsUnfound, TellsPage, Answers, AnswersFound, AnswersLine, AnswersWords, Ran};
 ghost use Rattle.mlk_app.specs.Files.{AreTexts, LosesPath};
 ghost use Rattle.mlk_app.specs.Printing.{IsReportAnswer};
 ghost use Rattle.mlk_cli.specs.CommandLine.{bytes_of};
@@ -12,6 +12,7 @@ ghost use Rattle.mlk_outcome.specs.Refusals.{IsOfOpenGate, IsNotShut};
 
 use crate::answer::{Answer, REFUSED, YES, print_answer, write_error, write_memory_error};
 use crate::baseline::known_faults;
+use crate::dialect::read_in;
 use crate::help::{Explaining, certificate_help, is_refusal_explained, refusal_help, why_unread};
 use crate::notice::notice_of;
 use crate::printed::{
@@ -34,7 +35,7 @@ use mlk_cli::{
 };
 use mlk_forms::{render_pages, render_survey};
 use mlk_outcome::{NoReport, convert};
-use mlk_pool::{CheckError, ReportText};
+use mlk_pool::{CheckError, ReportText, Source};
 use mlk_refusal_text::Spot;
 use mlk_text::Failure;
 use mlk_watch::{Runner, Watch};
@@ -302,6 +303,23 @@ fn answer_conversion<F: Files, W: Watch>(
     }
 }
 
+// What is answered where a survey of routines is asked for.
+fn survey_answer<R: Threads + Wait + Sync, W: Watch>(
+    runner: &Runner<'_, R, W>,
+    survey: &SurveyRequest<'_>,
+    sources: Vec<Source<'_>>,
+) -> Answer
+    ensures { PrintsSurvey result }
+{
+    let Ok(read) = read_in(runner.alloc, survey.dialect, sources) else {
+        return Answer::OutOfMemory;
+    };
+    match render_survey(runner, read.as_slice(), survey.output) {
+        Ok(printed) => Answer::Report(printed.text, YES),
+        Err(AllocError) => Answer::OutOfMemory,
+    }
+}
+
 // What is answered where a survey is asked for, from the texts of the routines.
 fn answer_survey<R: Threads + Wait + Sync, F: Files, W: Watch>(
     runner: &Runner<'_, R, W>,
@@ -313,10 +331,7 @@ fn answer_survey<R: Threads + Wait + Sync, F: Files, W: Watch>(
 {
     let alloc = runner.alloc;
     match read_sources(alloc, files, survey.routines.as_slice()) {
-        Ok(sources) => match render_survey(runner, sources.as_slice(), survey.output) {
-            Ok(printed) => Answer::Report(printed.text, YES),
-            Err(AllocError) => Answer::OutOfMemory,
-        },
+        Ok(sources) => survey_answer(runner, survey, sources),
         Err(FileError::OutOfMemory) => Answer::OutOfMemory,
         Err(FileError::Unread(path)) => {
             unread_answer(alloc, files, path, explaining == Explaining::Refusals)

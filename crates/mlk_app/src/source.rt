@@ -3,10 +3,12 @@
 ghost use Rattle.std.specs.Prelude.{◌≡◌, ◌≢◌, List, ℕ, Option, IfOk, IfErr, length};
 ghost use Rattle.std.specs.IoError.{error_kind};
 ghost use Rattle.mlk_app.specs.Files.{IsFileName, IsNameStem, IsPathStem, IsSource, AreSources, IsWork, IsGivenText, AreTexts, cert_format, given_path, work_path, program_paths, texts_below, Loses, LosesFirst};
+ghost use Rattle.mlk_app.specs.Dialects.{as_read, rests_of};
 ghost use Rattle.mlk_cli.specs.CommandLine.{bytes_of};
 
+use crate::dialect::{PlainSources, plain_in};
 use mlk_cert::CertFormat;
-use mlk_cli::{Asked, Format, ProgramRequest};
+use mlk_cli::{Asked, Dialect, Format, ProgramRequest};
 use mlk_pool::Source;
 use mlk_suggest_read::RoutineText;
 use mlk_text::push_sparing;
@@ -59,8 +61,40 @@ pub(crate) struct Sources<'a> {
     pub(crate) work: Work,
     pub(crate) rules: Vec<u8>,
     pub(crate) routines: Vec<Source<'a>>,
+    /// the routines as they are read, unless that is by these texts
+    pub(crate) plain: Option<PlainSources<'a>>,
     /// the text of the faults that are known, if it is given
     pub(crate) baseline: Option<Vec<u8>>,
+}
+
+impl<'a> Sources<'a> {
+    /// The routines as they are read.
+    pub(crate) fn as_read(&self) -> &[Source<'a>]
+        ensures { result.now ≡ as_read self.now }
+    {
+        match &self.plain {
+            Some(plain) => plain.sources.as_slice(),
+            None => self.routines.as_slice(),
+        }
+    }
+
+    /// How much of M is read.
+    pub(crate) fn dialect(&self) -> Dialect {
+        match &self.plain {
+            Some(_) => Dialect::Extended,
+            None => Dialect::Standard,
+        }
+    }
+
+    /// On how many words a report rests that are read as any value; `None` if no such word is read.
+    pub(crate) fn rests(&self) -> Option<usize>
+        ensures { result ≡ rests_of self.now }
+    {
+        match &self.plain {
+            Some(plain) => Some(plain.inert),
+            None => None,
+        }
+    }
 }
 
 /// Why a file was not read.
@@ -215,10 +249,14 @@ pub(crate) fn read_files<'a, F: Files>(
     let work = read_work(alloc, files, &request.asked)?;
     let routines = read_sources(alloc, files, request.routines.as_slice())?;
     let baseline = read_given(alloc, files, request.baseline)?;
+    let Ok(plain) = plain_in(alloc, request.dialect, routines.as_slice()) else {
+        return Err(FileError::OutOfMemory);
+    };
     Ok(Sources {
         work,
         rules,
         routines,
+        plain,
         baseline,
     })
 }

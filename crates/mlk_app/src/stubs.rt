@@ -4,6 +4,7 @@ ghost use Rattle.mlk_cli.specs.declared.words.Request.TheVariants as wanted;
 ghost use Rattle.mlk_app.specs.Ran.{TellsStubFault, PrintsStubs, Answers};
 
 use crate::answer::{Answer, YES};
+use crate::dialect::read_in;
 use crate::help::{Explaining, stub_help};
 use crate::printed::fault_line;
 use crate::program::unread_answer;
@@ -36,18 +37,21 @@ fn refused_stub(alloc: Global, fault: &Fault, explaining: Explaining) -> Answer
     }
 }
 
-fn stubs_answer<'s>(
+fn stubs_answer(
     alloc: Global,
-    sources: &'s [Source<'s>],
-    wanted: Wanted<'_>,
+    sources: Vec<Source<'_>>,
+    stubs: &StubsRequest<'_>,
     explaining: Explaining,
 ) -> Answer
     ensures { PrintsStubs result }
 {
-    let Ok(texts) = routine_texts(alloc, sources) else {
+    let Ok(read) = read_in(alloc, stubs.dialect, sources) else {
         return Answer::OutOfMemory;
     };
-    match stubs_for(alloc, texts.as_slice(), wanted) {
+    let Ok(texts) = routine_texts(alloc, read.as_slice()) else {
+        return Answer::OutOfMemory;
+    };
+    match stubs_for(alloc, texts.as_slice(), wanted_in(&stubs.wanted)) {
         Ok(text) => Answer::Report(ReportText::of(text.into_bytes()), YES),
         Err(Failure::OutOfMemory) => Answer::OutOfMemory,
         Err(Failure::Refused(fault)) => refused_stub(alloc, &fault, explaining),
@@ -64,10 +68,7 @@ pub(crate) fn answer_stubs<F: Files>(
     ensures { Answers (F.holds files.now) (F.unreadable files.now) (wanted.Stubs stubs.now) result }
 {
     match read_sources(alloc, files, stubs.routines.as_slice()) {
-        Ok(sources) => {
-            let wanted = wanted_in(&stubs.wanted);
-            stubs_answer(alloc, sources.as_slice(), wanted, explaining)
-        }
+        Ok(sources) => stubs_answer(alloc, sources, stubs, explaining),
         Err(FileError::OutOfMemory) => Answer::OutOfMemory,
         Err(FileError::Unread(path)) => {
             unread_answer(alloc, files, path, explaining == Explaining::Refusals)

@@ -95,7 +95,7 @@ pub(crate) fn push_faults<R: Threads + Wait + Sync, W: Watch>(
     text: &mut Vec<u8>,
     sources: &Sources<'_>,
 ) -> Result<(), AllocError> {
-    let read = read_routines(runner, sources.routines.as_slice());
+    let read = read_routines(runner, sources.as_read());
     let Some(routines) = none_if_refused(read)? else {
         return Ok(());
     };
@@ -131,7 +131,7 @@ fn render_despite<R: Threads + Wait + Sync, W: Watch>(
 {
     let alloc = runner.alloc;
     let output = style_in(&program.asked).output;
-    let read = read_routines(runner, sources.routines.as_slice());
+    let read = read_routines(runner, sources.as_read());
     let Some(routines) = none_if_refused(read)? else {
         return render_notice(alloc, notice, output);
     };

@@ -7,11 +7,12 @@ ghost use Rattle.mlk_app.specs.Files.{given_path};
 ghost use Rattle.mlk_app.specs.Ran.{TellsRules, PrintsRules, SuggestsFor, Answers};
 
 use crate::answer::{Answer, YES};
+use crate::dialect::read_in;
 use crate::help::{Explaining, rule_file_help};
 use crate::printed::rules_line;
 use crate::program::unread_answer;
 use crate::source::{FileError, Files, read_file, read_sources, routine_texts};
-use mlk_cli::SuggestRequest;
+use mlk_cli::{Dialect, SuggestRequest};
 use mlk_pool::{ReportText, Source};
 use mlk_rules_file::{RulesFault, read_rules};
 use mlk_suggest_text::{KnownRules, RuleText, suggested_rules};
@@ -30,10 +31,18 @@ fn rules_for<'s>(
     suggested_rules(alloc, texts.as_slice(), known)
 }
 
-fn suggestion_answer<'s>(alloc: Global, sources: &'s [Source<'s>], known: KnownRules<'_>) -> Answer
+fn suggestion_answer(
+    alloc: Global,
+    sources: Vec<Source<'_>>,
+    dialect: Dialect,
+    known: KnownRules<'_>,
+) -> Answer
     ensures { PrintsRules result }
 {
-    match rules_for(alloc, sources, known) {
+    let Ok(read) = read_in(alloc, dialect, sources) else {
+        return Answer::OutOfMemory;
+    };
+    match rules_for(alloc, read.as_slice(), known) {
         Ok(text) => Answer::Report(ReportText::of(text.into_bytes()), YES),
         Err(AllocError) => Answer::OutOfMemory,
     }
@@ -58,18 +67,18 @@ fn refused_rules<'a>(
     }
 }
 
-// Answers with the rules that are suggested for the routines at these paths.
+// Answers with the rules that are suggested for the routines of `suggestion`.
 fn suggest_for<F: Files>(
     alloc: Global,
-    routines: &[&str],
+    suggestion: &SuggestRequest<'_>,
     known: KnownRules<'_>,
     files: &F,
     explaining: Explaining,
 ) -> Answer
-    ensures { SuggestsFor (F.holds files.now) (F.unreadable files.now) routines.now result }
+    ensures { SuggestsFor (F.holds files.now) (F.unreadable files.now) suggestion.now.routines.items result }
 {
-    match read_sources(alloc, files, routines) {
-        Ok(sources) => suggestion_answer(alloc, sources.as_slice(), known),
+    match read_sources(alloc, files, suggestion.routines.as_slice()) {
+        Ok(sources) => suggestion_answer(alloc, sources, suggestion.dialect, known),
         Err(FileError::OutOfMemory) => Answer::OutOfMemory,
         Err(FileError::Unread(path)) => {
             unread_answer(alloc, files, path, explaining == Explaining::Refusals)
@@ -88,14 +97,13 @@ fn suggest_beside<F: Files>(
     requires { given_path suggestion.now.beside ≡ path.now ∷ [] }
     ensures { Answers (F.holds files.now) (F.unreadable files.now) (wanted.Suggest suggestion.now) result }
 {
-    let routines = suggestion.routines.as_slice();
     match read_file(alloc, files, path) {
         Ok(text) => match read_rules(alloc, text.as_slice()) {
             Ok(rules) => {
                 let known = KnownRules {
                     lists: Some(rules.lists()),
                 };
-                suggest_for(alloc, routines, known, files, explaining)
+                suggest_for(alloc, suggestion, known, files, explaining)
             }
             Err(Failure::OutOfMemory) => Answer::OutOfMemory,
             Err(Failure::Refused(fault)) => {
@@ -121,13 +129,7 @@ pub(crate) fn answer_suggestion<F: Files>(
     match suggestion.beside {
         None => {
             let known = KnownRules { lists: None };
-            suggest_for(
-                alloc,
-                suggestion.routines.as_slice(),
-                known,
-                files,
-                explaining,
-            )
+            suggest_for(alloc, suggestion, known, files, explaining)
         }
         Some(path) => suggest_beside(alloc, suggestion, path, files, explaining),
     }

@@ -8,7 +8,7 @@ ghost use Rattle.mlk_outcome.specs.Making.{IsMade, IsUnmade};
 ghost use Rattle.mlk_outcome.specs.Replaying.{IsReplayed, IsUnreplayed};
 ghost use Rattle.mlk_outcome.specs.declared.refusal.NoReport.TheVariants as refusal;
 ghost use Rattle.mlk_app.specs.Ran.{style_in, status_in, IsPrintedBeside, IsReportPrinted, IsReportOfBlocks, IsReportByText, IsReportOfMade, IsPrinted, RefusesMade, IsRefusedFor};
-ghost use Rattle.mlk_app.specs.Printing.{IsPrintedOfTrees, IsPrintedOfTexts, IsRefusedSources};
+ghost use Rattle.mlk_app.specs.Printing.{asked_of, IsPrintedOfTrees, IsPrintedOfTexts, IsRefusedSources};
 
 use crate::answer::{NO, YES};
 use crate::baseline::{compare_faults, uses_keys};
@@ -120,7 +120,7 @@ fn printed_report(
     request: &ProgramRequest<'_>,
     report: &Report,
 ) -> Result<Printed, AllocError>
-    ensures { IfOk result (λ p. IsPrintedBeside (style_in request.now.asked) explanations.now.comparison (map routine_of explanations.now.grounds.now.program.now) report.now p.text p.status) }
+    ensures { IfOk result (λ p. IsPrintedBeside (style_in request.now.asked) explanations.now.rests explanations.now.comparison (map routine_of explanations.now.grounds.now.program.now) report.now p.text p.status) }
 {
     let grounds = explanations.grounds;
     let style = style_in(&request.asked);
@@ -150,7 +150,7 @@ fn print_explained<R: Threads + Wait + Sync, W: Watch>(
     is_made: bool,
     report: &Report,
 ) -> Result<Printed, AllocError>
-    ensures { IfOk result (λ p. IsReportPrinted subject.now.request.now subject.now.known (map routine_of subject.now.program.now) report.now p.text p.status) }
+    ensures { IfOk result (λ p. IsReportPrinted (asked_of subject.now) (map routine_of subject.now.program.now) report.now p.text p.status) }
 {
     let alloc = runner.alloc;
     let style = style_in(&subject.request.asked);
@@ -180,6 +180,7 @@ fn print_explained<R: Threads + Wait + Sync, W: Watch>(
         behind: &behind,
         coverage: coverage.as_ref(),
         comparison: beside.comparison.as_ref(),
+        rests: subject.sources.rests(),
     };
     let printed = printed_report(alloc, &explanations, request, report)?;
     Ok(Printed {
@@ -197,7 +198,7 @@ fn print_report<R: Threads + Wait + Sync, W: Watch>(
     workers: u32,
 ) -> Result<Printed, NoReport>
     requires { AreFormed (map routine_of subject.now.program.now) }
-    ensures ok { IfOk result (λ p. IsReportOfBlocks subject.now.request.now subject.now.known (map routine_of subject.now.program.now) subject.now.rules.now certificate.now p.text p.status) }
+    ensures ok { IfOk result (λ p. IsReportOfBlocks (asked_of subject.now) (map routine_of subject.now.program.now) subject.now.rules.now certificate.now p.text p.status) }
     ensures refused { IfErr result (RefusesReport refusal.Check (Unit {0}) workers (map routine_of subject.now.program.now) subject.now.rules.now certificate.now) }
 {
     let report = report_by_certificate(
@@ -219,7 +220,7 @@ fn print_check<R: Threads + Wait + Sync, W: Watch>(
     workers: u32,
 ) -> Result<Printed, NoReport>
     requires { AreFormed (map routine_of subject.now.program.now) }
-    ensures ok { IfOk result (λ p. IsReportByText subject.now.request.now subject.now.known (map routine_of subject.now.program.now) subject.now.rules.now text.now p.text p.status) }
+    ensures ok { IfOk result (λ p. IsReportByText (asked_of subject.now) (map routine_of subject.now.program.now) subject.now.rules.now text.now p.text p.status) }
     ensures refused { IfErr result (RefusesByText refusal.Check (Unit {0}) workers text.now (map routine_of subject.now.program.now) subject.now.rules.now) }
 {
     let alloc = runner.alloc;
@@ -234,7 +235,7 @@ fn print_verification<R: Threads + Wait + Sync, W: Watch>(
     workers: u32,
 ) -> Result<Printed, NoReport>
     requires { AreFormed (map routine_of subject.now.program.now) }
-    ensures ok { IfOk result (λ p. IsReportOfMade subject.now.request.now subject.now.known (map routine_of subject.now.program.now) subject.now.rules.now p.text p.status) }
+    ensures ok { IfOk result (λ p. IsReportOfMade (asked_of subject.now) (map routine_of subject.now.program.now) subject.now.rules.now p.text p.status) }
     ensures refused { IfErr result (RefusesMade workers (map routine_of subject.now.program.now) subject.now.rules.now) }
 {
     let alloc = runner.alloc;
@@ -280,7 +281,7 @@ fn print_work<R: Threads + Wait + Sync, W: Watch>(
     work: &Work,
 ) -> Result<Printed, NoReport>
     requires { AreFormed (map routine_of subject.now.program.now) }
-    ensures ok { IfOk result (λ p. IsPrinted subject.now.request.now subject.now.known (map routine_of subject.now.program.now) subject.now.rules.now work.now p.text p.status) }
+    ensures ok { IfOk result (λ p. IsPrinted (asked_of subject.now) (map routine_of subject.now.program.now) subject.now.rules.now work.now p.text p.status) }
     ensures refused { IfErr result (IsRefusedFor work.now (map routine_of subject.now.program.now) subject.now.rules.now) }
 {
     let alloc = runner.alloc;
@@ -334,7 +335,7 @@ pub(crate) fn print_sources<R: Threads + Wait + Sync, W: Watch>(
     ensures ok { IfOk result (λ p. IsPrintedOfTexts request.now known.entry sources.now p.text p.status) }
     ensures refused { IfErr result (IsRefusedSources sources.now) }
 {
-    let routines = read_routines(runner, sources.routines.as_slice())?;
+    let routines = read_routines(runner, sources.as_read())?;
     let printed = print_routines(runner, routines.as_slice(), sources, request, known);
     runner.watch.discard(routines);
     printed

@@ -11,7 +11,8 @@ use Rattle.mlk_cli.specs.declared.words.Output.TheVariants.{Text}
 use Rattle.mlk_cli.specs.declared.words.ReportStyle.{ReportStyle}
 use Rattle.mlk_pool.specs.Texts.{report_text}
 use Rattle.mlk_coverage.specs.declared.gap.Gap.{Gap}
-use Rattle.mlk_forms.specs.Rendering.{IsRendered, gap_lines, passes, printed_rows, warning_lines}
+use Rattle.mlk_forms.proofs.Answering.{no_rests}
+use Rattle.mlk_forms.specs.Rendering.{AreBelow, IsRendered, gap_lines, passes, printed_rows, rests_line, warning_lines}
 
 passes-no-row : (rows : List Row) (hazards : List HazardAt) (gaps : List Gap) → passes rows hazards gaps ≡ true → rows ≡ []
 passes-no-row [] hazards gaps is = refl
@@ -20,14 +21,18 @@ passes-no-row (r ∷ rows) hazards gaps is =
     absurd (omega (arith, none))
 
 -- In whatever form a report is printed, it has no fault that is new where it passes.
-pub passed-no-row : (style : ReportStyle) (comparison : Option (Bor Comparison)) (trees : List RoutineTree) (rows : List Row) (text : List ℕ) → IsRendered style comparison trees rows text true → printed_rows comparison rows ≡ []
-passed-no-row style comparison trees rows text printed = passes-no-row (printed_rows comparison rows) printed.hazards printed.gaps (sym printed.ended)
+pub passed-no-row : (style : ReportStyle) (rests : Option ℕ) (comparison : Option (Bor Comparison)) (trees : List RoutineTree) (rows : List Row) (text : List ℕ) → IsRendered style rests comparison trees rows text true → printed_rows comparison rows ≡ []
+passed-no-row style rests comparison trees rows text printed = passes-no-row (printed_rows comparison rows) printed.hazards printed.gaps (sym printed.ended)
+
+-- Below the answer is nothing, where no faults are known and no words beyond the subset are read.
+nothing-below : (rows : List Row) (below : List ℕ) → AreBelow None (rests_line rows None) below → below ≡ []
+nothing-below rows below (gone, none, is) = is ∙ ap (λ g. g ++ rests_line rows None) none ∙ no_rests rows
 
 -- Where the words ask for nothing else, and no faults are known, the text is that of the report and no byte more.
 pub plain-text : (style : ReportStyle) (trees : List RoutineTree) (rows : List Row) (text : List ℕ) (passed : Bool)
-    → style ≡ record { output = Text; is_strict = false; is_explained = false; is_quiet = false; exits_zero = false } → IsRendered style None trees rows text passed → text ≡ report_text trees rows
+    → style ≡ record { output = Text; is_strict = false; is_explained = false; is_quiet = false; exits_zero = false } → IsRendered style None None trees rows text passed → text ≡ report_text trees rows
 plain-text style trees rows text passed plain printed =
-    let usual = subst (λ s. IsRendered s None trees rows text passed) plain printed in
-    usual.printed ∙ ap (λ gone. (report_text trees rows ++ gone) ++ warning_lines usual.hazards usual.gaps) usual.below
+    let usual = subst (λ s. IsRendered s None None trees rows text passed) plain printed in
+    usual.printed ∙ ap (λ below. (report_text trees rows ++ below) ++ warning_lines usual.hazards usual.gaps) (nothing-below rows usual.below usual.lines)
     ∙ ap (λ hazards. (report_text trees rows ++ []) ++ warning_lines hazards usual.gaps) usual.reported
     ∙ ap (λ gaps. (report_text trees rows ++ []) ++ gap_lines gaps) usual.found ∙ append-nil (report_text trees rows ++ []) ∙ append-nil (report_text trees rows)

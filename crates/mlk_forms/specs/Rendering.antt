@@ -48,9 +48,21 @@ abbrev pub AreGone : Option (Bor Comparison) → List ℕ → Type 0
 AreGone None gone = gone ≡ []
 AreGone (Some comparison) gone = Unit {0}
 
+-- `rests on inert N`: on how many words a report rests that were read as any value. There is no such line if there is a fault, if no
+-- such word was read, or if such words are not read at all.
+abbrev pub rests_line : List Row → Option ℕ → List ℕ
+rests_line (r ∷ rows) rests = []
+rests_line [] None = []
+rests_line [] (Some zero) = []
+rests_line [] (Some (suc n)) = codes "rests on inert " ++ decimal (suc n) ++ line_end
+
+-- the lines below the answer
+abbrev pub AreBelow : Option (Bor Comparison) → List ℕ → List ℕ → Type 0
+AreBelow comparison rests below = (gone : List ℕ) × AreGone comparison gone × (below ≡ gone ++ rests)
+
 -- a line for each row, the answer, and what is below it
 abbrev pub answered_text : List RoutineTree → List Row → ℕ → List ℕ → List ℕ
-answered_text trees rows known gone = (row_lines trees rows ++ answer_line known rows) ++ gone
+answered_text trees rows known below = (row_lines trees rows ++ answer_line known rows) ++ below
 
 -- The place of a row before its line, `PATH:line:column: `. Which path it is, is not said.
 abbrev pub IsPlace : Row → List ℕ → Type 0
@@ -111,14 +123,14 @@ IsSarif rows hazards gaps text = (document : List ℕ) × IsSarifReport ((length
 
 -- the text of a report with the place of each fault before its line
 abbrev pub IsPlacedText : List RoutineTree → List Row → ℕ → List ℕ → List HazardAt → List Gap → List ℕ → Type 0
-IsPlacedText trees rows known gone hazards gaps text = (faults : List ℕ) × ArePlaced trees rows [] faults × (text ≡ ((faults ++ answer_line known rows) ++ gone) ++ warning_lines hazards gaps)
+IsPlacedText trees rows known below hazards gaps text = (faults : List ℕ) × ArePlaced trees rows [] faults × (text ≡ ((faults ++ answer_line known rows) ++ below) ++ warning_lines hazards gaps)
 
 -- The text of a report, with a line for each hazard and each gap, and with places or without; or it as JSON or SARIF.
 abbrev pub IsReportIn : Output → List RoutineTree → List Row → ℕ → List ℕ → List HazardAt → List Gap → List ℕ → Type 0
-IsReportIn Text trees rows known gone hazards gaps text = text ≡ answered_text trees rows known gone ++ warning_lines hazards gaps
-IsReportIn Json trees rows known gone hazards gaps text = IsJson rows known text
-IsReportIn Sarif trees rows known gone hazards gaps text = IsSarif rows hazards gaps text
-IsReportIn Lines trees rows known gone hazards gaps text = IsPlacedText trees rows known gone hazards gaps text
+IsReportIn Text trees rows known below hazards gaps text = text ≡ answered_text trees rows known below ++ warning_lines hazards gaps
+IsReportIn Json trees rows known below hazards gaps text = IsJson rows known text
+IsReportIn Sarif trees rows known below hazards gaps text = IsSarif rows hazards gaps text
+IsReportIn Lines trees rows known below hazards gaps text = IsPlacedText trees rows known below hazards gaps text
 
 -- The text of a report whose faults are explained. What it says of each fault is not said; then come the answer, perhaps notes, which
 -- may list known faults that do not occur, and faults behind these, and say how much was checked, and a line for each hazard and each
@@ -128,23 +140,23 @@ IsExplained rows known hazards gaps text = (faults note : List ℕ) × (text ≡
 
 -- The text where faults are explained or not, and that of which only the answer is printed.
 abbrev pub IsReportWith : Bool → Bool → Output → List RoutineTree → List Row → ℕ → List ℕ → List HazardAt → List Gap → List ℕ → Type 0
-IsReportWith true explained output trees rows known gone hazards gaps text = text ≡ answer_line known rows
-IsReportWith false true output trees rows known gone hazards gaps text = IsExplained rows known hazards gaps text
-IsReportWith false false output trees rows known gone hazards gaps text = IsReportIn output trees rows known gone hazards gaps text
+IsReportWith true explained output trees rows known below hazards gaps text = text ≡ answer_line known rows
+IsReportWith false true output trees rows known below hazards gaps text = IsExplained rows known hazards gaps text
+IsReportWith false false output trees rows known below hazards gaps text = IsReportIn output trees rows known below hazards gaps text
 
 abbrev pub IsReportAs : ReportStyle → List RoutineTree → List Row → ℕ → List ℕ → List HazardAt → List Gap → List ℕ → Type 0
-IsReportAs style trees rows known gone hazards gaps text = IsReportWith style.is_quiet style.is_explained style.output trees rows known gone hazards gaps text
+IsReportAs style trees rows known below hazards gaps text = IsReportWith style.is_quiet style.is_explained style.output trees rows known below hazards gaps text
 
 -- A report as it is printed in a style, beside known faults if it is compared with these, and whether it passes: it does if each of its
 -- faults is known.
-pub record IsRendered (style : ReportStyle) (comparison : Option (Bor Comparison)) (trees : List RoutineTree) (rows : List Row) (text : List ℕ) (passed : Bool) : Type 0 where
+pub record IsRendered (style : ReportStyle) (rests : Option ℕ) (comparison : Option (Bor Comparison)) (trees : List RoutineTree) (rows : List Row) (text : List ℕ) (passed : Bool) : Type 0 where
   pub hazards : List HazardAt
   pub gaps : List Gap
-  pub gone : List ℕ
+  pub below : List ℕ
   pub reported : AreReported style.is_strict hazards
   pub found : AreGaps style.is_strict gaps
-  pub below : AreGone comparison gone
-  pub printed : IsReportAs style trees (printed_rows comparison rows) (known_in comparison) gone hazards gaps text
+  pub lines : AreBelow comparison (rests_line (printed_rows comparison rows) rests) below
+  pub printed : IsReportAs style trees (printed_rows comparison rows) (known_in comparison) below hazards gaps text
   pub ended : passed ≡ passes (printed_rows comparison rows) hazards gaps
 
 -- what is printed of a refusal beside the line on the error stream: nothing if text is asked for

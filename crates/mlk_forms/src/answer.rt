@@ -1,7 +1,7 @@
 // The answer of a report, beside known faults or without.
 
 ghost use Rattle.std.specs.Prelude.{◌≡◌, ◌++◌, IfOk, OnOk};
-ghost use Rattle.mlk_forms.specs.Rendering.{AreGone, answer_line, known_line};
+ghost use Rattle.mlk_forms.specs.Rendering.{AreBelow, AreGone, answer_line, known_line, rests_line};
 
 use mlk_baseline::{Comparison, GoneFault};
 use mlk_pool::{ReportText, push_answer};
@@ -52,8 +52,8 @@ fn push_gone(text: &mut Vec<u8>, gone: &GoneFault<'_>) -> Result<(), AllocError>
     )
 }
 
-/// The lines of the known faults that do not occur, or not as often as they are known.
-pub(crate) fn gone_lines(
+// The lines of the known faults that do not occur, or not as often as they are known.
+fn gone_lines(
     alloc: Global,
     comparison: Option<&Comparison<'_>>,
 ) -> Result<Vec<u8>, AllocError>
@@ -66,4 +66,39 @@ pub(crate) fn gone_lines(
         }
     }
     Ok(text)
+}
+
+// Appends on how many words a report with these rows rests, if on any.
+#[tactic(auto, using(crate::proofs::Answering::rests_not, crate::proofs::Answering::rests_on_none, crate::proofs::Answering::rests_on_some, crate::proofs::Answering::no_rests))]
+fn push_rests(text: &mut Vec<u8>, rows: &[Row], rests: Option<usize>) -> Result<(), AllocError>
+    ensures { OnOk result (text.new.items ≡ text.old.items ++ rests_line rows.now rests) }
+{
+    let Some(inert) = rests else {
+        return Ok(());
+    };
+    if inert == 0 {
+        return Ok(());
+    }
+    if rows.is_empty() {
+        return push_all(
+            text,
+            &[Words("rests on inert "), Number(inert), Words("\n")],
+        );
+    }
+    Ok(())
+}
+
+/// The lines below the answer of a report with these rows: the known faults that do not occur, and on how many words beyond the
+/// subset it rests.
+pub(crate) fn lines_below(
+    alloc: Global,
+    comparison: Option<&Comparison<'_>>,
+    rows: &[Row],
+    rests: Option<usize>,
+) -> Result<Vec<u8>, AllocError>
+    ensures { IfOk result (λ below. AreBelow comparison.entry (rests_line rows.now rests) below.items) }
+{
+    let mut below = gone_lines(alloc, comparison)?;
+    push_rests(&mut below, rows, rests)?;
+    Ok(below)
 }

@@ -5,7 +5,7 @@ ghost use Rattle.mlk_syntax.specs.Views.{routine_of};
 ghost use Rattle.mlk_output.specs.Documents.{known_in};
 ghost use Rattle.mlk_forms.specs.Rendering.{IsExplained, IsJson, IsPlacedText, IsSarif, IsReportIn, IsReportAs, IsRendered, answer_line, answered_text, warning_lines, passes};
 
-use crate::answer::{gone_lines, push_verdict};
+use crate::answer::{lines_below, push_verdict};
 use crate::coverage::push_coverage;
 use crate::notice::with_end;
 use crate::row::{push_placed_rows, push_rows};
@@ -42,6 +42,8 @@ pub struct Explanations<'a> {
     pub coverage: Option<&'a Coverage<'a>>,
     /// which faults are known, if they are compared with known ones
     pub comparison: Option<&'a Comparison<'a>>,
+    /// on how many words it rests that are read as any value; `None` if such words are not read
+    pub rests: Option<usize>,
 }
 
 // The text of a report, with a line for each hazard and gap below it.
@@ -51,12 +53,12 @@ fn plain_text(
     shown: &Shown<'_>,
     warnings: &Warnings<'_>,
 ) -> Result<ReportText, AllocError>
-    ensures { IfOk result (λ text. text ≡ answered_text (map routine_of program.now) shown.now.rows.now shown.now.known shown.now.gone.now ++ warning_lines warnings.now.hazards.now warnings.now.gaps.now) }
+    ensures { IfOk result (λ text. text ≡ answered_text (map routine_of program.now) shown.now.rows.now shown.now.known shown.now.below.now ++ warning_lines warnings.now.hazards.now warnings.now.gaps.now) }
 {
     let mut text = ReportText::new(alloc);
     push_rows(alloc, &mut text, program, shown.rows)?;
     push_verdict(&mut text, shown.rows, shown.known)?;
-    text.push(shown.gone)?;
+    text.push(shown.below)?;
     push_warnings(alloc, &mut text, warnings)?;
     Ok(text)
 }
@@ -69,12 +71,12 @@ fn placed_text(
     shown: &Shown<'_>,
     warnings: &Warnings<'_>,
 ) -> Result<ReportText, AllocError>
-    ensures { IfOk result (IsPlacedText (map routine_of program.now) shown.now.rows.now shown.now.known shown.now.gone.now warnings.now.hazards.now warnings.now.gaps.now) }
+    ensures { IfOk result (IsPlacedText (map routine_of program.now) shown.now.rows.now shown.now.known shown.now.below.now warnings.now.hazards.now warnings.now.gaps.now) }
 {
     let mut text = ReportText::new(alloc);
     push_placed_rows(alloc, &mut text, program, inputs, shown.rows)?;
     push_verdict(&mut text, shown.rows, shown.known)?;
-    text.push(shown.gone)?;
+    text.push(shown.below)?;
     push_warnings(alloc, &mut text, warnings)?;
     Ok(text)
 }
@@ -137,14 +139,14 @@ fn text_below(
     Ok(text)
 }
 
-// The notes below the answer: known faults that do not occur, what is behind the faults, and how much the report is about.
+// The notes below the answer: its lines, what is behind the faults, and how much the report is about.
 fn notes_of(
     alloc: Global,
     explanations: &Explanations<'_>,
     shown: &Shown<'_>,
 ) -> Result<Vec<u8>, AllocError> {
     let grounds = explanations.grounds;
-    let mut notes = Vec::from_slice(alloc, shown.gone)?;
+    let mut notes = Vec::from_slice(alloc, shown.below)?;
     let behind = notes_below(alloc, grounds, shown.report, explanations.behind)?;
     notes.extend_from_slice(behind.as_slice())?;
     if let Some(coverage) = explanations.coverage {
@@ -186,6 +188,7 @@ fn findings_of<'a>(
         stories,
         behind: explanations.behind,
         coverage: explanations.coverage,
+        rests: explanations.rests,
         hazards: warnings.hazards,
         gaps: warnings.gaps,
         is_strict: style.is_strict,
@@ -225,7 +228,7 @@ fn text_in(
     explanations: &Explanations<'_>,
 ) -> Result<ReportText, AllocError>
     requires { shown.now.known ≡ known_in explanations.now.comparison }
-    ensures { IfOk result (IsReportIn style.output (map routine_of explanations.now.grounds.now.program.now) shown.now.rows.now shown.now.known shown.now.gone.now warnings.now.hazards.now warnings.now.gaps.now) }
+    ensures { IfOk result (IsReportIn style.output (map routine_of explanations.now.grounds.now.program.now) shown.now.rows.now shown.now.known shown.now.below.now warnings.now.hazards.now warnings.now.gaps.now) }
 {
     let program = explanations.grounds.program;
     match style.output {
@@ -252,7 +255,7 @@ fn styled_text(
     explanations: &Explanations<'_>,
 ) -> Result<ReportText, AllocError>
     requires { shown.now.known ≡ known_in explanations.now.comparison }
-    ensures { IfOk result (IsReportAs style (map routine_of explanations.now.grounds.now.program.now) shown.now.rows.now shown.now.known shown.now.gone.now warnings.now.hazards.now warnings.now.gaps.now) }
+    ensures { IfOk result (IsReportAs style (map routine_of explanations.now.grounds.now.program.now) shown.now.rows.now shown.now.known shown.now.below.now warnings.now.hazards.now warnings.now.gaps.now) }
 {
     if style.is_quiet {
         return quiet_text(alloc, shown);
@@ -278,7 +281,7 @@ pub fn render_report(
     style: ReportStyle,
     explanations: &Explanations<'_>,
 ) -> Result<PrintedReport, AllocError>
-    ensures { IfOk result (λ printed. IsRendered style explanations.now.comparison (map routine_of explanations.now.grounds.now.program.now) report.now printed.text printed.passes) }
+    ensures { IfOk result (λ printed. IsRendered style explanations.now.rests explanations.now.comparison (map routine_of explanations.now.grounds.now.program.now) report.now printed.text printed.passes) }
 {
     let hazards = reported_hazards(alloc, inputs.routines, style.is_strict)?;
     let gaps = reported_gaps(alloc, explanations.coverage, style.is_strict)?;
@@ -290,8 +293,13 @@ pub fn render_report(
     };
     let rows = printed_rows(alloc, report, explanations.comparison)?;
     let printed = rows.as_slice();
-    let gone = gone_lines(alloc, explanations.comparison)?;
-    let below = gone.as_slice();
+    let lines = lines_below(
+        alloc,
+        explanations.comparison,
+        printed,
+        explanations.rests,
+    )?;
+    let below = lines.as_slice();
     let known = known_in(explanations.comparison);
     let shown = Shown::new(report, printed, known, below);
     let text = styled_text(alloc, inputs, &shown, style, &warnings, explanations)?;

@@ -15,8 +15,8 @@ pub(crate) struct Shown<'a> {
     pub(crate) rows: &'a [Row],
     /// how many rows are known, and not printed
     pub(crate) known: usize,
-    /// the lines of known faults that do not occur
-    pub(crate) gone: &'a [u8],
+    /// the lines below the answer
+    pub(crate) below: &'a [u8],
 }
 
 impl<'a> Shown<'a> {
@@ -24,15 +24,15 @@ impl<'a> Shown<'a> {
         report: &'a Report,
         rows: &'a [Row],
         known: usize,
-        gone: &'a [u8],
+        below: &'a [u8],
     ) -> Shown<'a>
-        ensures { (result.rows.now ≡ rows.now) × (result.known ≡ known) × (result.gone.now ≡ gone.now) }
+        ensures { (result.rows.now ≡ rows.now) × (result.known ≡ known) × (result.below.now ≡ below.now) }
     {
         Shown {
             report,
             rows,
             known,
-            gone,
+            below,
         }
     }
 }

@@ -108,6 +108,12 @@ pub(crate) fn explained_value(
     Ok(Value::Array(values))
 }
 
+/// On which premises a report rests, each with the number of its places.
+pub(crate) fn rests_value(alloc: Global, inert: usize) -> Result<Value, AllocError> {
+    let members = vec![in alloc; ("inert", Field::Number(inert))]?;
+    object(alloc, members)
+}
+
 // The members of a report besides its answer and its faults.
 fn other_members(
     alloc: Global,
@@ -125,6 +131,10 @@ fn other_members(
     if let Some(coverage) = findings.coverage {
         let coverage = coverage_value(alloc, coverage, inputs.rule_text)?;
         put(&mut members, alloc, "coverage", coverage)?;
+    }
+    if let Some(inert) = findings.rests {
+        let rests = rests_value(alloc, inert)?;
+        put(&mut members, alloc, "rests", rests)?;
     }
     if findings.is_strict {
         let hazards = hazards_value(alloc, inputs, findings)?;

@@ -9,7 +9,7 @@ use crate::finding::{Finding, WayStep, fingerprints_value, result_value};
 use crate::gap::file_of;
 use crate::hash::{HashedLine, HashedLines, ProgramLines};
 use crate::hazard::hazard_is_what;
-use crate::json::explained_value;
+use crate::json::{explained_value, rests_value};
 use crate::notice::{Notice, NoticePlace};
 use crate::region::{ROOT, file_value, physical_value};
 use crate::row::{ReportSources, RoutineNumbers};
@@ -291,6 +291,10 @@ fn add_properties(
     if let Some(coverage) = findings.coverage {
         let coverage = coverage_value(alloc, coverage, inputs.rule_text)?;
         properties.push(("coverage", Field::Value(coverage)))?;
+    }
+    if let Some(inert) = findings.rests {
+        let rests = rests_value(alloc, inert)?;
+        properties.push(("rests", Field::Value(rests)))?;
     }
     if properties.is_empty() {
         return Ok(());

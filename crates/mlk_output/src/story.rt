@@ -22,6 +22,8 @@ pub struct Findings<'a> {
     pub behind: &'a ExplainedFaults,
     /// how much the report is about, if that is reported
     pub coverage: Option<&'a Coverage<'a>>,
+    /// on how many words the report rests that are read as any value; `None` if such words are not read
+    pub rests: Option<usize>,
     /// empty unless hazards are reported
     pub hazards: &'a [HazardAt<'a>],
     /// empty unless hazards are reported

@@ -1,17 +1,14 @@
-use Rattle.std.proofs.Common.{ℕ, List, Bor, refl, rules, subst, ap}
+use Rattle.std.proofs.Common.{ℕ, List, Bor, rules, subst, ap}
 use Rattle.mlk_app.specs.Files.{AreSources}
 use Rattle.mlk_app.specs.Ran.{TellsUnread}
-use Rattle.mlk_app.proofs.Saying.{unsurveyed-answers}
+use Rattle.mlk_app.proofs.Saying.{survey-answers, unsurveyed-answers}
 use Rattle.mlk_app.proofs.program.answer_survey.Goals as goal
 
-pub returns-in-Ok-render_survey : goal.returns-in-Ok-render_survey
-returns-in-Ok-render_survey g c = (
-  record {
-    sources = c.in-Ok.sources.items;
-    texts = subst (λ paths. AreSources (g.F.Files.holds c.args.files.now) paths c.in-Ok.sources.items) c.as_slice.ensures.value c.in-Ok.ensures.ok;
-  },
-  refl,
-)
+pub returns-in-Ok : goal.returns-in-Ok
+returns-in-Ok g c =
+    let holds = g.F.Files.holds c.args.files.now in
+    survey-answers holds (g.F.Files.unreadable c.args.files.now) c.args.survey.now c.in-Ok.sources.items c.survey_answer.result
+    (subst (λ paths. AreSources holds paths c.in-Ok.sources.items) c.as_slice.ensures.value c.in-Ok.ensures.ok) c.survey_answer.ensures
 
 pub returns : goal.returns
 returns g c =

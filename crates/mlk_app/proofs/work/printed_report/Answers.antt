@@ -10,8 +10,9 @@ pub returns : goal.returns
 returns c =
     let printed = c.in_ok-printed.printed in
     let comparison = c.args.explanations.now.comparison in
+    let rests = c.args.explanations.now.rests in
     let trees = map routine_of c.args.explanations.now.grounds.now.program.now in
     let style = style_in c.args.request.now.asked in
     let rows = c.args.report.now in
-    let in_style = subst (λ s. IsRendered s comparison trees rows printed.text printed.passes) c.style_in-style.ensures c.in_ok-printed.ensures in
-    report-printed style comparison trees rows printed.text printed.passes c.status_in-status.result in_style (c.status_in-status.ensures ∙ ap (λ s. status_in s printed.passes) c.style_in-style.ensures)
+    let in_style = subst (λ s. IsRendered s rests comparison trees rows printed.text printed.passes) c.style_in-style.ensures c.in_ok-printed.ensures in
+    report-printed style rests comparison trees rows printed.text printed.passes c.status_in-status.result in_style (c.status_in-status.ensures ∙ ap (λ s. status_in s printed.passes) c.style_in-style.ensures)

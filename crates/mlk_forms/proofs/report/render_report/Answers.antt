@@ -5,7 +5,7 @@ use Rattle.mlk_coverage.specs.declared.gap.Gap.{Gap}
 use Rattle.mlk_hazards.specs.declared.hazard.HazardAt.{HazardAt}
 use Rattle.mlk_walk.specs.declared.report.Row.{Row}
 use Rattle.mlk_output.specs.Documents.{known_in}
-use Rattle.mlk_forms.specs.Rendering.{IsReportAs, passes, printed_rows}
+use Rattle.mlk_forms.specs.Rendering.{AreBelow, IsReportAs, passes, printed_rows, rests_line}
 use Rattle.mlk_forms.proofs.report.render_report.Goals as goal
 
 pub returns : goal.returns
@@ -16,22 +16,22 @@ returns c =
     let same = c.as_slice-printed.ensures.value ∙ c.in_ok-rows.ensures in
     let shown = c.new-shown.result in
     let known-is = c.new-shown.ensures.1 ∙ c.known_in-known.ensures in
-    let gone-is = c.new-shown.ensures.2 ∙ c.as_slice-below.ensures.value in
+    let below-is = c.new-shown.ensures.2 ∙ c.as_slice-below.ensures.value in
     let hazards = c.in_ok-hazards.hazards.items in
     let gaps = c.in_ok-gaps.gaps.items in
     let text = c.in_ok-text.text in
-    let one = subst (λ (rows : List Row). IsReportAs c.args.style trees rows shown.known shown.gone.now c.as_slice-reported.result.now c.as_slice-found.result.now text) (c.new-shown.ensures.0 ∙ same) c.in_ok-text.ensures in
-    let two = subst (λ (known : ℕ). IsReportAs c.args.style trees rows known shown.gone.now c.as_slice-reported.result.now c.as_slice-found.result.now text) known-is one in
-    let three = subst (λ (gone : List ℕ). IsReportAs c.args.style trees rows (known_in comparison) gone c.as_slice-reported.result.now c.as_slice-found.result.now text) gone-is two in
-    let four = subst (λ (hazards : List HazardAt). IsReportAs c.args.style trees rows (known_in comparison) c.in_ok-gone.gone.items hazards c.as_slice-found.result.now text) c.as_slice-reported.ensures.value three in
+    let one = subst (λ (rows : List Row). IsReportAs c.args.style trees rows shown.known shown.below.now c.as_slice-reported.result.now c.as_slice-found.result.now text) (c.new-shown.ensures.0 ∙ same) c.in_ok-text.ensures in
+    let two = subst (λ (known : ℕ). IsReportAs c.args.style trees rows known shown.below.now c.as_slice-reported.result.now c.as_slice-found.result.now text) known-is one in
+    let three = subst (λ (below : List ℕ). IsReportAs c.args.style trees rows (known_in comparison) below c.as_slice-reported.result.now c.as_slice-found.result.now text) below-is two in
+    let four = subst (λ (hazards : List HazardAt). IsReportAs c.args.style trees rows (known_in comparison) c.in_ok-lines.lines.items hazards c.as_slice-found.result.now text) c.as_slice-reported.ensures.value three in
     record {
       hazards = hazards;
       gaps = gaps;
-      gone = c.in_ok-gone.gone.items;
+      below = c.in_ok-lines.lines.items;
       reported = c.in_ok-hazards.ensures;
       found = c.in_ok-gaps.ensures;
-      below = c.in_ok-gone.ensures;
-      printed = subst (λ (gaps : List Gap). IsReportAs c.args.style trees rows (known_in comparison) c.in_ok-gone.gone.items hazards gaps text) c.as_slice-found.ensures.value four;
+      lines = subst (λ (rows : List Row). AreBelow comparison (rests_line rows c.args.explanations.now.rests) c.in_ok-lines.lines.items) same c.in_ok-lines.ensures;
+      printed = subst (λ (gaps : List Gap). IsReportAs c.args.style trees rows (known_in comparison) c.in_ok-lines.lines.items hazards gaps text) c.as_slice-found.ensures.value four;
       ended = c.passes-passes.ensures ∙ ap (λ (rows : List Row). passes rows c.as_slice-reported.result.now c.as_slice-found.result.now) same
           ∙ ap (λ (hazards : List HazardAt). passes rows hazards c.as_slice-found.result.now) c.as_slice-reported.ensures.value
           ∙ ap (λ (gaps : List Gap). passes rows hazards gaps) c.as_slice-found.ensures.value;

@@ -1,0 +1,69 @@
+// Texts of routines beyond the subset, as they are read.
+
+ghost use Rattle.std.specs.Prelude.{◌≡◌, ◌+◌, ◌++◌, [], ◌∷◌, min, length, IfOk, OnOk};
+ghost use Rattle.clap.specs.Lexer.{usize_max};
+ghost use Rattle.mlk_app.specs.Dialects.{IsPlain, ArePlain, ArePlainIn, inert_of};
+
+use mlk_cli::Dialect;
+use mlk_dialect::plain_text;
+use mlk_pool::Source;
+use std::alloc::{AllocError, Global};
+
+/// Routines with their plain texts.
+#[derive(Drop)]
+pub(crate) struct PlainSources<'a> {
+    pub(crate) sources: Vec<Source<'a>>,
+    /// How many of their words are read as any value, on the premise that they touch no data and no lock.
+    pub(crate) inert: usize,
+}
+
+// The routines with their plain texts, in their order.
+fn plain_sources<'a>(
+    alloc: Global,
+    sources: &[Source<'a>],
+) -> Result<PlainSources<'a>, AllocError>
+    ensures sources { IfOk result (λ p. ArePlain sources.now p.sources.items) }
+    ensures inert { IfOk result (λ p. p.inert ≡ min (inert_of sources.now) usize_max) }
+{
+    let mut plain = Vec::with_capacity(alloc, sources.len())?;
+    let mut inert: usize = 0;
+    for source in sources {
+        let read = plain_text(alloc, source.text.as_slice())?;
+        let stem = source.stem;
+        let text = read.text;
+        inert = inert.saturating_add(read.inert);
+        let Ok(()) = plain.push(Source { stem, text }) else {
+            return Err(AllocError);
+        };
+    }
+    Ok(PlainSources {
+        sources: plain,
+        inert,
+    })
+}
+
+/// The plain texts of `sources`, if they are what is read in `dialect`; `None` if the routines are read by their own.
+pub(crate) fn plain_in<'a>(
+    alloc: Global,
+    dialect: Dialect,
+    sources: &[Source<'a>],
+) -> Result<Option<PlainSources<'a>>, AllocError>
+    ensures { IfOk result (ArePlainIn dialect sources.now) }
+{
+    match dialect {
+        Dialect::Standard => Ok(None),
+        Dialect::Extended => Ok(Some(plain_sources(alloc, sources)?)),
+    }
+}
+
+/// The `sources` as they are read in `dialect`.
+pub(crate) fn read_in<'a>(
+    alloc: Global,
+    dialect: Dialect,
+    sources: Vec<Source<'a>>,
+) -> Result<Vec<Source<'a>>, AllocError> {
+    match plain_in(alloc, dialect, sources.as_slice())? {
+        Some(plain) => Ok(plain.sources),
+        None => Ok(sources),
+    }
+}
