@@ -2,7 +2,6 @@
 use Rattle.std.proofs.Common.{◌≡◌, ◌∙◌, ℕ, ◌<◌, ◌≤◌, ◌+◌, ◌++◌, List, [], ◌∷◌, length, drop, slice_index_or, sym, ap, subst, append_assoc, append-nil, arith}
 use Rattle.std.specs.Prelude.{min}
 use Rattle.std.proofs.lemmas.List.{drop_all, drop_more}
-use Rattle.clap.specs.Lexer.{usize_max}
 use Rattle.mlk_pool.specs.declared.source.Source.{Source}
 use Rattle.mlk_dialect.specs.Plain.{inert}
 use Rattle.mlk_app.specs.Dialects.{IsPlain, ArePlain, inert_of}
@@ -19,15 +18,15 @@ plain-all sources i done past before = subst (ArePlain sources) (append-nil done
 add-capped : (a b n m : ℕ) → min (a + b) n ≡ m → min (min a n + b) n ≡ m
 add-capped a b n m is = omega (arith, is)
 
-pub inert-more : (sources : List Source) (i : ℕ) (d : Source) (count longer : ℕ) → i < length sources → longer ≡ min (count + inert (slice_index_or sources i d).text.items) usize_max
-    → min (count + inert_of (drop i sources)) usize_max ≡ min (inert_of sources) usize_max → min (longer + inert_of (drop (i + 1) sources)) usize_max ≡ min (inert_of sources) usize_max
+pub inert-more : (sources : List Source) (i : ℕ) (d : Source) (count longer : ℕ) → i < length sources → longer ≡ min (count + inert (slice_index_or sources i d).text.items) 18446744073709551615
+    → min (count + inert_of (drop i sources)) 18446744073709551615 ≡ min (inert_of sources) 18446744073709551615 → min (longer + inert_of (drop (i + 1) sources)) 18446744073709551615 ≡ min (inert_of sources) 18446744073709551615
 inert-more sources i d count longer less is before =
     let here = inert (slice_index_or sources i d).text.items in
     let left = inert_of (drop (i + 1) sources) in
     let whole = ap inert_of (drop_more sources i d less) in
-    ap (λ n. min (n + left) usize_max) is ∙ add-capped (count + here) left usize_max (min (inert_of sources) usize_max) (omega (arith, before, whole))
+    ap (λ n. min (n + left) 18446744073709551615) is ∙ add-capped (count + here) left 18446744073709551615 (min (inert_of sources) 18446744073709551615) (omega (arith, before, whole))
 
-pub inert-all : (sources : List Source) (i count : ℕ) → length sources ≤ i → min (count + inert_of (drop i sources)) usize_max ≡ min (inert_of sources) usize_max → count ≤ usize_max → count ≡ min (inert_of sources) usize_max
+pub inert-all : (sources : List Source) (i count : ℕ) → length sources ≤ i → min (count + inert_of (drop i sources)) 18446744073709551615 ≡ min (inert_of sources) 18446744073709551615 → count ≤ 18446744073709551615 → count ≡ min (inert_of sources) 18446744073709551615
 inert-all sources i count past before fits =
     let none = ap inert_of (drop_all i sources past) in
     omega (arith, before, none, fits)

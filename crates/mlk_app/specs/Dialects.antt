@@ -1,7 +1,6 @@
 -- The texts of routines as they are read, by how much of M is read. This project's own choice.
 use Rattle.std.specs.Prelude.{ℕ, ◌≡◌, ◌+◌, min, List, [], ◌∷◌, Option, None, Some, option_map, Vec}
 use Rattle.std.specs.Global.{Global}
-use Rattle.clap.specs.Lexer.{usize_max}
 use Rattle.mlk_cli.specs.declared.words.Dialect.{Dialect}
 use Rattle.mlk_cli.specs.declared.words.Dialect.TheVariants as dialect
 use Rattle.mlk_pool.specs.declared.source.Source.{Source}
@@ -30,7 +29,7 @@ inert_of (source ∷ sources) = inert source.text.items + inert_of sources
 abbrev pub ArePlainIn : Dialect → List Source → Option PlainSources → Type 0
 ArePlainIn dialect.Standard sources plain = plain ≡ None
 ArePlainIn dialect.Extended sources None = ⊥
-ArePlainIn dialect.Extended sources (Some plain) = ArePlain sources plain.sources.items × (plain.inert ≡ min (inert_of sources) usize_max)
+ArePlainIn dialect.Extended sources (Some plain) = ArePlain sources plain.sources.items × (plain.inert ≡ min (inert_of sources) 18446744073709551615)
 
 -- the routines as they are read
 abbrev pub plain_or : List Source → Option PlainSources → List Source

@@ -1,7 +1,6 @@
 // Texts of routines beyond the subset, as they are read.
 
 ghost use Rattle.std.specs.Prelude.{◌≡◌, ◌+◌, ◌++◌, [], ◌∷◌, min, length, IfOk, OnOk};
-ghost use Rattle.clap.specs.Lexer.{usize_max};
 ghost use Rattle.mlk_app.specs.Dialects.{IsPlain, ArePlain, ArePlainIn, inert_of};
 
 use mlk_cli::Dialect;
@@ -23,7 +22,7 @@ fn plain_sources<'a>(
     sources: &[Source<'a>],
 ) -> Result<PlainSources<'a>, AllocError>
     ensures sources { IfOk result (λ p. ArePlain sources.now p.sources.items) }
-    ensures inert { IfOk result (λ p. p.inert ≡ min (inert_of sources.now) usize_max) }
+    ensures inert { IfOk result (λ p. p.inert ≡ min (inert_of sources.now) 18446744073709551615) }
 {
     let mut plain = Vec::with_capacity(alloc, sources.len())?;
     let mut inert: usize = 0;

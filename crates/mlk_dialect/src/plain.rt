@@ -135,6 +135,7 @@ impl Reading {
 }
 
 /// The plain text of `text`. Its only error is that memory runs out.
+#[tactic(auto, unfolding(crate::specs::Plain::plain_from, crate::specs::Plain::inert_from))]
 pub fn plain_text(alloc: Global, text: &[u8]) -> Result<PlainText, AllocError>
     ensures text { IfOk result (λ p. p.text.items ≡ plain text.now) }
     ensures inert { IfOk result (λ p. p.inert ≡ inert text.now) }

@@ -1,6 +1,5 @@
 use Rattle.std.proofs.Common.{◌≡◌, ◌+◌, ◌++◌, ◌≤◌, List, drop}
 use Rattle.std.specs.Prelude.{min}
-use Rattle.clap.specs.Lexer.{usize_max}
 use Rattle.mlk_pool.specs.declared.source.Source.{Source}
 use Rattle.mlk_app.specs.Dialects.{ArePlain, inert_of}
 use Rattle.mlk_app.proofs.dialect.plain_sources.Given as goal
@@ -8,6 +7,6 @@ use Rattle.mlk_app.proofs.dialect.plain_sources.Given as goal
 abbrev pub invariant-loop-source : goal.invariant-loop-source
 invariant-loop-source l = record {
   plain : (more : List Source) → ArePlain (drop l.source-index l.sources) more → ArePlain l.sources (l.plain.items ++ more);
-  inert : min (l.inert + inert_of (drop l.source-index l.sources)) usize_max ≡ min (inert_of l.sources) usize_max;
-  fits : l.inert ≤ usize_max;
+  inert : min (l.inert + inert_of (drop l.source-index l.sources)) 18446744073709551615 ≡ min (inert_of l.sources) 18446744073709551615;
+  fits : l.inert ≤ 18446744073709551615;
 }
