@@ -1,10 +1,11 @@
 // Texts of routines beyond the subset, as they are read.
 
 ghost use Rattle.std.specs.Prelude.{◌≡◌, ◌+◌, ◌++◌, [], ◌∷◌, min, length, IfOk, OnOk};
+ghost use Rattle.mlk_dialect.specs.Plain.{inert};
 ghost use Rattle.mlk_app.specs.Dialects.{IsPlain, ArePlain, ArePlainIn, inert_of};
 
 use mlk_cli::Dialect;
-use mlk_dialect::plain_text;
+use mlk_dialect::{PlainText, plain_text};
 use mlk_pool::Source;
 use std::alloc::{AllocError, Global};
 
@@ -14,6 +15,25 @@ pub(crate) struct PlainSources<'a> {
     pub(crate) sources: Vec<Source<'a>>,
     /// How many of their words are read as any value, on the premise that they touch no data and no lock.
     pub(crate) inert: usize,
+}
+
+// A routine with its plain text, and how many of its words are read as any value.
+#[derive(Drop)]
+struct PlainSource<'a> {
+    source: Source<'a>,
+    inert: usize,
+}
+
+fn plain_source<'a>(alloc: Global, source: &Source<'a>) -> Result<PlainSource<'a>, AllocError>
+    ensures plain { IfOk result (λ p. IsPlain source.now p.source) }
+    ensures inert { IfOk result (λ p. p.inert ≡ inert source.now.text.items) }
+{
+    let PlainText { text, inert } = plain_text(alloc, source.text.as_slice())?;
+    let stem = source.stem;
+    Ok(PlainSource {
+        source: Source { stem, text },
+        inert,
+    })
 }
 
 // The routines with their plain texts, in their order.
@@ -27,11 +47,9 @@ fn plain_sources<'a>(
     let mut plain = Vec::with_capacity(alloc, sources.len())?;
     let mut inert: usize = 0;
     for source in sources {
-        let read = plain_text(alloc, source.text.as_slice())?;
-        let stem = source.stem;
-        let text = read.text;
+        let read = plain_source(alloc, source)?;
         inert = inert.saturating_add(read.inert);
-        let Ok(()) = plain.push(Source { stem, text }) else {
+        let Ok(()) = plain.push(read.source) else {
             return Err(AllocError);
         };
     }

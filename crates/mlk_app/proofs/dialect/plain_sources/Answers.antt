@@ -4,7 +4,7 @@ use Rattle.mlk_app.proofs.dialect.plain_sources.Goals as goal
 
 pub loop-source-preserved : goal.loop-source-preserved
 loop-source-preserved c = record {
-  plain = plain-more c.args.sources.now c.loop-source.source-index _ _ c.loop-source.plain.items c.push.new.self.items c.loop-source-test.true (grind rules) (grind rules) c.loop-source.invariant.plain;
+  plain = plain-more c.args.sources.now c.loop-source.source-index _ c.in_ok-read.read.source c.loop-source.plain.items c.push.new.self.items c.loop-source-test.true (grind rules) c.in_ok-read.ensures.plain c.loop-source.invariant.plain;
   inert = inert-more c.args.sources.now c.loop-source.source-index _ c.loop-source.inert _ c.loop-source-test.true (grind rules) c.loop-source.invariant.inert;
   fits = grind rules;
 }

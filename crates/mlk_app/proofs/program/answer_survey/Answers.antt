@@ -10,7 +10,7 @@ returns-in-Ok g c =
     survey-answers holds (g.F.Files.unreadable c.args.files.now) c.args.survey.now c.in-Ok.sources.items c.survey_answer.result
     (subst (λ paths. AreSources holds paths c.in-Ok.sources.items) c.as_slice.ensures.value c.in-Ok.ensures.ok) c.survey_answer.ensures
 
-pub returns : goal.returns
-returns g c =
+pub returns-in-Err-Unread : goal.returns-in-Err-Unread
+returns-in-Err-Unread g c =
     unsurveyed-answers (g.F.Files.holds c.args.files.now) (g.F.Files.unreadable c.args.files.now) c.args.survey.now c.in-Err-Unread.path c.unread_answer.result (grind rules)
     (subst (λ (text : List ℕ). TellsUnread text c.unread_answer.result) (ap (λ (p : Bor (List ℕ)). p.now) c.in-Err-Unread.path-is) c.unread_answer.ensures)

@@ -1,6 +1,5 @@
-use Rattle.std.proofs.Common.{subst, ap}
+use Rattle.std.proofs.Common.{ap}
 use Rattle.mlk_app.specs.Files.{given_path}
-use Rattle.mlk_app.specs.Ran.{SuggestsFor}
 use Rattle.mlk_app.proofs.Suggesting.{suggestion-answers}
 use Rattle.mlk_app.proofs.suggestion.answer_suggestion.Goals as goal
 
@@ -11,5 +10,4 @@ pub returns-in-None : goal.returns-in-None
 returns-in-None g c =
     let holds = g.F.Files.holds c.args.files.now in
     let unreadable = g.F.Files.unreadable c.args.files.now in
-    let answered = subst (λ paths. SuggestsFor holds unreadable paths c.suggest_for.result) c.as_slice.ensures.value c.suggest_for.ensures in
-    suggestion-answers holds unreadable c.args.suggestion.now c.suggest_for.result (ap given_path c.in-None.is) answered
+    suggestion-answers holds unreadable c.args.suggestion.now c.suggest_for.result (ap given_path c.in-None.is) c.suggest_for.ensures
