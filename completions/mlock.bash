@@ -12,13 +12,20 @@ _mlock() {
     fi
     case ${COMP_WORDS[1]}:$before in
         help:*) words="check make verify replay convert survey suggest stubs explain" ;;
+        check:--dialect) words="standard extended" ;;
         check:--workers) words="" ;;
         check:--output) words="text json sarif lines" ;;
+        make:--dialect) words="standard extended" ;;
         make:--format) words="1 2" ;;
+        verify:--dialect) words="standard extended" ;;
         verify:--workers) words="" ;;
         verify:--output) words="text json sarif lines" ;;
+        replay:--dialect) words="standard extended" ;;
         convert:--format) words="1 2" ;;
+        survey:--dialect) words="standard extended" ;;
         survey:--output) words="text json" ;;
+        suggest:--dialect) words="standard extended" ;;
+        stubs:--dialect) words="standard extended" ;;
         stubs:--for) words="" ;;
         *)
             if [[ $word != -* ]]; then
@@ -29,14 +36,14 @@ _mlock() {
     esac
     if [[ $word == -* ]]; then
         case ${COMP_WORDS[1]} in
-            check) words="--files-from --workers --output --strict --explain --quiet --exit-zero --baseline --write-baseline --help" ;;
-            make) words="--files-from --format --help" ;;
-            verify) words="--files-from --workers --output --strict --explain --quiet --exit-zero --baseline --write-baseline --help" ;;
-            replay) words="--files-from --help" ;;
+            check) words="--files-from --dialect --workers --output --strict --explain --quiet --exit-zero --baseline --write-baseline --help" ;;
+            make) words="--files-from --dialect --format --help" ;;
+            verify) words="--files-from --dialect --workers --output --strict --explain --quiet --exit-zero --baseline --write-baseline --help" ;;
+            replay) words="--files-from --dialect --help" ;;
             convert) words="--format --help" ;;
-            survey) words="--files-from --output --help" ;;
-            suggest) words="--files-from --beside --stubs --help" ;;
-            stubs) words="--files-from --for --help" ;;
+            survey) words="--files-from --dialect --output --help" ;;
+            suggest) words="--files-from --dialect --beside --stubs --help" ;;
+            stubs) words="--files-from --dialect --for --help" ;;
             explain) words="--help" ;;
         esac
     fi
