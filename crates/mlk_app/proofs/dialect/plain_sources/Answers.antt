@@ -10,10 +10,10 @@ pub loop-source-preserved : goal.loop-source-preserved
 loop-source-preserved c =
     let read = subst (λ s. IsPlain s c.in_ok-read.read.source) c.source-item.is c.in_ok-read.ensures.plain in
     let here = c.in_ok-read.ensures.inert ∙ ap (λ (s : Source). inert s.text.items) c.source-item.is in
-    let more = c.saturating_add.ensures ∙ ap (λ n. min (c.loop-source.inert + n) 18446744073709551615) here in
+    let more = c.saturating_add-inert.ensures ∙ ap (λ n. min (c.loop-source.inert + n) 18446744073709551615) here in
     record {
       plain = plain-more c.args.sources.now c.loop-source.source-index _ c.in_ok-read.read.source c.loop-source.plain.items c.push.new.self.items c.loop-source-test.true (grind rules) read c.loop-source.invariant.plain;
-      inert = inert-more c.args.sources.now c.loop-source.source-index _ c.loop-source.inert c.saturating_add.result c.loop-source-test.true more c.loop-source.invariant.inert;
+      inert = inert-more c.args.sources.now c.loop-source.source-index _ c.loop-source.inert c.saturating_add-inert.result c.loop-source-test.true more c.loop-source.invariant.inert;
       fits = grind rules;
     }
 
