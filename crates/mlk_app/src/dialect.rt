@@ -37,10 +37,7 @@ fn plain_source<'a>(alloc: Global, source: &Source<'a>) -> Result<PlainSource<'a
 }
 
 // The routines with their plain texts, in their order.
-fn plain_sources<'a>(
-    alloc: Global,
-    sources: &[Source<'a>],
-) -> Result<PlainSources<'a>, AllocError>
+fn plain_sources<'a>(alloc: Global, sources: &[Source<'a>]) -> Result<PlainSources<'a>, AllocError>
     ensures sources { IfOk result (λ p. ArePlain sources.now p.sources.items) }
     ensures inert { IfOk result (λ p. p.inert ≡ min (inert_of sources.now) 18446744073709551615) }
 {

@@ -67,10 +67,10 @@ abbrev pub named_word : List ℕ → List ℕ → Option Word
 named_word name [] = if is_variable name then Some (word.Value (suc (length name))) else None
 named_word name (b ∷ xs) =
     if b == 40 then
-        (if is_text_name name then text_call (length name) xs
-         else if is_function name then Some (word.Function (suc (suc (length name))))
-         else if is_zdata name then Some word.Data
-         else None)
+    (if is_text_name name then text_call (length name) xs
+    else if is_function name then Some (word.Function (suc (suc (length name))))
+    else if is_zdata name then Some word.Data
+    else None)
     else if is_variable name && may_end (b ∷ xs) then Some (word.Value (suc (length name)))
     else None
 

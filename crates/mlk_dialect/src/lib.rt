@@ -7,4 +7,3 @@ mod tables;
 mod word;
 
 pub use plain::{PlainText, plain_text};
-

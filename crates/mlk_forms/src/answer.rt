@@ -53,10 +53,7 @@ fn push_gone(text: &mut Vec<u8>, gone: &GoneFault<'_>) -> Result<(), AllocError>
 }
 
 // The lines of the known faults that do not occur, or not as often as they are known.
-fn gone_lines(
-    alloc: Global,
-    comparison: Option<&Comparison<'_>>,
-) -> Result<Vec<u8>, AllocError>
+fn gone_lines(alloc: Global, comparison: Option<&Comparison<'_>>) -> Result<Vec<u8>, AllocError>
     ensures { IfOk result (λ gone. AreGone comparison.entry gone.items) }
 {
     let mut text = Vec::new(alloc);

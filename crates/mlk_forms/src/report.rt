@@ -293,12 +293,7 @@ pub fn render_report(
     };
     let rows = printed_rows(alloc, report, explanations.comparison)?;
     let printed = rows.as_slice();
-    let lines = lines_below(
-        alloc,
-        explanations.comparison,
-        printed,
-        explanations.rests,
-    )?;
+    let lines = lines_below(alloc, explanations.comparison, printed, explanations.rests)?;
     let below = lines.as_slice();
     let known = known_in(explanations.comparison);
     let shown = Shown::new(report, printed, known, below);
