@@ -8,9 +8,10 @@ ghost use Rattle.mlk_machine_jobs.specs.JobViews.{job_of, KeepsPending};
 ghost use Rattle.mlk_machine_jobs.specs.Sound.{Sound};
 
 use crate::ask::{nothing_asked, or_refused};
+use mlk_machine_assignments::global_touch;
+use mlk_machine_expressions::add;
 use mlk_machine_jobs::{Choice, Job, Task, ValueTask, asked_value};
 use mlk_machine_locks::Refusal;
-use mlk_machine_tasks::{add, global_touch};
 use mlk_names::{Access, Extent};
 use mlk_text::{Failure, Name};
 use std::alloc::Global;

@@ -8,9 +8,9 @@ ghost use Rattle.mlk_machine_jobs.specs.Lines.{command_parts};
 ghost use Rattle.mlk_machine_jobs.specs.TaskViews.{Adds, block_of};
 ghost use Rattle.mlk_machine_tasks.specs.ArgumentViews.{do_all, if_all, kill_all, lock_all, new_all, quit_parts};
 
-use crate::adding::add;
 use crate::command::{block_parts, evaluate_and_drop, if_parts};
 use crate::part::{add_arguments, record_done};
+use mlk_machine_expressions::add;
 use mlk_machine_jobs::{LineTask, LocalTask, LockTask, Names, Task, TestTask, ValueTask};
 use mlk_syntax::{
     Action, Call, Command, DoArgument, Expr, KillArgument, Line, LockArgument, MergeArgument,

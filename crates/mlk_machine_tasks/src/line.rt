@@ -9,7 +9,7 @@ ghost use Rattle.mlk_machine_jobs.specs.Calling.{formals_in, commands_in};
 ghost use Rattle.mlk_machine_jobs.specs.TaskViews.{Adds, block_of, for_of, commands_left};
 
 use crate::action::command_parts;
-use crate::adding::add;
+use mlk_machine_expressions::add;
 use mlk_machine_jobs::{LineTask, Rest, Task};
 use mlk_syntax::{Commands, For, Line};
 use mlk_text::Name;
@@ -58,7 +58,7 @@ fn for_parts<'a>(parts: &mut Vec<Task<'a>>, last: &'a For, line: &'a Line) -> Re
 }
 
 // The end of commands: the FOR, if there is one.
-#[tactic(auto, using(crate::proofs::PartLemmas::adds_none))]
+#[tactic(auto, using(mlk_machine_expressions::proofs::Additions::adds_none))]
 fn last_parts<'a>(
     parts: &mut Vec<Task<'a>>,
     last: Option<&'a For>,

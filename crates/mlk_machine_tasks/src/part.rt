@@ -6,9 +6,9 @@ ghost use Rattle.mlk_machine_jobs.specs.Commands.{in_turn, in_variable, job_part
 ghost use Rattle.mlk_machine_jobs.specs.Tasks.{NextArgument};
 ghost use Rattle.mlk_machine_jobs.specs.TaskViews.{Adds};
 
-use crate::adding::add;
 use crate::command::in_variable;
 use crate::{argument, target};
+use mlk_machine_expressions::add;
 use mlk_machine_jobs::{LineTask, Task};
 use mlk_syntax::{
     Action, Call, DoArgument, KillArgument, LockArgument, MergeArgument, NewArgument, ReadArgument,
