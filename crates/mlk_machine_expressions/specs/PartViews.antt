@@ -6,7 +6,8 @@ use Rattle.mlk_syntax.specs.declared.expr.Subscript.{Subscript}
 use Rattle.mlk_syntax.specs.declared.expr.Callee.{Callee}
 use Rattle.mlk_syntax.specs.declared.expr.Function.{Function}
 use Rattle.mlk_syntax.specs.declared.expr.Function.TheVariants as function
-use Rattle.mlk_syntax.specs.ExprTrees.{Tree, LocalName, GlobalName, PatternText, no_subs, Trees, Subs, Links, ActualTree, trees, trees_from, sub_trees, subs_from, links, links_from, count_subs}
+use Rattle.mlk_syntax.specs.ExprTrees.{Tree, LocalName, GlobalName, PatternText, no_subs, Trees, Subs, Links, ActualTree}
+use Rattle.mlk_syntax.specs.ExprTrees.{trees, trees_from, sub_trees, subs_from, links, links_from, count_subs}
 use Rattle.mlk_syntax.specs.Trees.{VariableTree, Named}
 use Rattle.mlk_machine_expressions.specs.declared.expr.Naming.{Naming}
 use Rattle.mlk_machine_expressions.specs.declared.expr.Naming.TheVariants as naming

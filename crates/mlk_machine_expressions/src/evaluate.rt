@@ -146,7 +146,8 @@ fn extrinsic<'a>(
     callee: &'a Callee,
     actuals: &'a Option<Vec<Actual>>,
 ) -> Result<(), AllocError>
-    ensures { OnOk result (Adds (extrinsic_parts callee.now (option_map (λ v. actual_trees v.items) actuals.now)) parts.old.items parts.new.items) }
+    ensures { OnOk result (Adds (extrinsic_parts callee.now (option_map (λ v. actual_trees v.items) actuals.now))
+        parts.old.items parts.new.items) }
 {
     match actuals {
         None => add(

@@ -1,17 +1,18 @@
 // The tasks of names with subscripts and of functions.
 
 ghost use Rattle.std.specs.Prelude.{◌≡◌, ◌++◌, OnOk, length, option_map};
-ghost use Rattle.mlk_syntax.specs.ExprTrees.{tree_of, actual_trees, count_subs};
+ghost use Rattle.mlk_syntax.specs.ExprTrees.{count_subs};
 ghost use Rattle.mlk_syntax.specs.declared.expr.Function.TheVariants as function;
-ghost use Rattle.mlk_machine_jobs.specs.Expressions.{each_sub, each_tree, count_trees, read_global, read_local, operation, special_parts, unused, of_global, takes_name, function_parts, each_actual, parts_of};
+ghost use Rattle.mlk_machine_jobs.specs.Expressions.{each_sub, each_tree, count_trees, read_global};
+ghost use Rattle.mlk_machine_jobs.specs.Expressions.{read_local, special_parts, unused, of_global};
 ghost use Rattle.mlk_machine_jobs.specs.TaskViews.{Adds};
 ghost use Rattle.mlk_machine_expressions.specs.PartViews.{subs_of, args_of, asked, naming_of, named_function};
 
 use crate::adding::add;
-use mlk_machine_jobs::{Calling, Task, ValueTask};
+use mlk_machine_jobs::{Task, ValueTask};
 use mlk_names::{Access, Extent};
-use mlk_syntax::{Actual, Expr, Function, Special, Subscript};
-use mlk_text::{Name, Op};
+use mlk_syntax::{Expr, Function, Special, Subscript};
+use mlk_text::Name;
 use std::alloc::AllocError;
 
 /// The number of subscripts.
@@ -145,7 +146,8 @@ fn order_parts<'a>(
     subscripts: &'a [Subscript],
     more: &'a [Expr],
 ) -> Result<(), AllocError>
-    ensures { OnOk result (Adds (of_global function.Order name.now (subs_of subscripts.now) (args_of more.now)) parts.old.items parts.new.items) }
+    ensures { OnOk result (Adds (of_global function.Order name.now (subs_of subscripts.now) (args_of more.now))
+        parts.old.items parts.new.items) }
 {
     each_subscript(parts, subscripts)?;
     let count = count_subscripts(subscripts);
@@ -164,7 +166,8 @@ fn query_parts<'a>(
     subscripts: &'a [Subscript],
     more: &'a [Expr],
 ) -> Result<(), AllocError>
-    ensures { OnOk result (Adds (of_global function.Query name.now (subs_of subscripts.now) (args_of more.now)) parts.old.items parts.new.items) }
+    ensures { OnOk result (Adds (of_global function.Query name.now (subs_of subscripts.now) (args_of more.now))
+        parts.old.items parts.new.items) }
 {
     each_subscript(parts, subscripts)?;
     add(
@@ -200,7 +203,8 @@ fn read_parts<'a>(
     extent: Extent,
     more: &'a [Expr],
 ) -> Result<(), AllocError>
-    ensures { OnOk result (Adds (read_global name.now (subs_of subscripts.now) extent ++ unused (args_of more.now)) parts.old.items parts.new.items) }
+    ensures { OnOk result (Adds (read_global name.now (subs_of subscripts.now) extent ++ unused (args_of more.now))
+        parts.old.items parts.new.items) }
 {
     read_global(parts, name, subscripts, extent)?;
     evaluate_and_drop_all(parts, more)?;
@@ -249,7 +253,8 @@ pub(crate) fn of_global<'a>(
     subscripts: &'a [Subscript],
     more: &'a [Expr],
 ) -> Result<(), AllocError>
-    ensures { OnOk result (Adds (of_global (naming_of naming) name.now (subs_of subscripts.now) (args_of more.now)) parts.old.items parts.new.items) }
+    ensures { OnOk result (Adds (of_global (naming_of naming) name.now (subs_of subscripts.now) (args_of more.now))
+        parts.old.items parts.new.items) }
 {
     match naming {
         Naming::Data => read_parts(parts, name, subscripts, Extent::Tree, more),

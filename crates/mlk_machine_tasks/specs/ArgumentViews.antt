@@ -3,9 +3,11 @@ use Rattle.std.specs.Prelude.{ℕ, false, List, [], ◌∷◌, ◌++◌, flat_ma
 use Rattle.mlk_syntax.specs.ExprTrees.{Tree, ActualTree}
 use Rattle.mlk_syntax.specs.Trees.{VariableTree, DoTree, KillTree, LockTree, NewTree, ActionTree, LineTrees}
 use Rattle.mlk_machine_jobs.specs.Bindings.{AllBut}
-use Rattle.mlk_machine_jobs.specs.Tasks.{Task, Evaluate, AskValue, Drop, StoreLast, SkipIf, KillNames, NewNames, ReleaseAll, QuitHere, QuitWithValue}
+use Rattle.mlk_machine_jobs.specs.Tasks.{Task, Evaluate, AskValue, Drop, StoreLast, SkipIf}
+use Rattle.mlk_machine_jobs.specs.Tasks.{KillNames, NewNames, ReleaseAll, QuitHere, QuitWithValue}
 use Rattle.mlk_machine_jobs.specs.Expressions.{each_actual}
-use Rattle.mlk_machine_jobs.specs.Commands.{count_in, evaluated_if, store_last, in_time, block_parts, do_parts, if_parts, kill_parts, lock_parts, new_parts, in_turn}
+use Rattle.mlk_machine_jobs.specs.Commands.{count_in, evaluated_if, store_last, in_time, block_parts}
+use Rattle.mlk_machine_jobs.specs.Commands.{do_parts, if_parts, kill_parts, lock_parts, new_parts, in_turn}
 
 -- the tasks of READ after the evaluation of its length
 abbrev pub read_after : VariableTree → Option Tree → List Task

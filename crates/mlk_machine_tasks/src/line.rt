@@ -64,7 +64,8 @@ fn last_parts<'a>(
     last: Option<&'a For>,
     line: &'a Line,
 ) -> Result<(), AllocError>
-    ensures { OnOk result (Adds (next_command (last_or_none (option_map (λ f. for_of f.now) last.entry)) (line_of line.now) []) parts.old.items parts.new.items) }
+    ensures { OnOk result (Adds (next_command (last_or_none (option_map (λ f. for_of f.now) last.entry)) (line_of line.now) [])
+        parts.old.items parts.new.items) }
 {
     match last {
         None => Ok(()),
@@ -82,7 +83,8 @@ fn block_of(line: &Line) -> &[Line]
 
 /// Adds the next command of the rest of a line, and the rest after it.
 pub fn next_command<'a>(parts: &mut Vec<Task<'a>>, rest: Rest<'a>) -> Result<(), AllocError>
-    ensures { OnOk result (Adds (next_command (commands_left rest.entry) (line_of rest.entry.line.now) []) parts.old.items parts.new.items) }
+    ensures { OnOk result (Adds (next_command (commands_left rest.entry) (line_of rest.entry.line.now) [])
+        parts.old.items parts.new.items) }
 {
     let Some((command, later)) = rest.commands.split_first() else {
         return last_parts(parts, rest.last, rest.line);

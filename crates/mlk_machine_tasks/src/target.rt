@@ -1,7 +1,7 @@
 // The tasks of arguments of JOB, KILL, LOCK and SET.
 
-ghost use Rattle.std.specs.Prelude.{◌≡◌, OnOk, length, flat_map, map};
-ghost use Rattle.mlk_syntax.specs.ExprTrees.{tree_of, trees, actual_trees};
+ghost use Rattle.std.specs.Prelude.{OnOk, flat_map, map};
+ghost use Rattle.mlk_syntax.specs.ExprTrees.{trees};
 ghost use Rattle.mlk_syntax.specs.Views.{variable_of, call_of, kill_of, lock_of, target_of, set_of};
 ghost use Rattle.mlk_machine_jobs.specs.Expressions.{each_actual};
 ghost use Rattle.mlk_machine_jobs.specs.Commands.{in_variable, job_parts, kill_variable, kill_parts, lock_parts, target_parts, set_parts};

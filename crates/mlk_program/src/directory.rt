@@ -2,7 +2,9 @@
 
 ghost use Rattle.std.specs.Prelude.{◌≡◌, IfOk, Some, None, option_map, option_and_then, option_copied, slice_get, map, take, drop, suc};
 ghost use Rattle.mlk_syntax.specs.Views.{line_of};
-ghost use Rattle.mlk_program.specs.Entries.{entry_in, routine_named, target_of, entry_by, line_of_entry, lines_of, line_after, line_named, lines_in, lacks_formals, label_of, text_with, text_of_entry};
+ghost use Rattle.mlk_program.specs.Entries.{entry_in, routine_named, target_of, entry_by};
+ghost use Rattle.mlk_program.specs.Entries.{line_of_entry, lines_of, line_after, line_named, lines_in};
+ghost use Rattle.mlk_program.specs.Entries.{lacks_formals, label_of, text_with, text_of_entry};
 ghost use Rattle.mlk_program.specs.Frames.{part_of};
 ghost use Rattle.mlk_program.specs.Tables.{trees, AreTables, AreLater, first_of, later_lines, later_of};
 

@@ -1,6 +1,7 @@
 // The commands of a line.
 
-ghost use Rattle.std.specs.Prelude.{◌≡◌, ◌<◌, ◌≤◌, ◌==◌, ◌&&◌, ℕ, length, vec_len, vec_capacity, drop, option_map, map, is_some, IfOk, OnOk, true};
+ghost use Rattle.std.specs.Prelude.{◌≡◌, ◌<◌, ◌≤◌, ◌==◌, ◌&&◌, ℕ, length, vec_len, vec_capacity};
+ghost use Rattle.std.specs.Prelude.{drop, option_map, map, is_some, IfOk, OnOk, true};
 ghost use Rattle.mlk_text.specs.Lexemes.{word_at};
 ghost use Rattle.mlk_routine_arguments.specs.Told.{Told};
 ghost use Rattle.mlk_routine_arguments.specs.CommandWords.{is_for};

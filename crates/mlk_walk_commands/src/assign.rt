@@ -9,7 +9,9 @@ ghost use Rattle.mlk_walk_state.specs.declared.state.State.{State};
 ghost use Rattle.mlk_walk_exprs.specs.Spots.{spot_of};
 ghost use Rattle.mlk_walk_exprs.specs.Walks.{Outcome, each};
 ghost use Rattle.mlk_walk_exprs.specs.References.{checked, touch};
-ghost use Rattle.mlk_walk_commands.specs.Arguments.{variable_in, arguments_in, capture_targets, symbols_at, read_part, read_target, write_variable, assign, assign_all, count_targets, set_argument};
+ghost use Rattle.mlk_walk_commands.specs.Arguments.{variable_in, arguments_in, capture_targets};
+ghost use Rattle.mlk_walk_commands.specs.Arguments.{symbols_at, read_part, read_target, write_variable};
+ghost use Rattle.mlk_walk_commands.specs.Arguments.{assign, assign_all, count_targets, set_argument};
 
 use mlk_calls::State;
 use mlk_names::{Access, Extent, Sym};

@@ -6,7 +6,8 @@ ghost use Rattle.mlk_syntax.specs.Views.{variable_of, read_of, merge_of, write_o
 ghost use Rattle.mlk_walk_state.specs.declared.state.State.{State};
 ghost use Rattle.mlk_walk_exprs.specs.Spots.{spot_of};
 ghost use Rattle.mlk_walk_exprs.specs.Walks.{Outcome};
-ghost use Rattle.mlk_walk_commands.specs.Arguments.{in_time_or_not, read_row, read_variable, read_argument, merge_from, merge_argument, write_argument};
+ghost use Rattle.mlk_walk_commands.specs.Arguments.{in_time_or_not, read_row, read_variable, read_argument};
+ghost use Rattle.mlk_walk_commands.specs.Arguments.{merge_from, merge_argument, write_argument};
 
 use crate::kill::Kill;
 use mlk_calls::State;

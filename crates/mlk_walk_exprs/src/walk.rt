@@ -2,7 +2,8 @@
 
 ghost use Rattle.std.specs.Prelude.{◌≡◌, ◌↔◌, IsTrue, ◌∷◌, ◌++◌, [], IfOk, MatchOption, OnOk, map};
 ghost use Rattle.mlk_walk_state.specs.States.{same_state};
-ghost use Rattle.mlk_walk_exprs.specs.Walks.{Goes, Skips, Quits, Refused, add, add_all, put_state, put_states, is_large, too_many, few, joined, with_states};
+ghost use Rattle.mlk_walk_exprs.specs.Walks.{Goes, Skips, Quits, Refused, add, add_all, put_state};
+ghost use Rattle.mlk_walk_exprs.specs.Walks.{put_states, is_large, too_many, few, joined, with_states};
 ghost use Rattle.std.specs.List.{list_any};
 
 use mlk_calls::State;

@@ -1,7 +1,8 @@
 -- The end of a line: a case continues at the next line of its level, or its block ends, or its frame. Standard: line
 -- structure, levels, DO, QUIT; that a job stops before a line with a formal list, and the checks at an end, are this
 -- project's own choice.
-use Rattle.std.specs.Prelude.{ℕ, Bool, not, ◌&&◌, ◌==◌, if◌then◌else◌, List, [], ◌∷◌, ◌++◌, map, filter, fold, Option, Some, None, is_some, option_map, option_copied}
+use Rattle.std.specs.Prelude.{ℕ, Bool, not, ◌&&◌, ◌==◌, if◌then◌else◌, List, [], ◌∷◌, ◌++◌, map}
+use Rattle.std.specs.Prelude.{filter, fold, Option, Some, None, is_some, option_map, option_copied}
 use Rattle.std.specs.List.{list_any}
 use Rattle.mlk_text.specs.declared.code.Code.{Code}
 use Rattle.mlk_text.specs.declared.code.Code.TheVariants.{HeldAtEnd, CaseNotListed, FallsIntoFormals, NameEscapes}

@@ -8,7 +8,8 @@ ghost use Rattle.mlk_walk_state.specs.declared.state.State.{State};
 ghost use Rattle.mlk_walk_state.specs.Cases.{holds_some};
 ghost use Rattle.mlk_walk_exprs.specs.Spots.{spot_of};
 ghost use Rattle.mlk_walk_exprs.specs.Walks.{Outcome, add_all};
-ghost use Rattle.mlk_walk_lines.specs.Commands.{if_row, else_row, halt_row, quit_row, do_calls, if_all, kill_each, lock_each, new_each, act};
+ghost use Rattle.mlk_walk_lines.specs.Commands.{if_row, else_row, halt_row, quit_row, do_calls};
+ghost use Rattle.mlk_walk_lines.specs.Commands.{if_all, kill_each, lock_each, new_each, act};
 ghost use Rattle.mlk_walk_lines.specs.Counting.{counted};
 
 use crate::argument::{walk_arguments, walk_conditions};

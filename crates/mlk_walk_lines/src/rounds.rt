@@ -6,7 +6,8 @@ ghost use Rattle.mlk_walk_state.specs.declared.state.State.{State};
 ghost use Rattle.mlk_walk_exprs.specs.Spots.{spot_of};
 ghost use Rattle.mlk_walk_exprs.specs.Walks.{Outcome, Refused, add_all, each};
 ghost use Rattle.mlk_text.specs.declared.code.Code.TheVariants.{CaseNotListed};
-ghost use Rattle.mlk_walk_lines.specs.Loops.{rounds_of, begin_round, round_or_after, after_round, step_variable, step_again, limited, parameter};
+ghost use Rattle.mlk_walk_lines.specs.Loops.{rounds_of, begin_round, round_or_after, after_round};
+ghost use Rattle.mlk_walk_lines.specs.Loops.{step_variable, step_again, limited, parameter};
 
 use mlk_calls::{State, is_listed};
 use mlk_cert_parts::{Case, NameSet};

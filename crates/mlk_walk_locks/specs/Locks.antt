@@ -1,7 +1,8 @@
 -- LOCK. Standard: LOCK; the order of its parts, and the checks of names and ranks, are this project's own choice: the names are
 -- evaluated, their subscripts are checked, the timeout is evaluated, without a sign all locks are released, and then all names
 -- are claimed at once.
-use Rattle.std.specs.Prelude.{ℕ, ◌+◌, zero, suc, Bool, true, false, if◌then◌else◌, List, [], ◌∷◌, take, drop, fold, Option, Some, None, option_map, option_and_then, Result, Ok, Err}
+use Rattle.std.specs.Prelude.{ℕ, ◌+◌, zero, suc, Bool, true, false, if◌then◌else◌, List, [], ◌∷◌, take}
+use Rattle.std.specs.Prelude.{drop, fold, Option, Some, None, option_map, option_and_then, Result, Ok, Err}
 use Rattle.mlk_text.specs.declared.code.Code.{Code}
 use Rattle.mlk_text.specs.declared.code.Code.TheVariants.{SharedName, UnknownSubscript}
 use Rattle.mlk_text.specs.declared.root.Root.{Root}

@@ -9,7 +9,8 @@ ghost use Rattle.mlk_calls.specs.Claims.{release_all};
 ghost use Rattle.mlk_walk_exprs.specs.Spots.{spot_of};
 ghost use Rattle.mlk_walk_exprs.specs.Walks.{Outcome, add_all};
 ghost use Rattle.mlk_walk_locks.specs.Holding.{held_quickly};
-ghost use Rattle.mlk_walk_locks.specs.Locks.{known_names, is_timed, column_at, granted, claim, claim_after, give_back, by_sign, lock_row, lock_argument, release};
+ghost use Rattle.mlk_walk_locks.specs.Locks.{known_names, is_timed, column_at, granted, claim, claim_after};
+ghost use Rattle.mlk_walk_locks.specs.Locks.{give_back, by_sign, lock_row, lock_argument, release};
 
 use crate::names::{capture_names, names_fault, symbols_of, terms_of, without_names};
 use mlk_calls::{State, claim_unchecked, may_take, release_all, release_one};

@@ -6,7 +6,8 @@ ghost use Rattle.mlk_syntax.specs.Views.{variable_of};
 ghost use Rattle.mlk_walk_state.specs.States.{last_captured, without_last};
 ghost use Rattle.mlk_walk_state.specs.Terms.{all_known};
 ghost use Rattle.mlk_walk_exprs.specs.Spots.{spot_of};
-ghost use Rattle.mlk_walk_locks.specs.Locks.{root_of, capture_names, count_names, unknown_code, subscript_fault, subs_fault, names_fault, term_of, terms_of};
+ghost use Rattle.mlk_walk_locks.specs.Locks.{root_of, capture_names, count_names, unknown_code};
+ghost use Rattle.mlk_walk_locks.specs.Locks.{subscript_fault, subs_fault, names_fault, term_of, terms_of};
 
 use mlk_calls::State;
 use mlk_names::{KnownSym, LockTerm, Sym, TermSubs};
