@@ -11,7 +11,7 @@ use Rattle.mlk_machine_jobs.specs.JobViews.{job_of}
 use Rattle.mlk_machine_jobs.specs.Seen.{State, Ready, Claims, Releases, AsksChoice, Stuck, Silent, Ended, Stopped, state, silent_step, go_on, settled, settled_in, most_silent_steps, behind}
 use Rattle.mlk_machine_jobs.specs.declared.choice.Choice.TheVariants as choice
 use Rattle.mlk_machine_run.specs.Jobs.{IsPlaceOf}
-use Rattle.mlk_machine_run.proofs.SystemLemmas.{job_at, jobs_set}
+use Rattle.mlk_machine_run.proofs.SystemLemmas.{job_at, jobs_set, first_not}
 use Rattle.mlk_machine.specs.Numbers.{numbers_of, AreNumbers}
 use Rattle.std.specs.List.{list_any}
 use Rattle.mlk_machine_locks.specs.Waiting.{is_numbered}
@@ -28,10 +28,6 @@ use Rattle.mlk_machine_locks.specs.Systems.{Machine, number, and_then, changed, 
 use Rattle.mlk_machine_jobs.specs.Runs.{seen}
 use Rattle.mlk_program.proofs.Directories.{position-map}
 use Rattle.mlk_machine.specs.Jobs.{job_numbered}
-
-first_not : {A : Type 0} (o : Option ℕ) → o ≡ Some 0 → o ≡ None → A
-first_not None h k = absurd (cc)
-first_not (Some n) h k = absurd (cc)
 
 none_later : (o : Option ℕ) → option_map suc o ≡ None → o ≡ None
 none_later None h = refl

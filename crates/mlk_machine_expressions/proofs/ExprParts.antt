@@ -1,8 +1,8 @@
 -- The tasks that replace expressions, construct by construct.
-use Rattle.std.proofs.Common.{◌≡◌, true, false, List, [], ◌∷◌, ◌++◌, refl, sym, ap}
+use Rattle.std.proofs.Common.{◌≡◌, true, false, List, [], ◌∷◌, ◌++◌, refl, sym}
 use Rattle.std.proofs.lemmas.Bool.{false≢true}
 use Rattle.mlk_text.specs.declared.operator.Op.{Op}
-use Rattle.mlk_syntax.specs.ExprTrees.{Tree, Lit, Free, LocalName, GlobalName, SpecialName, Prefixed, Chain, PatternText, Func, Selected, BareCall, CallOf, Links, no_links, link, ActualTree, Given, ByRef, Missing, actuals_from, as_list}
+use Rattle.mlk_syntax.specs.ExprTrees.{Tree, Lit, Free, LocalName, GlobalName, SpecialName, Prefixed, Chain, PatternText, Func, Selected, BareCall, CallOf, Links, no_links, link, ActualTree, Given, ByRef, Missing}
 use Rattle.mlk_machine_jobs.specs.Tasks.{Evaluate, ApplyBinary, AskValue}
 use Rattle.mlk_machine_jobs.specs.Expressions.{operation, each_actual}
 use Rattle.mlk_machine_expressions.specs.PartViews.{is_pattern_text}
@@ -56,7 +56,3 @@ pub actual_turn : (a : ActualTree) (given : List ActualTree)
 actual_turn (Given t) given = refl
 actual_turn (ByRef column name) given = refl
 actual_turn Missing given = refl
-
-pub listed : (given : List ActualTree) → as_list (actuals_from given) ≡ given
-listed [] = refl
-listed (a ∷ given) = ap (λ (z : List ActualTree). a ∷ z) (listed given)

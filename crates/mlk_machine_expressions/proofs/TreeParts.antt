@@ -5,32 +5,17 @@ use Rattle.std.proofs.lemmas.Bool.{cases_Bool, false≢true}
 use Rattle.mlk_text.specs.declared.operator.Op.{Op}
 use Rattle.mlk_syntax.specs.declared.expr.Callee.{Callee}
 use Rattle.mlk_syntax.specs.declared.expr.Function.{Function}
-use Rattle.mlk_syntax.specs.declared.expr.Expr.{Expr, fold-roll-Expr}
+use Rattle.mlk_syntax.specs.declared.expr.Expr.{Expr}
 use Rattle.mlk_syntax.specs.declared.expr.Actual.{Actual}
 use Rattle.mlk_syntax.specs.declared.expr.Subscript.{Subscript}
-use Rattle.mlk_syntax.specs.declared.expr.Actual.TheOpen as open'
 use Rattle.mlk_syntax.specs.declared.expr.Expr.TheVariants as rust
-use Rattle.mlk_syntax.specs.declared.expr.Expr.TheVariants.{rolls-Binary, rolls-Select, rolls-Call}
-use Rattle.mlk_syntax.specs.ExprTrees.{Tree, Lit, Free, LocalName, GlobalName, SpecialName, Prefixed, Chain, PatternText, Func, Selected, BareCall, CallOf, Trees, no_trees, tree, ActualTree, choices, choices_from, links, links_from, actual_trees, actual_step, expr_step, subscript_step, tree_of}
-use Rattle.mlk_syntax.proofs.Variants.{tree_local, tree_global, tree_func, tree_call}
+use Rattle.mlk_syntax.specs.ExprTrees.{Tree, Lit, Free, LocalName, GlobalName, SpecialName, Prefixed, Chain, PatternText, Func, Selected, BareCall, CallOf, Trees, no_trees, tree, ActualTree, choices, choices_from, actual_trees, tree_of}
+use Rattle.mlk_syntax.proofs.Variants.{tree_local, tree_global, tree_func, tree_call, tree_binary, tree_select, tree_bare}
+use Rattle.mlk_syntax.proofs.TreeLists.{as_list_same}
 use Rattle.mlk_names.specs.declared.reference.Extent.TheVariants.{Node}
 use Rattle.mlk_machine_jobs.specs.Tasks.{Evaluate, Select, Call}
 use Rattle.mlk_machine_jobs.specs.Expressions.{read_local, read_global, function_parts, of_global, takes_name, operation, each_actual, parts_of}
 use Rattle.mlk_machine_expressions.specs.PartViews.{subs_of, args_of, links_of, called_with, values_with, asked, named_function, is_variable, extrinsic_parts}
-use Rattle.mlk_machine_expressions.proofs.ExprParts.{listed}
-
-pub tree_binary : (b : Box Expr Global) (v : Vec (Op × Expr) Global)
-    → tree_of (rust.Binary b v) ≡ Chain (tree_of b.value) (links_from (links v.items))
-tree_binary b v = ap tree_of (sym (rolls-Binary b v))
-    ∙ fold-roll-Expr ActualTree Tree (ℕ × Tree) actual_step expr_step subscript_step (open'.Binary b v)
-
-pub tree_select : (v : Vec (Expr × Expr) Global) → tree_of (rust.Select v) ≡ Selected (choices_from (choices v.items))
-tree_select v = ap tree_of (sym (rolls-Select v))
-    ∙ fold-roll-Expr ActualTree Tree (ℕ × Tree) actual_step expr_step subscript_step (open'.Select v)
-
-pub tree_bare : (column : ℕ) (callee : Box Callee Global) → tree_of (rust.Call column callee None) ≡ BareCall column callee.value
-tree_bare column callee = ap tree_of (sym (rolls-Call column callee None))
-    ∙ fold-roll-Expr ActualTree Tree (ℕ × Tree) actual_step expr_step subscript_step (open'.Call column callee None)
 
 pub local_parts : (name : List ℕ) (v : Vec Subscript Global)
     → parts_of (tree_of (rust.Local name v)) ≡ read_local name (subs_of v.items)
@@ -60,7 +45,7 @@ pub call_parts : (column : ℕ) (callee : Box Callee Global) (v : Vec Actual Glo
     → parts_of (tree_of (rust.Call column callee (Some v))) ≡ called_with callee.value (actual_trees v.items)
 call_parts column callee v =
     ap parts_of (tree_call column callee v)
-    ∙ ap (λ (given : List ActualTree). each_actual given ++ Call true callee.value given ∷ []) (listed (actual_trees v.items))
+    ∙ ap (λ (given : List ActualTree). each_actual given ++ Call true callee.value given ∷ []) (as_list_same (actual_trees v.items))
 
 pub no_arguments : (f : Function) (b : Bool) → function_parts f b no_trees ≡ values_with no_trees
 no_arguments f true = refl

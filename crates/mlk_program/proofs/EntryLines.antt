@@ -21,7 +21,7 @@ one_more l later n = ap (λ m. take m (l ∷ later)) (more n)
     more : (m : ℕ) → 1 + m ≡ suc m
     more m = omega (arith)
 
-drop-map : (n : ℕ) (lines : List Line) → drop n (map line_of lines) ≡ map line_of (drop n lines)
+pub drop-map : (n : ℕ) (lines : List Line) → drop n (map line_of lines) ≡ map line_of (drop n lines)
 drop-map zero lines = refl
 drop-map (suc n) [] = refl
 drop-map (suc n) (l ∷ lines) = drop-map n lines

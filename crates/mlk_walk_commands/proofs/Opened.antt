@@ -5,6 +5,7 @@ use Rattle.mlk_syntax.specs.declared.expr.Expr.TheVariants as rust
 use Rattle.mlk_syntax.specs.ExprTrees.{tree_of, sub_trees, subs_from, count_subs}
 use Rattle.mlk_syntax.proofs.Variants.{tree_local, tree_global}
 use Rattle.mlk_syntax.specs.Trees.{Named}
+use Rattle.mlk_syntax.proofs.TreeLists.{counted}
 use Rattle.mlk_names.specs.declared.reference.Access.TheVariants.{Reads, Writes}
 use Rattle.mlk_names.specs.declared.reference.Extent.TheVariants as extent
 use Rattle.mlk_walk_state.specs.declared.state.State.{State}
@@ -13,7 +14,6 @@ use Rattle.mlk_walk_exprs.specs.Walks.{Goes}
 use Rattle.mlk_walk_exprs.specs.Spots.{Spot}
 use Rattle.mlk_walk_exprs.specs.References.{touch, touch_last}
 use Rattle.mlk_walk_variables.specs.Variables.{change_local}
-use Rattle.mlk_walk_variables.proofs.Opened.{counted}
 use Rattle.mlk_walk_commands.specs.Arguments.{kill_row, read_row, merge_from, symbols_at, write_variable, read_part}
 
 module _ (name : List ℕ) (v : Vec Subscript Global) where

@@ -181,7 +181,7 @@ struct Write<'a> {
 impl<'a> Transfer for Write<'a> {
     ghost outcomes = { λ r s. write_variable (spot_of r.spot.now) r.from (variable_of r.variable.now) s };
 
-    #[tactic(auto, using(mlk_walk_variables::proofs::Opened::counted, crate::proofs::Opened::local_written, crate::proofs::Opened::global_written))]
+    #[tactic(auto, using(mlk_syntax::proofs::TreeLists::counted, crate::proofs::Opened::local_written, crate::proofs::Opened::global_written))]
     fn make(&self, state: State, walk: &mut Walk) -> Result<(), AllocError> {
         let spot = self.spot;
         match &self.variable.name {

@@ -26,7 +26,7 @@ pub(crate) struct Kill<'a> {
 impl<'a> Transfer for Kill<'a> {
     ghost outcomes = { λ r s. kill_row (spot_of r.spot.now) (variable_of r.variable.now) s };
 
-    #[tactic(auto, using(mlk_walk_variables::proofs::Opened::counted, crate::proofs::Opened::local_killed, crate::proofs::Opened::global_killed))]
+    #[tactic(auto, using(mlk_syntax::proofs::TreeLists::counted, crate::proofs::Opened::local_killed, crate::proofs::Opened::global_killed))]
     fn make(&self, state: State, walk: &mut Walk) -> Result<(), AllocError> {
         let spot = self.spot;
         match &self.variable.name {

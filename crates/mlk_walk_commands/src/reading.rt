@@ -49,7 +49,7 @@ struct Read<'a> {
 impl<'a> Transfer for Read<'a> {
     ghost outcomes = { λ r s. read_row (spot_of r.spot.now) (variable_of r.variable.now) s };
 
-    #[tactic(auto, using(mlk_walk_variables::proofs::Opened::counted, crate::proofs::Opened::local_read))]
+    #[tactic(auto, using(mlk_syntax::proofs::TreeLists::counted, crate::proofs::Opened::local_read))]
     fn make(&self, state: State, walk: &mut Walk) -> Result<(), AllocError> {
         let Expr::Local(name, subscripts) = &self.variable.name else {
             return walk.add_live(state);
@@ -113,7 +113,7 @@ struct ReadTree<'a> {
 impl<'a> Transfer for ReadTree<'a> {
     ghost outcomes = { λ r s. merge_from (spot_of r.spot.now) (variable_of r.variable.now) s };
 
-    #[tactic(auto, using(mlk_walk_variables::proofs::Opened::counted, crate::proofs::Opened::local_merged, crate::proofs::Opened::global_merged))]
+    #[tactic(auto, using(mlk_syntax::proofs::TreeLists::counted, crate::proofs::Opened::local_merged, crate::proofs::Opened::global_merged))]
     fn make(&self, state: State, walk: &mut Walk) -> Result<(), AllocError> {
         match &self.variable.name {
             Expr::Global(column, name, subscripts) => {

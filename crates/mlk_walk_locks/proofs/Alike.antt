@@ -7,9 +7,9 @@ use Rattle.std.proofs.lemmas.Bool.Decides.{nat_tests}
 use Rattle.std.proofs.lemmas.List.Folds.{list_any-append}
 use Rattle.mlk_walk_state.specs.declared.state.State.{State}
 use Rattle.mlk_walk_state.specs.States.{same_state}
-use Rattle.mlk_walk_state.proofs.CaseTests.{same_decides}
 use Rattle.mlk_walk_exprs.specs.declared.walk.Walk.{Walk}
 use Rattle.mlk_walk_exprs.specs.Walks.{Outcome, Goes, Skips, Quits, Refused, put_state, add, add_all, with_states, each, is_large, too_many, overfull, few}
+use Rattle.mlk_walk_exprs.proofs.Gathering.{same_is}
 
 -- one more state is too many if those before it are
 nat_more : (n : ℕ) → nat_lt 16 n ≡ true → nat_lt 16 (suc n) ≡ true
@@ -42,9 +42,6 @@ too_many_more ss s h = ⊎_elim
     one_more (inr e) = let f : list_any is_large ss ≡ true = rw e at h in by_large (ss ++ s ∷ []) (any_more ss s f)
 
 -- a large state, or one that is the same, makes them too many
-same_is : (s t : State) → same_state s t ≡ true → s ≡ t
-same_is s t h = (same_decides.states s t).0 h
-
 among : (ss : List State) (s : State) → is_large s ≡ true → list_any (same_state s) ss ≡ true → list_any is_large ss ≡ true
 among [] s h e = absurd (cc e)
 among (t ∷ ss) s h e = ⊎_elim

@@ -1,15 +1,10 @@
 -- The subscripts of variables, by the kinds of their names.
-use Rattle.std.proofs.Common.{◌≡◌, refl, ap, ℕ, suc, length, List, [], ◌∷◌, Vec, Global}
+use Rattle.std.proofs.Common.{◌≡◌, ap, ℕ, List, Vec, Global}
 use Rattle.mlk_syntax.specs.declared.expr.Subscript.{Subscript}
 use Rattle.mlk_syntax.specs.declared.expr.Expr.TheVariants as rust
-use Rattle.mlk_syntax.specs.ExprTrees.{tree_of, sub_trees, subs_from, count_subs}
+use Rattle.mlk_syntax.specs.ExprTrees.{tree_of, sub_trees, subs_from}
 use Rattle.mlk_syntax.proofs.Variants.{tree_local, tree_global}
 use Rattle.mlk_walk_variables.specs.Variables.{subs_of}
-
--- a slice of subscripts has the length of their trees
-pub counted : (subs : List Subscript) → count_subs (subs_from (sub_trees subs)) ≡ length subs
-counted [] = refl
-counted (s ∷ subs) = ap suc (counted subs)
 
 module _ (name : List ℕ) (v : Vec Subscript Global) where
   pub local_subs : subs_of (tree_of (rust.Local name v)) ≡ subs_from (sub_trees v.items)

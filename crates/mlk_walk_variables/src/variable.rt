@@ -32,7 +32,7 @@ pub fn subscripts_of(variable: &Variable) -> &[Subscript]
 }
 
 /// The number of subscripts of a variable.
-#[tactic(auto, using(crate::proofs::Opened::counted))]
+#[tactic(auto, using(mlk_syntax::proofs::TreeLists::counted))]
 pub fn count_of(variable: &Variable) -> usize
     ensures { result ≡ count_in (variable_of variable.now) }
 {
