@@ -72,13 +72,13 @@ abbrev pub silent_step : List RoutineTree → Job → State → Stepped
 silent_step routines j Silent = advance routines (λ n. true) choice.None j j.tasks
 silent_step routines j s = Err NotEnabled
 
-abbrev pub go_on : (Job → Job × ℕ) → Job → Stepped → Job × ℕ
-go_on more j (Err why) = (j, 0)
-go_on more j (Ok i) = let r = more i in (r.0, suc r.1)
+abbrev pub settled_after : (Job → Job × ℕ) → Job → Stepped → Job × ℕ
+settled_after more j (Err why) = (j, 0)
+settled_after more j (Ok i) = let r = more i in (r.0, suc r.1)
 
 unfoldable pub settled : List RoutineTree → ℕ → Job → Job × ℕ
 settled routines zero j = (j, 0)
-settled routines (suc most) j = go_on (λ i. settled routines most i) j (silent_step routines j (state routines j))
+settled routines (suc most) j = settled_after (λ i. settled routines most i) j (silent_step routines j (state routines j))
 
 abbrev pub most_silent_steps : ℕ
 most_silent_steps = 65536

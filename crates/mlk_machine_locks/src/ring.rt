@@ -111,7 +111,7 @@ fn visit_job(marks: &mut Vec<Mark>, path: &mut Vec<Stop>, stop: Stop) -> Result<
 }
 
 // Takes one step from the last stop of a path, and returns whether that job waits for one on the path, so that there is a ring.
-fn go_on<J: Seen>(
+fn take_step<J: Seen>(
     jobs: &[J],
     table: &LockTable,
     marks: &mut Vec<Mark>,
@@ -170,7 +170,7 @@ fn search<J: Seen>(
     let first = stop_at(jobs, table, start)?;
     visit_job(marks, &mut path, first)?;
     while let Some(stop) = path.pop() {
-        if go_on(jobs, table, marks, &mut path, stop)? {
+        if take_step(jobs, table, marks, &mut path, stop)? {
             return Ok(true);
         }
     }

@@ -17,7 +17,7 @@ use Rattle.mlk_program.specs.Program.{received_at, received_with, of_entry, call
 use Rattle.mlk_syntax.specs.ExprTrees.{ActualTree}
 use Rattle.mlk_syntax.specs.declared.expr.Callee.{Callee}
 use Rattle.mlk_program.specs.Linking.{placed_in}
-use Rattle.mlk_program.specs.Tables.{line_lacks}
+use Rattle.mlk_program.specs.Tables.{line_has_no_formals}
 
 -- a name at a place of a routine
 abbrev pub NameAt : Type 0
@@ -110,7 +110,7 @@ LearnsCalls routines part calls old new = Learns (fillings routines calls) (pass
 -- The number of lines after a part, given the lines that follow one of its lines.
 abbrev pub past_of : List Line → ℕ
 past_of [] = 0
-past_of (l ∷ later) = if line_lacks l then past_of later else suc (length later)
+past_of (l ∷ later) = if line_has_no_formals l then past_of later else suc (length later)
 
 abbrev pub part_at : ℕ → List Line → RoutinePart
 part_at r later = record { routine = r; past = past_of later; left = suc (length later) }

@@ -13,7 +13,7 @@ ghost use Rattle.mlk_program.specs.Frames.{formals_known, filled_at, filled_by_l
 ghost use Rattle.mlk_program.specs.Frames.{Learns, LearnsCalls, fillings, passed_in_lines, passed_from};
 
 use crate::call::CallSite;
-use crate::directory::{Directory, item, lacks_formals};
+use crate::directory::{Directory, has_no_formals, item};
 use crate::entry::EntryId;
 use crate::found::in_commands;
 use crate::part::RoutinePart;
@@ -342,7 +342,7 @@ fn add_lines<'a>(
             left: lines.len() - before.len(),
         };
         add_line(frames, alloc, directory, part, line)?;
-        if !lacks_formals(line) {
+        if !has_no_formals(line) {
             past = part.left;
         }
         left = before;

@@ -45,7 +45,7 @@ pub enum Mend {
 
 /// The locks that were held, and what was known of `$TEST`, where a fault was found.
 #[derive(Drop)]
-pub struct Standing {
+pub struct Situation {
     pub test: Test,
     pub held: Shared<LockTerm>,
 }
@@ -55,7 +55,7 @@ pub struct Standing {
 #[derive(Drop)]
 pub struct Note {
     pub mend: Mend,
-    pub standing: Option<Standing>,
+    pub situation: Option<Situation>,
 }
 
 impl Note {
@@ -63,19 +63,19 @@ impl Note {
     pub fn of(mend: Mend) -> Note {
         Note {
             mend,
-            standing: None,
+            situation: None,
         }
     }
 
     /// A note on a fault that was found in `case`.
     pub fn in_case(mend: Mend, case: &Case) -> Result<Note, AllocError> {
-        let standing = Standing {
+        let situation = Situation {
             test: case.test,
             held: case.held.clone()?,
         };
         Ok(Note {
             mend,
-            standing: Some(standing),
+            situation: Some(situation),
         })
     }
 }

@@ -6,7 +6,7 @@ use Rattle.mlk_machine_locks.specs.declared.ring.Stop.{Stop}
 use Rattle.mlk_machine_locks.specs.Waiting.{waits_as}
 use Rattle.mlk_machine_locks.specs.Searches.{is_new, IsMet, IsNext, Searching, weight}
 use Rattle.mlk_machine_locks.proofs.SearchLemmas.{stop_is, stop_within, left_at, next_there, next_within, on_path_at, new_at, freed, freed_met, followed, followed_met, longer, less_by_new}
-use Rattle.mlk_machine_locks.proofs.ring.go_on.Goals as goal
+use Rattle.mlk_machine_locks.proofs.ring.take_step.Goals as goal
 
 pub next_of-requires-clause-left : goal.next_of-requires-clause-left
 next_of-requires-clause-left g c = left_at (waits_as g.J.Seen.seen) c.args.jobs.now c.args.marks.now.items c.args.stop

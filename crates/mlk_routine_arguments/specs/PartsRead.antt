@@ -23,10 +23,10 @@ Denied Is Ends line at OutOfMemory = Unit {0}
 Denied Is Ends line at (Refused fault) = Nowhere Is Ends line at × IsLineFault line fault
 
 -- What is read is there, and what is refused is not there.
-abbrev pub Told : {X A : Type 0} → (X → A) → Spelled A → (A → List ℕ → Type 0) → List ℕ → ℕ
+abbrev pub ReadsPart : {X A : Type 0} → (X → A) → Spelled A → (A → List ℕ → Type 0) → List ℕ → ℕ
     → Result (X × ℕ) (Failure Fault) → Type 0
-Told view Is Ends line at (Ok r) = Found Is Ends line at (view r.0) r.1
-Told view Is Ends line at (Err e) = Denied Is Ends line at e
+ReadsPart view Is Ends line at (Ok r) = Found Is Ends line at (view r.0) r.1
+ReadsPart view Is Ends line at (Err e) = Denied Is Ends line at e
 
 -- the byte at the front
 abbrev pub first_of : List ℕ → Option ℕ
