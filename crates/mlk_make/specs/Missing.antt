@@ -23,5 +23,6 @@ IsUnspelled (error.GaveUp place) = Unit {0}
 abbrev pub IsUnmade : List RoutineTree → List (List ℕ) → Failure MakeError → Type 0
 IsUnmade routines texts failure.OutOfMemory = Unit {0}
 IsUnmade routines texts (failure.Refused (error.EntryMissing text)) = find (is_missing routines) texts ≡ Some text
-IsUnmade routines texts (failure.Refused (error.TooLong fault)) = (find (is_missing routines) texts ≡ None) × (fault.code ≡ CertLimit) × (fault.line ≡ 1)
+IsUnmade routines texts (failure.Refused (error.TooLong fault)) =
+    (find (is_missing routines) texts ≡ None) × (fault.code ≡ CertLimit) × (fault.line ≡ 1)
 IsUnmade routines texts (failure.Refused (error.GaveUp place)) = find (is_missing routines) texts ≡ None

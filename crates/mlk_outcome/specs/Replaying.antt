@@ -28,7 +28,8 @@ ReportsEntry entry r = (r ≡ no_memory) ⊎ (r ≡ refusal.Check (error.Entry e
 
 -- The first text that names none is reported, unless memory runs out.
 abbrev pub IsUndeclared : List RoutineTree → List (List ℕ) → NoReport → Type 0
-IsUndeclared trees texts r = (r ≡ no_memory) ⊎ ((entry : List ℕ) × (find (is_missing trees) texts ≡ Some entry) × (r ≡ refusal.Check (error.Entry entry)))
+IsUndeclared trees texts r = (r ≡ no_memory)
+    ⊎ ((entry : List ℕ) × (find (is_missing trees) texts ≡ Some entry) × (r ≡ refusal.Check (error.Entry entry)))
 
 -- There is a system after all lines of a file of events, and the text is what is shown of it.
 abbrev pub IsShown : List Routine → List EntryId → List ℕ → List ℕ → Type 0

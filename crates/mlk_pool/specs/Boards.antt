@@ -1,5 +1,6 @@
 -- What every board keeps. This project's own choice.
-use Rattle.std.specs.Prelude.{ℕ, ◌≡◌, ◌+◌, ◌≤◌, ◌<◌, Bool, true, false, List, [], ◌∷◌, Vec, Option, Some, None, length, map, replicate, slice_get, sum_by, vec_capacity, vec_len}
+use Rattle.std.specs.Prelude.{ℕ, ◌≡◌, ◌+◌, ◌≤◌, ◌<◌, Bool, true, false, List, [], ◌∷◌, Vec, Option, Some}
+use Rattle.std.specs.Prelude.{None, length, map, replicate, slice_get, sum_by, vec_capacity, vec_len}
 use Rattle.std.specs.List.{AllZip}
 use Rattle.std.specs.declared.alloc.Global.{Global}
 use Rattle.mlk_program.specs.declared.entry.EntryId.{EntryId}

@@ -66,7 +66,8 @@ fn rows_of_routines<G: Gate + Sync, W: Watch, R: Threads + Wait + Sync>(
     requires { AreFormed (map routine_of routines.now) }
     ensures ok { IfOk result (IsReportOfTrees (map routine_of routines.now) rules_text.now cert_text.now) }
     ensures allowed { IfOk result (λ _. AreAllowed workers) }
-    ensures refused { IfErr result (IsUnreportedOfTrees (G.is_open gate.now) workers (map routine_of routines.now) rules_text.now cert_text.now) }
+    ensures refused { IfErr result (IsUnreportedOfTrees (G.is_open gate.now) workers (map routine_of routines.now)
+        rules_text.now cert_text.now) }
 {
     let program = link(runner.alloc, routines)?;
     let rules = read_rules(runner.alloc, rules_text)?;

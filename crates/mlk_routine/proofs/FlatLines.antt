@@ -9,7 +9,7 @@ use Rattle.mlk_text.specs.declared.fault.Fault.{Fault}
 use Rattle.mlk_text.specs.Failures.{IfRefused}
 use Rattle.mlk_routine.specs.declared.line.Before.{Before}
 use Rattle.mlk_syntax.specs.Trees.{HeadTree, LineHead}
-use Rattle.mlk_routine_arguments.specs.Told.{IsRefusal}
+use Rattle.mlk_routine_arguments.specs.PartsRead.{IsRefusal}
 use Rattle.mlk_routine_arguments.specs.Faults.{IsLineFault}
 use Rattle.mlk_routine.specs.Refusals.{IsOfLine}
 use Rattle.mlk_routine.specs.RoutineGrammar.{AreLines, IsLine, labels_of, level_of, reaches, is_line_byte}

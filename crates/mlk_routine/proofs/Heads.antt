@@ -15,7 +15,7 @@ use Rattle.mlk_syntax.specs.declared.routine.Line.{Line}
 use Rattle.mlk_syntax.specs.declared.routine.Line.TheOpen.{Line-F}
 use Rattle.mlk_syntax.specs.declared.routine.Line.TheViews.{roll-Line}
 use Rattle.mlk_syntax.specs.declared.routine.Line.TheFolds.{fold-roll-Line}
-use Rattle.mlk_routine_arguments.specs.Told.{Found, Nowhere, Denied}
+use Rattle.mlk_routine_arguments.specs.PartsRead.{Found, Nowhere, Denied}
 use Rattle.mlk_routine_arguments.specs.Faults.{IsFaulty}
 use Rattle.mlk_routine.specs.RoutineGrammar.{IsLabelled, IsComment, IsBody, IsLine, is_line_byte}
 use Rattle.mlk_routine.specs.Lines.{IsLabelPart, IsFormalsPart, IsOpening, OpeningEnds, IsFront, FrontEnds, AtEnd, IsTailOf, level_in, IsKept, Fits, FitsAfter, IsLineOnly, NoLine, head_of}

@@ -18,7 +18,7 @@ use Rattle.mlk_expr.specs.Theorem.{Stands}
 use Rattle.mlk_routine_arguments.specs.declared.word.Word.{Word}
 use Rattle.mlk_routine_arguments.specs.declared.word.Word.TheVariants as word
 use Rattle.mlk_syntax.specs.Trees.{CommandTree, Does, ControlTree, Runs, CommandTrees, finished, then_command, then_for}
-use Rattle.mlk_routine_arguments.specs.Told.{Found, Nowhere, Denied, Told}
+use Rattle.mlk_routine_arguments.specs.PartsRead.{Found, Nowhere, Denied, ReadsPart}
 use Rattle.mlk_routine_arguments.specs.Faults.{IsFaulty}
 use Rattle.mlk_routine_arguments.specs.Ends.{is_stop, starts, ControlEnds, ParameterEnds, IsRun, RunEnds, is_command_end, is_commands_end, is_bare_end, StopEnds, CommandEnd, CommandsEnd}
 use Rattle.mlk_routine_arguments.specs.CommandWords.{is_for, has_arguments, least_after}
@@ -362,7 +362,7 @@ module _ (loops : ℕ) (line : List ℕ) (at : ℕ) where
   too_many h (Refused fault) is_fault = (λ c u rest g is e. h is.1, is_fault)
 
   pub head_told : suc loops ≤ 255 → at ≤ length line → (m : ℕ) → Found IsForWord ForWordEnds line at tt m → {X : Type 0} (view : X → Option ControlTree) (r : Result (X × ℕ) (Failure Fault))
-      → Told view IsPerhapsControl (λ c. StopEnds (is_some c)) line m r → Told view (IsLoop loops) LoopEnds line at r
+      → ReadsPart view IsPerhapsControl (λ c. StopEnds (is_some c)) line m r → ReadsPart view (IsLoop loops) LoopEnds line at r
   head_told few less m f view (Ok r) t = both_found (head_parts few) less tt (view r.0) m (r.1) f t
   head_told few less m f view (Err e) t = denied_second (head_parts few) less tt m f e t
 

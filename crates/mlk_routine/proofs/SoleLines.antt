@@ -7,7 +7,7 @@ use Rattle.std.proofs.lemmas.Bool.Decides.{nat_tests}
 use Rattle.mlk_expr.specs.Grammar.{IsNameText, IsList, AreNext}
 use Rattle.mlk_routine.specs.declared.front.Front.{Front}
 use Rattle.mlk_syntax.specs.Trees.{HeadTree, RoutineTree, Named_routine}
-use Rattle.mlk_routine_arguments.specs.Told.{Found, first_of, byte_at}
+use Rattle.mlk_routine_arguments.specs.PartsRead.{Found, first_of, byte_at}
 use Rattle.mlk_routine_arguments.specs.Ends.{AnyEnds, RunEnds, IsRun, starts, is_commands_end}
 use Rattle.mlk_routine_arguments.specs.CommandGrammar.{AreEnclosed}
 use Rattle.mlk_routine.specs.RoutineGrammar.{is_blank, IsFormals, ArePeriods, IsLine, AreLines, IsRoutine, heads_of}

@@ -12,7 +12,7 @@ use Rattle.mlk_text.specs.Lexemes.{is_text_byte, is_text}
 use Rattle.mlk_expr_tokens.specs.Words.{is_either}
 use Rattle.mlk_expr.specs.Theorem.{Stands}
 use Rattle.mlk_syntax.specs.Trees.{ActionTree, Do, Else, Halt, Hang, If, Job, Kill, Lock, Merge, New, Quit, Read, Set, Write, CommandTree, Does, ControlTree, CommandTrees, finished, then_command, then_for}
-use Rattle.mlk_routine_arguments.specs.Told.{Found, Nowhere}
+use Rattle.mlk_routine_arguments.specs.PartsRead.{Found, Nowhere}
 use Rattle.mlk_routine_arguments.specs.Ends.{is_commands_end, CommandsEnd, starts}
 use Rattle.mlk_routine_arguments.specs.CommandWords.{is_word_of, is_for}
 use Rattle.mlk_routine_arguments.specs.CommandGrammar.{IsCommand, IsForHead, AreCommands}

@@ -9,7 +9,7 @@ use Rattle.mlk_text.specs.declared.failure.Failure.{Failure}
 use Rattle.mlk_text.specs.declared.fault.Fault.{Fault}
 use Rattle.mlk_syntax.specs.declared.command.Command.{Command}
 use Rattle.mlk_syntax.specs.Trees.{CommandTree, CommandTrees, ControlTree}
-use Rattle.mlk_routine_arguments.specs.Told.{Found, Nowhere, Denied}
+use Rattle.mlk_routine_arguments.specs.PartsRead.{Found, Nowhere, Denied}
 use Rattle.mlk_routine_arguments.specs.CommandWords.{is_for}
 use Rattle.mlk_routine_arguments.specs.CommandGrammar.{After, IsControl, IsForHead, AreCommands}
 use Rattle.mlk_routine_arguments.specs.Ends.{is_commands_end, StopEnds, CommandsEnd}

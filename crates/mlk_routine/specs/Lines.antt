@@ -20,10 +20,10 @@ use Rattle.mlk_routine.specs.declared.line.Before.{Before}
 use Rattle.mlk_syntax.specs.declared.routine.Line.{Line}
 use Rattle.mlk_syntax.specs.Views.{line_of}
 use Rattle.mlk_routine.specs.declared.front.Front.{Front}
-use Rattle.mlk_routine_arguments.specs.Told.{Found, Denied}
+use Rattle.mlk_routine_arguments.specs.PartsRead.{Found, Denied}
 use Rattle.mlk_text.specs.Codes.{number_of}
 use Rattle.mlk_text.specs.declared.code.Code.{Code}
-use Rattle.mlk_routine_arguments.specs.Faults.{may_tell, has_word, IsLineFault}
+use Rattle.mlk_routine_arguments.specs.Faults.{is_line_code, has_word, IsLineFault}
 use Rattle.mlk_text.specs.declared.failure.Failure.{Failure}
 use Rattle.mlk_text.specs.declared.failure.Failure.TheVariants.{OutOfMemory, Refused}
 use Rattle.mlk_text.specs.declared.fault.Fault.{Fault}
@@ -102,9 +102,9 @@ IsTailOf None at commands s = (commands ≡ finished) × IsComment s
 IsTailOf (Some level) at commands s = IsTail level at commands s
 
 -- the result of reading all the rest of a line
-abbrev pub ToldToEnd : {X A : Type 0} → (X → A) → Spelled A → List ℕ → ℕ → Result X (Failure Fault) → Type 0
-ToldToEnd view Is line at (Ok x) = Found Is AtEnd line at (view x) (length line)
-ToldToEnd view Is line at (Err e) = Denied Is AtEnd line at e
+abbrev pub ReadsToEnd : {X A : Type 0} → (X → A) → Spelled A → List ℕ → ℕ → Result X (Failure Fault) → Type 0
+ReadsToEnd view Is line at (Ok x) = Found Is AtEnd line at (view x) (length line)
+ReadsToEnd view Is line at (Err e) = Denied Is AtEnd line at e
 
 -- a DO without arguments
 abbrev pub is_block : CommandTree → Bool
@@ -143,7 +143,7 @@ FitsAfter before head = Fits before (label_of head) (level_of head)
 -- why a line is not allowed there: the code of a line, without a word
 abbrev pub IsMisplaced : Option Code → Type 0
 IsMisplaced None = Unit {0}
-IsMisplaced (Some code) = (may_tell (number_of code) ≡ true) × (has_word (number_of code) ≡ false)
+IsMisplaced (Some code) = (is_line_code (number_of code) ≡ true) × (has_word (number_of code) ≡ false)
 
 -- the head of a line of the code
 abbrev pub head_of : Line → HeadTree

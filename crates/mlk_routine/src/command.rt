@@ -2,7 +2,7 @@
 
 ghost use Rattle.std.specs.Prelude.{◌≡◌, ◌≤◌, ℕ, List, IfOk, length, option_map, true};
 ghost use Rattle.mlk_syntax.specs.ExprTrees.{tree_of, trees};
-ghost use Rattle.mlk_routine_arguments.specs.Told.{Told};
+ghost use Rattle.mlk_routine_arguments.specs.PartsRead.{ReadsPart};
 ghost use Rattle.mlk_routine_arguments.specs.Faults.{IsFaulty};
 ghost use Rattle.mlk_routine_arguments.specs.Ends.{StopEnds, CommandEnd};
 ghost use Rattle.mlk_syntax.specs.Views.{action_of, command_of};
@@ -27,7 +27,7 @@ fn condition(
     at: usize,
 ) -> Result<(Option<Expr>, usize), Failure<Fault>>
     requires { at ≤ length line.now }
-    ensures { Told (option_map tree_of) (IsConditionOf word) (ConditionEnds word) line.now at result }
+    ensures { ReadsPart (option_map tree_of) (IsConditionOf word) (ConditionEnds word) line.now at result }
 {
     if !word.has_condition() {
         return Ok((None, at));
@@ -50,7 +50,7 @@ fn no_arguments(alloc: Global, line: &[u8], at: usize) -> Result<usize, Failure<
 /// Reads the value of QUIT after one space: its expression, and the byte after it.
 fn returned_value(alloc: Global, line: &[u8], at: usize) -> Result<(Expr, usize), Failure<Fault>>
     requires { at ≤ length line.now }
-    ensures { Told tree_of (λ n t. After 32 (λ k s. IsValue k t s) n) (λ t. StopEnds true) line.now at result }
+    ensures { ReadsPart tree_of (λ n t. After 32 (λ k s. IsValue k t s) n) (λ t. StopEnds true) line.now at result }
 {
     let first = first_argument(alloc, line, at)?;
     let (value, next) = expression(alloc, Allows::Everything, line, first)?;
@@ -109,7 +109,7 @@ fn quit_value(
     at: usize,
 ) -> Result<(Option<Box<Expr>>, usize), Failure<Fault>>
     requires { at ≤ length line.now }
-    ensures { Told (option_map (λ b. tree_of b.value)) (IsQuit returns) (λ t. ActionEnds (Quit t)) line.now at result }
+    ensures { ReadsPart (option_map (λ b. tree_of b.value)) (IsQuit returns) (λ t. ActionEnds (Quit t)) line.now at result }
 {
     if is_bare(line, at) {
         return Ok((None, at));
@@ -150,7 +150,7 @@ fn action(
     at: usize,
 ) -> Result<(Action, usize), Failure<Fault>>
     requires { at ≤ length line.now }
-    ensures { Told action_of (IsActionOf word returns) ActionEnds line.now at result }
+    ensures { ReadsPart action_of (IsActionOf word returns) ActionEnds line.now at result }
 {
     match word {
         Word::Do => turned!(optional_arguments(alloc, line, at), Action::Do),
@@ -188,7 +188,7 @@ pub(crate) fn command(
     at: usize,
 ) -> Result<(Command, usize), Failure<Fault>>
     requires { at ≤ length line.now }
-    ensures { Told command_of (IsCommand returns) CommandEnd line.now at result }
+    ensures { ReadsPart command_of (IsCommand returns) CommandEnd line.now at result }
 {
     let (word, next) = command_word(alloc, line, at)?;
     let (condition, next) = condition(alloc, word, line, next)?;

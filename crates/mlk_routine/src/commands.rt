@@ -1,8 +1,9 @@
 // The commands of a line.
 
-ghost use Rattle.std.specs.Prelude.{◌≡◌, ◌<◌, ◌≤◌, ◌==◌, ◌&&◌, ℕ, length, vec_len, vec_capacity, drop, option_map, map, is_some, IfOk, OnOk, true};
+ghost use Rattle.std.specs.Prelude.{◌≡◌, ◌<◌, ◌≤◌, ◌==◌, ◌&&◌, ℕ, length, vec_len, vec_capacity};
+ghost use Rattle.std.specs.Prelude.{drop, option_map, map, is_some, IfOk, OnOk, true};
 ghost use Rattle.mlk_text.specs.Lexemes.{word_at};
-ghost use Rattle.mlk_routine_arguments.specs.Told.{Told};
+ghost use Rattle.mlk_routine_arguments.specs.PartsRead.{ReadsPart};
 ghost use Rattle.mlk_routine_arguments.specs.CommandWords.{is_for};
 ghost use Rattle.mlk_routine_arguments.specs.CommandGrammar.{AreCommands};
 ghost use Rattle.mlk_routine_arguments.specs.Ends.{StopEnds, CommandsEnd};
@@ -107,7 +108,7 @@ fn optional_control(
     at: usize,
 ) -> Result<(Option<Control>, usize), Failure<Fault>>
     requires { at ≤ length line.now }
-    ensures { Told (option_map control_of) IsPerhapsControl (λ c. StopEnds (is_some c)) line.now at result }
+    ensures { ReadsPart (option_map control_of) IsPerhapsControl (λ c. StopEnds (is_some c)) line.now at result }
 {
     if is_bare(line, at) {
         return Ok((None, at));
@@ -130,7 +131,7 @@ fn for_head(
 ) -> Result<(Option<Control>, usize), Failure<Fault>>
     requires within { at ≤ length line.now }
     requires here { is_for (word_at (drop at line.now)).0 ≡ true }
-    ensures { Told (option_map control_of) (IsLoop loops) LoopEnds line.now at result }
+    ensures { ReadsPart (option_map control_of) (IsLoop loops) LoopEnds line.now at result }
 {
     if loops >= MOST_LOOPS {
         return Err(refusal_at(alloc, Code::TooLarge, at));
@@ -174,7 +175,7 @@ fn with_loop(
     requires within { at ≤ length line.now }
     requires here { is_for (word_at (drop at line.now)).0 ≡ true }
     ensures { (begin : ℕ) → LeadsTo inside.level inside.loops line.now begin (map command_of before.items) at
-        → Told commands_of (AreCommands inside.level inside.loops) CommandsEnd line.now begin result }
+        → ReadsPart commands_of (AreCommands inside.level inside.loops) CommandsEnd line.now begin result }
 {
     let (control, end) = for_head(alloc, inside.loops, line, at)?;
     let inner = Inside {
@@ -195,7 +196,7 @@ pub(crate) fn commands(
     at: usize,
 ) -> Result<(Commands, usize), Failure<Fault>>
     requires { at ≤ length line.now }
-    ensures { Told commands_of (AreCommands inside.level inside.loops) CommandsEnd line.now at result }
+    ensures { ReadsPart commands_of (AreCommands inside.level inside.loops) CommandsEnd line.now at result }
 {
     let (before, next) = before_for(alloc, inside, line, at)?;
     if is_commands_end(line, next) {

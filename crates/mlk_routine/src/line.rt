@@ -4,7 +4,7 @@ ghost use Rattle.std.specs.Prelude.{◌≡◌, ◌<◌, ◌≤◌, ◌+◌, ◌|
 ghost use Rattle.std.specs.Prelude.{true, false, Some, None};
 ghost use Rattle.std.specs.Prelude.{IfOk, IfErr, OnOk};
 ghost use Rattle.std.specs.List.{prefix_len, list_all};
-ghost use Rattle.mlk_routine_arguments.specs.Told.{Told};
+ghost use Rattle.mlk_routine_arguments.specs.PartsRead.{ReadsPart};
 ghost use Rattle.mlk_routine.specs.RoutineGrammar.{is_line_byte};
 ghost use Rattle.mlk_routine.specs.Lines.{has_name, is_in, is_labelled, level_in, IsFront, FrontEnds, IsKept, Fits};
 ghost use Rattle.mlk_routine.specs.Lines.{FitsAfter, head_of, IsLineOnly, IsWithLine, NoLine, IsMisplaced};
@@ -120,7 +120,7 @@ impl<'a> Before<'a> {
 // Reads the part of a line before its commands, and returns the byte after it. A label that an earlier line has is refused
 // before anything else.
 fn front(alloc: Global, before: &Before, text: &[u8]) -> Result<(Front, usize), Failure<Fault>>
-    ensures { Told (λ f. f) IsFront FrontEnds text.now 0 result }
+    ensures { ReadsPart (λ f. f) IsFront FrontEnds text.now 0 result }
 {
     let (label, next) = label(alloc, text)?;
     let is_twice = before.has_label(&label);

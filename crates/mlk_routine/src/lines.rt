@@ -2,7 +2,7 @@
 
 ghost use Rattle.std.specs.Prelude.{◌≤◌, map, length, IfOk, IfErr};
 ghost use Rattle.mlk_text.specs.Failures.{IfRefused};
-ghost use Rattle.mlk_routine_arguments.specs.Told.{IsRefusal};
+ghost use Rattle.mlk_routine_arguments.specs.PartsRead.{IsRefusal};
 ghost use Rattle.mlk_routine.specs.Lines.{head_of, AreHeadsOnly, NoHeads, texts_of};
 ghost use Rattle.mlk_routine.specs.Refusals.{IsOfLine};
 

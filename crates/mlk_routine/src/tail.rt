@@ -5,7 +5,7 @@ ghost use Rattle.mlk_routine_arguments.specs.Faults.{IsFaulty};
 ghost use Rattle.mlk_routine_arguments.specs.Ends.{is_commands_end};
 ghost use Rattle.mlk_routine.specs.RoutineGrammar.{IsComment};
 ghost use Rattle.mlk_syntax.specs.Views.{commands_of};
-ghost use Rattle.mlk_routine.specs.Lines.{OpeningEnds, IsTailOf, ToldToEnd};
+ghost use Rattle.mlk_routine.specs.Lines.{OpeningEnds, IsTailOf, ReadsToEnd};
 
 use crate::commands::{Inside, commands};
 use mlk_routine_arguments::{refusal_at, text_bytes};
@@ -38,7 +38,7 @@ pub(crate) fn tail(
 ) -> Result<Commands, Failure<Fault>>
     requires within { at ≤ length line.now }
     requires begun { OpeningEnds level (drop at line.now) }
-    ensures { ToldToEnd commands_of (IsTailOf level) line.now at result }
+    ensures { ReadsToEnd commands_of (IsTailOf level) line.now at result }
 {
     let inside = Inside {
         level: level.unwrap_or(1),

@@ -11,7 +11,7 @@ use Rattle.mlk_expr.specs.Theorem.{Stands, ExprEnds}
 use Rattle.mlk_syntax.specs.declared.command.Sign.{Sign}
 use Rattle.mlk_syntax.specs.declared.command.Sign.TheVariants as sign
 use Rattle.mlk_syntax.specs.Trees.{VariableTree, LockTree, LockNames}
-use Rattle.mlk_routine_arguments.specs.Told.{Found, Nowhere, first_of, byte_at}
+use Rattle.mlk_routine_arguments.specs.PartsRead.{Found, Nowhere, first_of, byte_at}
 use Rattle.mlk_routine_arguments.specs.Ends.{is_stop, VariableEnds, SingleEnds, OneEnds, IsSign, SignEnds, TimeoutEnds, LockEnds}
 use Rattle.mlk_routine_arguments.specs.Stops.{variable_stop}
 use Rattle.mlk_routine_arguments.specs.CommandGrammar.{Both, IsVariable, IsOneOrEnclosed, IsLockTimeout, IsLock, in_names}

@@ -7,7 +7,7 @@ use Rattle.mlk_syntax.specs.ExprTrees.{Tree}
 use Rattle.mlk_expr_tokens.specs.Lexemes.{starts_reference}
 use Rattle.mlk_expr.specs.Grammar.{Spelled}
 use Rattle.mlk_syntax.specs.Trees.{VariableTree, ReadTree, ReadText, ReadFormat, ReadLine, ReadCharacter}
-use Rattle.mlk_routine_arguments.specs.Told.{first_of, byte_at}
+use Rattle.mlk_routine_arguments.specs.PartsRead.{first_of, byte_at}
 use Rattle.mlk_routine_arguments.specs.Ends.{AfterEnds, VariableEnds, IsPrompt, PromptEnds, starts_format, FormatEnds, TimedEnds, MostEnds, ReadEnds}
 use Rattle.mlk_routine_arguments.specs.CommandGrammar.{Both, IsAfter, IsFormat, IsLocal, IsRead}
 use Rattle.mlk_routine_arguments.proofs.Sequences.{Parts, Turned}

@@ -21,7 +21,7 @@ use Rattle.mlk_expr.proofs.Joined.{same-expr, same-reference, same-list, one-of}
 use Rattle.mlk_syntax.specs.declared.command.Sign.{Sign}
 use Rattle.mlk_syntax.specs.declared.command.Sign.TheVariants as sign
 use Rattle.mlk_syntax.specs.Trees.{VariableTree, Named, CallTree, DoTree, DoCall, KillTree, KillOne, KillAllBut, NewTree, NewOne, NewAllBut}
-use Rattle.mlk_routine_arguments.specs.Told.{first_of, byte_at}
+use Rattle.mlk_routine_arguments.specs.PartsRead.{first_of, byte_at}
 use Rattle.mlk_routine_arguments.specs.Ends.{is_stop, AfterEnds, VariableEnds, MoreEnds, AreEnded, GivenEnds, CalledEnds, CallEnds, DoEnds, JobEnds, AnyEnds, KillEnds, NewEnds, MergeEnds, Begins, OneEnds, IsSign, SignEnds, TimeoutEnds, LockEnds, IsRun, RunEnds}
 use Rattle.mlk_routine_arguments.specs.Stops.{name_stop, variable_stop}
 use Rattle.mlk_routine_arguments.specs.CommandGrammar.{IsAfter, AreEnclosed, IsOneOrEnclosed, IsVariable, IsGiven, IsCall, IsCondition, IsDo, IsJob, IsKill, IsNew, IsLockTimeout, IsLock, in_names, IsMerge}

@@ -10,7 +10,7 @@ use Rattle.mlk_syntax.specs.ExprTrees.{Tree}
 use Rattle.mlk_expr.specs.Grammar.{IsExprWhere, AreNext}
 use Rattle.mlk_expr.specs.Theorem.{ExprEnds}
 use Rattle.mlk_syntax.specs.Trees.{VariableTree, TargetTree, SetWhole, SetPart}
-use Rattle.mlk_routine_arguments.specs.Told.{first_of, byte_at}
+use Rattle.mlk_routine_arguments.specs.PartsRead.{first_of, byte_at}
 use Rattle.mlk_routine_arguments.specs.Ends.{VariableEnds, AfterEnds, AnyEnds, IsPrompt, PromptEnds, starts_format, FormatEnds, WriteEnds, ReadEnds, NextEnds, part_of, IsPartOpening, TargetEnds, SetEnds, ParameterEnds, ControlEnds}
 use Rattle.mlk_routine_arguments.specs.Stops.{expr_stop, target_stop, parameter_stop}
 use Rattle.mlk_routine_arguments.specs.CommandGrammar.{IsAfter, IsVariable, IsLocal, is_mark, IsFormat, IsRead, IsTarget, IsSet, IsWrite, IsParameter, IsControl}

@@ -13,7 +13,7 @@ use Rattle.mlk_syntax.specs.Trees.{ActionTree, Do, Else, Halt, Hang, If, Job, Ki
 use Rattle.mlk_syntax.specs.Trees.{Write}
 use Rattle.mlk_routine_arguments.specs.CommandWords.{has_arguments}
 use Rattle.mlk_routine_arguments.specs.CommandGrammar.{IsCondition, AreArgumentsOf}
-use Rattle.mlk_routine_arguments.specs.Told.{byte_at}
+use Rattle.mlk_routine_arguments.specs.PartsRead.{byte_at}
 use Rattle.mlk_routine_arguments.specs.Faults.{IsFaulty}
 use Rattle.mlk_routine_arguments.specs.Ends.{starts, is_stop, is_bare_end, AfterEnds, StopEnds}
 

@@ -1,7 +1,7 @@
 // The arguments of KILL, NEW and MERGE.
 
 ghost use Rattle.std.specs.Prelude.{◌≡◌, ◌≤◌, length, Some, true, false};
-ghost use Rattle.mlk_routine_arguments.specs.Told.{Told, byte_at};
+ghost use Rattle.mlk_routine_arguments.specs.PartsRead.{ReadsPart, byte_at};
 ghost use Rattle.mlk_routine_arguments.specs.Ends.{KillEnds, MergeEnds, NewEnds};
 ghost use Rattle.mlk_syntax.specs.Views.{kill_of, merge_of, new_of};
 ghost use Rattle.mlk_routine_arguments.specs.CommandGrammar.{IsKill, IsMerge, IsNew};
@@ -22,7 +22,7 @@ pub(crate) fn kill(
     at: usize,
 ) -> Result<(KillArgument, usize), Failure<Fault>>
     requires { at ≤ length line.now }
-    ensures { Told kill_of IsKill KillEnds line.now at result }
+    ensures { ReadsPart kill_of IsKill KillEnds line.now at result }
 {
     if has_byte(line, at, b'(') {
         let (names, next) = enclosed_items(alloc, line, at)?;
@@ -39,7 +39,7 @@ pub(crate) fn merge(
     at: usize,
 ) -> Result<(MergeArgument, usize), Failure<Fault>>
     requires { at ≤ length line.now }
-    ensures { Told merge_of IsMerge MergeEnds line.now at result }
+    ensures { ReadsPart merge_of IsMerge MergeEnds line.now at result }
 {
     let (target, next) = variable(alloc, Allows::NoCalls, line, at)?;
     if !has_byte(line, next, b'=') {
@@ -69,7 +69,7 @@ pub(crate) fn new(
     at: usize,
 ) -> Result<(NewArgument, usize), Failure<Fault>>
     requires { at ≤ length line.now }
-    ensures { Told new_of IsNew NewEnds line.now at result }
+    ensures { ReadsPart new_of IsNew NewEnds line.now at result }
 {
     if has_byte(line, at, b'(') {
         let (names, next) = enclosed_items(alloc, line, at)?;

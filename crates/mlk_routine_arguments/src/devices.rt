@@ -2,7 +2,7 @@
 
 ghost use Rattle.std.specs.Prelude.{◌≡◌, ◌≤◌, length, drop, option_map, Some, true};
 ghost use Rattle.mlk_syntax.specs.ExprTrees.{tree_of};
-ghost use Rattle.mlk_routine_arguments.specs.Told.{Told, byte_at};
+ghost use Rattle.mlk_routine_arguments.specs.PartsRead.{ReadsPart, byte_at};
 ghost use Rattle.mlk_routine_arguments.specs.Ends.{starts_format, IsPrompt, PromptEnds, FormatEnds, VariableEnds};
 ghost use Rattle.mlk_routine_arguments.specs.Ends.{ReadEnds, WriteEnds};
 ghost use Rattle.mlk_syntax.specs.Views.{variable_of, read_of, write_of};
@@ -20,7 +20,7 @@ use std::alloc::Global;
 /// Reads the quoted text whose opening quote is at `at`: its value, and the byte after it.
 fn prompt(alloc: Global, line: &[u8], at: usize) -> Result<(Value, usize), Failure<Fault>>
     requires { byte_at line.now at ≡ Some 34 }
-    ensures { Told (λ value. value) IsPrompt PromptEnds line.now at result }
+    ensures { ReadsPart (λ value. value) IsPrompt PromptEnds line.now at result }
 {
     let (_, inside) = line.split_at(at + 1);
     match quoted_value(alloc, inside) {
@@ -49,7 +49,7 @@ fn starts_format(line: &[u8], at: usize) -> bool
 fn format(alloc: Global, line: &[u8], at: usize) -> Result<(Option<Expr>, usize), Failure<Fault>>
     requires within { at ≤ length line.now }
     requires starts { starts_format (drop at line.now) ≡ true }
-    ensures { Told (option_map tree_of) IsFormat FormatEnds line.now at result }
+    ensures { ReadsPart (option_map tree_of) IsFormat FormatEnds line.now at result }
 {
     let next = past_marks(line, at);
     expr_after(alloc, b'?', Allows::Everything, line, next)
@@ -62,7 +62,7 @@ pub(crate) fn write_argument(
     at: usize,
 ) -> Result<(WriteArgument, usize), Failure<Fault>>
     requires { at ≤ length line.now }
-    ensures { Told write_of IsWrite WriteEnds line.now at result }
+    ensures { ReadsPart write_of IsWrite WriteEnds line.now at result }
 {
     if starts_format(line, at) {
         let (tab, next) = format(alloc, line, at)?;
@@ -79,7 +79,7 @@ pub(crate) fn write_argument(
 /// Reads a local with its subscripts: the variable, and the byte after it. A global is refused as not read.
 fn local(alloc: Global, line: &[u8], at: usize) -> Result<(Variable, usize), Failure<Fault>>
     requires { at ≤ length line.now }
-    ensures { Told variable_of IsLocal VariableEnds line.now at result }
+    ensures { ReadsPart variable_of IsLocal VariableEnds line.now at result }
 {
     if has_byte(line, at, b'^') {
         return Err(leaves_out(alloc, LeftOut::GlobalRead, at));
@@ -94,7 +94,7 @@ pub(crate) fn read_argument(
     at: usize,
 ) -> Result<(ReadArgument, usize), Failure<Fault>>
     requires { at ≤ length line.now }
-    ensures { Told read_of IsRead ReadEnds line.now at result }
+    ensures { ReadsPart read_of IsRead ReadEnds line.now at result }
 {
     if has_byte(line, at, b'"') {
         let (prompt, next) = prompt(alloc, line, at)?;

@@ -1,7 +1,7 @@
 // The items of lists that are separated by commas, and such lists.
 
 ghost use Rattle.std.specs.Prelude.{◌≡◌, ◌≤◌, ℕ, List, length, map, Some, true, false};
-ghost use Rattle.mlk_routine_arguments.specs.Told.{Told, byte_at};
+ghost use Rattle.mlk_routine_arguments.specs.PartsRead.{ReadsPart, byte_at};
 ghost use Rattle.mlk_routine_arguments.specs.Stops.{expr_stop, name_stop};
 ghost use Rattle.mlk_routine_arguments.specs.Begins.{expr_begins, name_begins};
 ghost use Rattle.mlk_routine_arguments.specs.Ends.{AreEnded, AnyEnds, Begins, OneEnds};
@@ -41,7 +41,7 @@ pub trait Item: Drop {
 
     fn read(alloc: Global, line: &[u8], at: usize) -> Result<(Self, usize), Failure<Fault>>
         requires { at ≤ length line.now }
-        ensures { Told seen is ends line.now at result };
+        ensures { ReadsPart seen is ends line.now at result };
 }
 
 impl Item for Expr {
@@ -69,7 +69,7 @@ pub(crate) fn item_list<T: Item>(
     at: usize,
 ) -> Result<(Vec<T>, usize), Failure<Fault>>
     requires { at ≤ length line.now }
-    ensures { Told (λ v. map T.seen v.items) (IsList T.is) (AreEnded T.ends) line.now at result }
+    ensures { ReadsPart (λ v. map T.seen v.items) (IsList T.is) (AreEnded T.ends) line.now at result }
 {
     let (first, mut next) = T::read(alloc, line, at)?;
     let room = if has_byte(line, next, b',') { 2 } else { 1 };
@@ -95,7 +95,7 @@ pub(crate) fn enclosed_items<T: Item>(
 ) -> Result<(Vec<T>, usize), Failure<Fault>>
     requires within { at ≤ length line.now }
     requires open { byte_at line.now at ≡ Some 40 }
-    ensures { Told (λ v. map T.seen v.items) (AreEnclosed T.is) AnyEnds line.now at result }
+    ensures { ReadsPart (λ v. map T.seen v.items) (AreEnclosed T.is) AnyEnds line.now at result }
 {
     let (items, end) = item_list(alloc, line, at + 1)?;
     if !has_byte(line, end, b')') {
@@ -132,7 +132,7 @@ pub(crate) fn one_or_enclosed<T: Item>(
 ) -> Result<(Vec<T>, usize), Failure<Fault>>
     requires within { at ≤ length line.now }
     requires shut { (k : ℕ) (a : T.Seen) (s : List ℕ) → T.is k a s → Begins s }
-    ensures { Told (λ v. map T.seen v.items) (IsOneOrEnclosed T.is)
+    ensures { ReadsPart (λ v. map T.seen v.items) (IsOneOrEnclosed T.is)
         (OneEnds T.ends (byte_at line.now at)) line.now at result }
 {
     if has_byte(line, at, b'(') {

@@ -3,7 +3,7 @@
 ghost use Rattle.std.specs.Prelude.{◌≡◌, ◌≤◌, length, map, option_map, IfOk};
 ghost use Rattle.mlk_syntax.specs.ExprTrees.{tree_of};
 ghost use Rattle.mlk_expr.specs.declared.context.Allows.TheVariants.{NoTouches};
-ghost use Rattle.mlk_routine_arguments.specs.Told.{Found, Told, byte_at};
+ghost use Rattle.mlk_routine_arguments.specs.PartsRead.{Found, ReadsPart, byte_at};
 ghost use Rattle.mlk_routine_arguments.specs.Ends.{IsSign, SignEnds, OneEnds, VariableEnds, TimeoutEnds, LockEnds};
 ghost use Rattle.mlk_syntax.specs.Views.{variable_of, lock_of};
 ghost use Rattle.mlk_routine_arguments.specs.CommandGrammar.{IsVariable, IsOneOrEnclosed, IsLockTimeout, IsLock, in_names};
@@ -45,7 +45,7 @@ fn unsigned_names(
     at: usize,
 ) -> Result<(Vec<Variable>, usize), Failure<Fault>>
     requires { at ≤ length line.now }
-    ensures { Told (λ v. map variable_of v.items) (IsOneOrEnclosed (IsVariable NoTouches))
+    ensures { ReadsPart (λ v. map variable_of v.items) (IsOneOrEnclosed (IsVariable NoTouches))
         (OneEnds VariableEnds (byte_at line.now at)) line.now at result }
 {
     let (names, next) = one_or_enclosed(alloc, line, at)?;
@@ -61,7 +61,7 @@ fn names(
     at: usize,
 ) -> Result<(Vec<Variable>, usize), Failure<Fault>>
     requires { at ≤ length line.now }
-    ensures { Told (λ v. map variable_of v.items) (IsOneOrEnclosed (IsVariable (in_names sign)))
+    ensures { ReadsPart (λ v. map variable_of v.items) (IsOneOrEnclosed (IsVariable (in_names sign)))
         (OneEnds VariableEnds (byte_at line.now at)) line.now at result }
 {
     match sign {
@@ -79,7 +79,7 @@ fn timeout(
     at: usize,
 ) -> Result<(Option<Expr>, usize), Failure<Fault>>
     requires { at ≤ length line.now }
-    ensures { Told (option_map tree_of) (IsLockTimeout sign) TimeoutEnds line.now at result }
+    ensures { ReadsPart (option_map tree_of) (IsLockTimeout sign) TimeoutEnds line.now at result }
 {
     if is_argument_end(line, at) {
         return Ok((None, at));
@@ -103,7 +103,7 @@ pub(crate) fn lock(
     at: usize,
 ) -> Result<(LockArgument, usize), Failure<Fault>>
     requires { at ≤ length line.now }
-    ensures { Told lock_of IsLock LockEnds line.now at result }
+    ensures { ReadsPart lock_of IsLock LockEnds line.now at result }
 {
     let (sign, next) = sign(line, at);
     let (names, next) = names(alloc, sign, line, next)?;

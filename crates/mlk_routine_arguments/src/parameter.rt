@@ -2,7 +2,7 @@
 
 ghost use Rattle.std.specs.Prelude.{◌≡◌, ◌≤◌, length, Some, true, false};
 ghost use Rattle.mlk_syntax.specs.ExprTrees.{tree_of};
-ghost use Rattle.mlk_routine_arguments.specs.Told.{Told, byte_at};
+ghost use Rattle.mlk_routine_arguments.specs.PartsRead.{ReadsPart, byte_at};
 ghost use Rattle.mlk_routine_arguments.specs.Ends.{ParameterEnds, ControlEnds};
 ghost use Rattle.mlk_syntax.specs.Views.{parameter_of, control_of};
 ghost use Rattle.mlk_routine_arguments.specs.CommandGrammar.{IsParameter, IsControl};
@@ -22,7 +22,7 @@ pub(crate) fn parameter(
     at: usize,
 ) -> Result<(Parameter, usize), Failure<Fault>>
     requires { at ≤ length line.now }
-    ensures { Told parameter_of IsParameter ParameterEnds line.now at result }
+    ensures { ReadsPart parameter_of IsParameter ParameterEnds line.now at result }
 {
     let (start, next) = expression(alloc, Allows::Everything, line, at)?;
     let (step, next) = expr_after(alloc, b':', Allows::Everything, line, next)?;
@@ -39,7 +39,7 @@ pub(crate) fn parameter(
 /// Reads FOR's variable and its parameters: both, and the byte after them. A variable with subscripts is refused as not read.
 pub fn control(alloc: Global, line: &[u8], at: usize) -> Result<(Control, usize), Failure<Fault>>
     requires { at ≤ length line.now }
-    ensures { Told control_of IsControl ControlEnds line.now at result }
+    ensures { ReadsPart control_of IsControl ControlEnds line.now at result }
 {
     let (variable, next) = name(alloc, line, at)?;
     if has_byte(line, next, b'(') {

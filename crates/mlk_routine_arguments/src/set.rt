@@ -5,7 +5,7 @@ ghost use Rattle.mlk_expr.specs.declared.context.Allows.TheVariants.{NoCalls};
 ghost use Rattle.mlk_syntax.specs.ExprTrees.{Tree, tree_of, trees};
 ghost use Rattle.mlk_expr.specs.Grammar.{AreNext, IsExprWhere};
 ghost use Rattle.mlk_expr.specs.Theorem.{ExprEnds};
-ghost use Rattle.mlk_routine_arguments.specs.Told.{Told, IsRefusal, byte_at};
+ghost use Rattle.mlk_routine_arguments.specs.PartsRead.{ReadsPart, IsRefusal, byte_at};
 ghost use Rattle.mlk_routine_arguments.specs.Faults.{IsFaulty};
 ghost use Rattle.mlk_routine_arguments.specs.Stops.{expr_stop};
 ghost use Rattle.mlk_routine_arguments.specs.Begins.{expr_begins};
@@ -62,7 +62,7 @@ fn no_part(alloc: Global, word: &[u8], after: &[u8], at: usize) -> Failure<Fault
 /// Reads the function of a target at its `$`: the function, and the byte after the opening parenthesis.
 fn opening(alloc: Global, line: &[u8], at: usize) -> Result<(Part, usize), Failure<Fault>>
     requires { byte_at line.now at ≡ Some 36 }
-    ensures { Told (λ part. part) IsPartOpening AnyEnds line.now at result }
+    ensures { ReadsPart (λ part. part) IsPartOpening AnyEnds line.now at result }
 {
     let (_, bytes) = line.split_at(at + 1);
     let (word, after) = word_at(bytes);
@@ -107,7 +107,7 @@ fn expressions(alloc: Global, items: Vec<CallFree>) -> Result<Vec<Expr>, AllocEr
 /// Reads the arguments after the variable of a target, each after a comma: the arguments, and the byte after them.
 fn arguments(alloc: Global, line: &[u8], at: usize) -> Result<(Vec<Expr>, usize), Failure<Fault>>
     requires { at ≤ length line.now }
-    ensures { Told (λ v. trees v.items) (AreNext (IsExprWhere NoCalls)) NextEnds line.now at result }
+    ensures { ReadsPart (λ v. trees v.items) (AreNext (IsExprWhere NoCalls)) NextEnds line.now at result }
 {
     if !has_byte(line, at, b',') {
         return Ok((Vec::new(alloc), at));
@@ -121,7 +121,7 @@ fn arguments(alloc: Global, line: &[u8], at: usize) -> Result<(Vec<Expr>, usize)
 #[inline(always)]
 fn part_target(alloc: Global, line: &[u8], at: usize) -> Result<(Target, usize), Failure<Fault>>
     requires { byte_at line.now at ≡ Some 36 }
-    ensures { Told target_of IsTarget TargetEnds line.now at result }
+    ensures { ReadsPart target_of IsTarget TargetEnds line.now at result }
 {
     let (part, next) = opening(alloc, line, at)?;
     let (variable, next) = variable(alloc, Allows::NoCalls, line, next)?;
@@ -141,7 +141,7 @@ pub(crate) fn target(
     at: usize,
 ) -> Result<(Target, usize), Failure<Fault>>
     requires { at ≤ length line.now }
-    ensures { Told target_of IsTarget TargetEnds line.now at result }
+    ensures { ReadsPart target_of IsTarget TargetEnds line.now at result }
 {
     if has_byte(line, at, b'$') {
         return part_target(alloc, line, at);
@@ -158,7 +158,7 @@ fn targets(
     at: usize,
 ) -> Result<(Several<Target>, usize), Failure<Fault>>
     requires { at ≤ length line.now }
-    ensures { Told (λ targets. map target_of targets) (IsOneOrEnclosed IsTarget)
+    ensures { ReadsPart (λ targets. map target_of targets) (IsOneOrEnclosed IsTarget)
         (OneEnds TargetEnds (byte_at line.now at)) line.now at result }
 {
     if has_byte(line, at, b'(') {
@@ -177,7 +177,7 @@ pub(crate) fn set(
     at: usize,
 ) -> Result<(SetArgument, usize), Failure<Fault>>
     requires { at ≤ length line.now }
-    ensures { Told set_of IsSet SetEnds line.now at result }
+    ensures { ReadsPart set_of IsSet SetEnds line.now at result }
 {
     let (targets, next) = targets(alloc, line, at)?;
     if !has_byte(line, next, b'=') {

@@ -1,7 +1,7 @@
 // The arguments of a command with the space before them: a list after one space, or none.
 
 ghost use Rattle.std.specs.Prelude.{◌≡◌, ◌≤◌, length, map, drop, true};
-ghost use Rattle.mlk_routine_arguments.specs.Told.{Told};
+ghost use Rattle.mlk_routine_arguments.specs.PartsRead.{ReadsPart};
 ghost use Rattle.mlk_routine_arguments.specs.Ends.{is_commands_end, is_command_end, is_bare_end, StopEnds};
 ghost use Rattle.mlk_routine_arguments.specs.CommandWords.{has_any};
 ghost use Rattle.mlk_routine_arguments.specs.Kinds.{IsSpaced};
@@ -71,7 +71,7 @@ pub fn required_arguments<T: Item>(
     at: usize,
 ) -> Result<(Vec<T>, usize), Failure<Fault>>
     requires { at ≤ length line.now }
-    ensures { Told (λ v. map T.seen v.items) (AreSome T.is) (λ items. StopEnds true) line.now at result }
+    ensures { ReadsPart (λ v. map T.seen v.items) (AreSome T.is) (λ items. StopEnds true) line.now at result }
 {
     let first = first_argument(alloc, line, at)?;
     let (items, next) = item_list(alloc, line, first)?;
@@ -89,7 +89,7 @@ pub fn optional_arguments<T: Item>(
     at: usize,
 ) -> Result<(Vec<T>, usize), Failure<Fault>>
     requires { at ≤ length line.now }
-    ensures { Told (λ v. map T.seen v.items) (ArePerhaps T.is) (λ items. StopEnds (has_any items)) line.now at result }
+    ensures { ReadsPart (λ v. map T.seen v.items) (ArePerhaps T.is) (λ items. StopEnds (has_any items)) line.now at result }
 {
     if is_bare(line, at) {
         return Ok((Vec::new(alloc), at));

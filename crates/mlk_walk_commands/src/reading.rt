@@ -6,15 +6,16 @@ ghost use Rattle.mlk_syntax.specs.Views.{variable_of, read_of, merge_of, write_o
 ghost use Rattle.mlk_walk_state.specs.declared.state.State.{State};
 ghost use Rattle.mlk_walk_exprs.specs.Spots.{spot_of};
 ghost use Rattle.mlk_walk_exprs.specs.Walks.{Outcome};
-ghost use Rattle.mlk_walk_commands.specs.Arguments.{in_time_or_not, read_row, read_variable, read_argument, merge_from, merge_argument, write_argument};
+ghost use Rattle.mlk_walk_commands.specs.Arguments.{in_time_or_not, read_row, read_variable, read_argument};
+ghost use Rattle.mlk_walk_commands.specs.Arguments.{merge_from, merge_argument, write_argument};
 
 use crate::kill::Kill;
-use crate::variable::{capture_variable, change_local, count_of};
 use mlk_calls::State;
 use mlk_cert_parts::Test;
 use mlk_names::{Access, Extent};
 use mlk_syntax::{Expr, MergeArgument, ReadArgument, Variable, WriteArgument};
 use mlk_walk_exprs::{Spot, Touch, TouchLast, Transfer, Walk, apply_to_states, value, value_if};
+use mlk_walk_variables::{capture_variable, change_local, count_of};
 use std::alloc::AllocError;
 
 // With a timeout, `$TEST` is then 1 or 0.
@@ -48,7 +49,7 @@ struct Read<'a> {
 impl<'a> Transfer for Read<'a> {
     ghost outcomes = { λ r s. read_row (spot_of r.spot.now) (variable_of r.variable.now) s };
 
-    #[tactic(auto, using(crate::proofs::Opened::counted, crate::proofs::Opened::local_read))]
+    #[tactic(auto, using(mlk_syntax::proofs::TreeLists::counted, crate::proofs::Opened::local_read))]
     fn make(&self, state: State, walk: &mut Walk) -> Result<(), AllocError> {
         let Expr::Local(name, subscripts) = &self.variable.name else {
             return walk.add_live(state);
@@ -112,7 +113,7 @@ struct ReadTree<'a> {
 impl<'a> Transfer for ReadTree<'a> {
     ghost outcomes = { λ r s. merge_from (spot_of r.spot.now) (variable_of r.variable.now) s };
 
-    #[tactic(auto, using(crate::proofs::Opened::counted, crate::proofs::Opened::local_merged, crate::proofs::Opened::global_merged))]
+    #[tactic(auto, using(mlk_syntax::proofs::TreeLists::counted, crate::proofs::Opened::local_merged, crate::proofs::Opened::global_merged))]
     fn make(&self, state: State, walk: &mut Walk) -> Result<(), AllocError> {
         match &self.variable.name {
             Expr::Global(column, name, subscripts) => {

@@ -2,7 +2,7 @@ use Rattle.std.proofs.Common.{None, map, option_map, sym, ◌∙◌, ◌+◌, dr
 use Rattle.mlk_text.specs.Places.{column_at}
 use Rattle.std.proofs.lemmas.Result.{err_from_is_err_and}
 use Rattle.mlk_syntax.specs.Trees.{CommandTrees, finished, then_for}
-use Rattle.mlk_routine_arguments.specs.Told.{Found, Denied}
+use Rattle.mlk_routine_arguments.specs.PartsRead.{Found, Denied}
 use Rattle.mlk_routine_arguments.specs.Ends.{CommandsEnd}
 use Rattle.mlk_syntax.specs.Views.{command_of, control_of, commands_of, commands_from, commands_step, for_step}
 use Rattle.mlk_syntax.specs.declared.command.Commands.{fold-roll-Commands}

@@ -1,7 +1,7 @@
 use Rattle.std.proofs.Common.{map, ◌∙◌, ◌++◌, ◌∷◌, [], sym, ap, subst}
 use Rattle.std.proofs.lemmas.List.{map-append}
 use Rattle.std.proofs.lemmas.Result.{err_from_is_err_and}
-use Rattle.mlk_routine_arguments.specs.Told.{Found, Denied}
+use Rattle.mlk_routine_arguments.specs.PartsRead.{Found, Denied}
 use Rattle.mlk_routine_arguments.specs.Ends.{CommandEnd}
 use Rattle.mlk_syntax.specs.Views.{command_of}
 use Rattle.mlk_routine_arguments.specs.CommandGrammar.{IsCommand}

@@ -1,6 +1,6 @@
 use Rattle.std.proofs.Common.{subst}
 use Rattle.std.proofs.lemmas.Result.{err_from_is_err_and}
-use Rattle.mlk_routine_arguments.specs.Told.{Found, Denied}
+use Rattle.mlk_routine_arguments.specs.PartsRead.{Found, Denied}
 use Rattle.mlk_routine_arguments.specs.Ends.{CommandsEnd}
 use Rattle.mlk_routine_arguments.specs.CommandGrammar.{AreCommands}
 use Rattle.mlk_syntax.specs.Views.{commands_of}
