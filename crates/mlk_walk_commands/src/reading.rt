@@ -18,7 +18,7 @@ use mlk_walk_exprs::{Spot, Touch, TouchLast, Transfer, Walk, apply_to_states, va
 use mlk_walk_variables::{capture_variable, change_local, count_of};
 use std::alloc::AllocError;
 
-// With a timeout, `$TEST` is then 1 or 0.
+// The end of a READ: with a timeout there is a state in which `$TEST` is 1, and one in which it is 0.
 #[derive(Clone, Copy, Drop)]
 struct InTime<'a> {
     timeout: Option<&'a Expr>,
@@ -27,6 +27,7 @@ struct InTime<'a> {
 impl<'a> Transfer for InTime<'a> {
     ghost outcomes = { λ r s. in_time_or_not (option_map tree_of (option_copied r.timeout)) s };
 
+    // Adds the state, or with a timeout both states.
     fn make(&self, state: State, walk: &mut Walk) -> Result<(), AllocError> {
         match self.timeout {
             None => walk.add_live(state),
@@ -49,6 +50,7 @@ struct Read<'a> {
 impl<'a> Transfer for Read<'a> {
     ghost outcomes = { λ r s. read_row (spot_of r.spot.now) (variable_of r.variable.now) s };
 
+    // Adds the states in which the local has another value.
     #[tactic(auto, using(mlk_syntax::proofs::TreeLists::counted, crate::proofs::Opened::local_read))]
     fn make(&self, state: State, walk: &mut Walk) -> Result<(), AllocError> {
         let Expr::Local(name, subscripts) = &self.variable.name else {
@@ -113,6 +115,7 @@ struct ReadTree<'a> {
 impl<'a> Transfer for ReadTree<'a> {
     ghost outcomes = { λ r s. merge_from (spot_of r.spot.now) (variable_of r.variable.now) s };
 
+    // Adds the states after a global is read; a local is read without effect.
     #[tactic(auto, using(mlk_syntax::proofs::TreeLists::counted, crate::proofs::Opened::local_merged, crate::proofs::Opened::global_merged))]
     fn make(&self, state: State, walk: &mut Walk) -> Result<(), AllocError> {
         match &self.variable.name {

@@ -48,6 +48,7 @@ pub fn is_long_second(spelling: &Option<Option<Spelling>>) -> bool
     }
 }
 
+// Whether an extent is one node, without what is below it.
 fn is_node(extent: Extent) -> bool
     ensures { result ≡ is_node extent }
 {
