@@ -205,7 +205,7 @@ impl Code {
     }
 }
 
-/// The number and the word.
+/// The number and the name, as in `101 ExprForm`.
 impl Display for Code {
     fn fmt<W: Write>(&self, f: &mut Formatter<W>) -> fmt::Result {
         write!(f, "{} {:?}", self.number(), self)
