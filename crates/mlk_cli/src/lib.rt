@@ -4,6 +4,6 @@
 mod words;
 
 pub use words::{
-    Asked, Dialect, Format, Invocation, Output, ProgramRequest, ReportStyle, Request, StubsRequest,
+    Asked, Format, Invocation, Output, ProgramRequest, ReportStyle, Request, StubsRequest,
     SuggestRequest, SurveyOutput, SurveyRequest, UsageError, WantedStubs, read_request,
 };

@@ -9,6 +9,7 @@ ghost use Rattle.mlk_routine_arguments.specs.CommandGrammar.{IsKill, IsMerge, Is
 use crate::fault::{leaves_out, refusal_at};
 use crate::item::enclosed_items;
 use crate::part::{has_byte, name, variable};
+use mlk_dialect::Dialect;
 use mlk_expr::Allows;
 use mlk_syntax::{KillArgument, MergeArgument, NewArgument};
 use mlk_text::lexeme::word_at;
@@ -18,6 +19,7 @@ use std::alloc::Global;
 /// Reads an argument of KILL: the argument, and the byte after it.
 pub(crate) fn kill(
     alloc: Global,
+    dialect: Dialect,
     line: &[u8],
     at: usize,
 ) -> Result<(KillArgument, usize), Failure<Fault>>
@@ -25,7 +27,7 @@ pub(crate) fn kill(
     ensures { ReadsPart kill_of IsKill KillEnds line.now at result }
 {
     if has_byte(line, at, b'(') {
-        let (names, next) = enclosed_items(alloc, line, at)?;
+        let (names, next) = enclosed_items(alloc, dialect, line, at)?;
         return Ok((KillArgument::AllBut(List::from(names)), next));
     }
     let (one, next) = variable(alloc, Allows::Everything, line, at)?;
@@ -65,6 +67,7 @@ fn is_special(line: &[u8], at: usize) -> bool
 /// Reads an argument of NEW: the argument, and the byte after it. A special variable is refused as not read.
 pub(crate) fn new(
     alloc: Global,
+    dialect: Dialect,
     line: &[u8],
     at: usize,
 ) -> Result<(NewArgument, usize), Failure<Fault>>
@@ -72,7 +75,7 @@ pub(crate) fn new(
     ensures { ReadsPart new_of IsNew NewEnds line.now at result }
 {
     if has_byte(line, at, b'(') {
-        let (names, next) = enclosed_items(alloc, line, at)?;
+        let (names, next) = enclosed_items(alloc, dialect, line, at)?;
         return Ok((NewArgument::AllBut(List::from(names)), next));
     }
     if is_special(line, at) {

@@ -6,12 +6,14 @@ ghost use Rattle.mlk_expr.specs.declared.context.Allows.TheVariants.{NoTouches};
 ghost use Rattle.mlk_routine_arguments.specs.PartsRead.{Found, ReadsPart, byte_at};
 ghost use Rattle.mlk_routine_arguments.specs.Ends.{IsSign, SignEnds, OneEnds, VariableEnds, TimeoutEnds, LockEnds};
 ghost use Rattle.mlk_syntax.specs.Views.{variable_of, lock_of};
-ghost use Rattle.mlk_routine_arguments.specs.CommandGrammar.{IsVariable, IsOneOrEnclosed, IsLockTimeout, IsLock, in_names};
+ghost use Rattle.mlk_routine_arguments.specs.CommandGrammar.{IsVariable, IsOneOrEnclosed, IsLockTimeout, IsLock, after_names, in_names};
 
 use crate::fault::{leaves_out, refusal_at};
 use crate::item::one_or_enclosed;
 use crate::items::Unsigned;
 use crate::part::{expression, has_byte, is_argument_end};
+use crate::quiet::{in_timeout, is_quiet};
+use mlk_dialect::Dialect;
 use mlk_expr::Allows;
 use mlk_syntax::{Expr, LockArgument, Sign, Variable};
 use mlk_text::{Code, Failure, Fault, LeftOut};
@@ -41,6 +43,7 @@ fn variables(alloc: Global, names: Vec<Unsigned>) -> Result<Vec<Variable>, Alloc
 /// Reads the names of LOCK without a sign: the names, and the byte after them.
 fn unsigned_names(
     alloc: Global,
+    dialect: Dialect,
     line: &[u8],
     at: usize,
 ) -> Result<(Vec<Variable>, usize), Failure<Fault>>
@@ -48,7 +51,7 @@ fn unsigned_names(
     ensures { ReadsPart (λ v. map variable_of v.items) (IsOneOrEnclosed (IsVariable NoTouches))
         (OneEnds VariableEnds (byte_at line.now at)) line.now at result }
 {
-    let (names, next) = one_or_enclosed(alloc, line, at)?;
+    let (names, next) = one_or_enclosed(alloc, dialect, line, at)?;
     let names = variables(alloc, names)?;
     Ok((names, next))
 }
@@ -56,6 +59,7 @@ fn unsigned_names(
 /// Reads the names of LOCK: the names, and the byte after them. Without a sign less is allowed in them.
 fn names(
     alloc: Global,
+    dialect: Dialect,
     sign: Sign,
     line: &[u8],
     at: usize,
@@ -65,21 +69,22 @@ fn names(
         (OneEnds VariableEnds (byte_at line.now at)) line.now at result }
 {
     match sign {
-        Sign::None => unsigned_names(alloc, line, at),
-        Sign::Plus | Sign::Minus => one_or_enclosed(alloc, line, at),
+        Sign::None => unsigned_names(alloc, dialect, line, at),
+        Sign::Plus | Sign::Minus => one_or_enclosed(alloc, dialect, line, at),
     }
 }
 
-/// Reads the timeout, if there is one: its expression, and the byte after it. After `-` it is refused as not read. Without a
-/// timeout the argument must end here.
+/// Reads the timeout, if there is one: its expression, and the byte after it. After `+` it may contain what `plus` allows; after `-`
+/// it is refused as not read. Without a timeout the argument must end here.
 fn timeout(
     alloc: Global,
+    plus: Allows,
     sign: Sign,
     line: &[u8],
     at: usize,
 ) -> Result<(Option<Expr>, usize), Failure<Fault>>
     requires { at ≤ length line.now }
-    ensures { ReadsPart (option_map tree_of) (IsLockTimeout sign) TimeoutEnds line.now at result }
+    ensures { ReadsPart (option_map tree_of) (IsLockTimeout plus sign) TimeoutEnds line.now at result }
 {
     if is_argument_end(line, at) {
         return Ok((None, at));
@@ -89,25 +94,37 @@ fn timeout(
     }
     let allows = match sign {
         Sign::None => Allows::NoTouches,
-        Sign::Plus => Allows::NoCalls,
+        Sign::Plus => plus,
         Sign::Minus => return Err(leaves_out(alloc, LeftOut::Timeout, at)),
     };
     let (timeout, next) = expression(alloc, allows, line, at + 1)?;
     Ok((Some(timeout), next))
 }
 
+// What is allowed in the timeout of these names after `+`.
+fn after_names(dialect: Dialect, names: &[Variable]) -> Allows
+    ensures { result ≡ after_names dialect (map variable_of names.now) }
+{
+    match dialect {
+        Dialect::Standard => Allows::NoCalls,
+        Dialect::Extended => in_timeout(names.iter().all(|name| is_quiet(name))),
+    }
+}
+
 /// Reads an argument of LOCK: the argument, and the byte after it.
 pub(crate) fn lock(
     alloc: Global,
+    dialect: Dialect,
     line: &[u8],
     at: usize,
 ) -> Result<(LockArgument, usize), Failure<Fault>>
     requires { at ≤ length line.now }
-    ensures { ReadsPart lock_of IsLock LockEnds line.now at result }
+    ensures { ReadsPart lock_of (IsLock dialect) LockEnds line.now at result }
 {
     let (sign, next) = sign(line, at);
-    let (names, next) = names(alloc, sign, line, next)?;
-    let (timeout, next) = timeout(alloc, sign, line, next)?;
+    let (names, next) = names(alloc, dialect, sign, line, next)?;
+    let plus = after_names(dialect, names.as_slice());
+    let (timeout, next) = timeout(alloc, plus, sign, line, next)?;
     Ok((
         LockArgument {
             sign,

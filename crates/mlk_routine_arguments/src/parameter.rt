@@ -10,6 +10,7 @@ ghost use Rattle.mlk_routine_arguments.specs.CommandGrammar.{IsParameter, IsCont
 use crate::fault::{leaves_out, refusal_at};
 use crate::item::item_list;
 use crate::part::{expr_after, expression, has_byte, name};
+use mlk_dialect::Dialect;
 use mlk_expr::Allows;
 use mlk_syntax::{Control, Parameter};
 use mlk_text::{Code, Column, Failure, Fault, LeftOut};
@@ -37,7 +38,12 @@ pub(crate) fn parameter(
 }
 
 /// Reads FOR's variable and its parameters: both, and the byte after them. A variable with subscripts is refused as not read.
-pub fn control(alloc: Global, line: &[u8], at: usize) -> Result<(Control, usize), Failure<Fault>>
+pub fn control(
+    alloc: Global,
+    dialect: Dialect,
+    line: &[u8],
+    at: usize,
+) -> Result<(Control, usize), Failure<Fault>>
     requires { at ≤ length line.now }
     ensures { ReadsPart control_of IsControl ControlEnds line.now at result }
 {
@@ -48,7 +54,7 @@ pub fn control(alloc: Global, line: &[u8], at: usize) -> Result<(Control, usize)
     if !has_byte(line, next, b'=') {
         return Err(refusal_at(alloc, Code::ArgumentForm, next));
     }
-    let (parameters, next) = item_list(alloc, line, next + 1)?;
+    let (parameters, next) = item_list(alloc, dialect, line, next + 1)?;
     let column = Column::at(at + 1);
     Ok((
         Control {

@@ -67,7 +67,7 @@ routines-spelled stem text (Named_routine name lines) (texts, stemmed, named, sm
 no : {A : Type 0} → false ≡ true → A
 no h = absurd (cc h)
 
-quits : (may : Bool) (at : ℕ) (c : CommandTree) (s : List ℕ) → IsCommand may at c s → answers c ≡ true → may ≡ true
+quits : (may : Bool) (at : ℕ) (c : CommandTree) (s : List ℕ) → IsCommand d may at c s → answers c ≡ true → may ≡ true
 quits may at (Does column condition (Quit (Some t))) s (is, conditioned, (front, rest, joined, word, (front', rest', joined', cond, (returns, more)))) h = returns
 quits may at (Does column condition (Do calls)) s is h = no h
 quits may at (Does column condition Else) s is h = no h
@@ -85,7 +85,7 @@ quits may at (Does column condition (Set sets)) s is h = no h
 quits may at (Does column condition (Write writes)) s is h = no h
 
 -- and none behind a FOR
-answer_at_end : (level loops at : ℕ) (cs : CommandTrees) (s : List ℕ) → AreCommands level loops at cs s → AnswersAtEnd ((level == 1) && (loops == 0)) cs
+answer_at_end : (level loops at : ℕ) (cs : CommandTrees) (s : List ℕ) → AreCommands d level loops at cs s → AnswersAtEnd ((level == 1) && (loops == 0)) cs
 answer_at_end level loops at finished s h = tt
 answer_at_end level loops at (then_command c rest) s (text, gap, following, joined, is, gapped, more) =
     (quits ((level == 1) && (loops == 0)) at c text is, answer_at_end level loops _ rest following more)
@@ -162,7 +162,7 @@ list_reads reads at s (first, others, front, rest, same, joined, is, more) =
     subst (λ rs. list_all reads_local rs ≡ true) (sym same)
     (and_from (reads_local first) (list_all reads_local others) (argument_reads at first front is) (next_reads others _ rest more))
 
-command_reads : (may : Bool) (at : ℕ) (c : CommandTree) (s : List ℕ) → IsCommand may at c s → reads_locals c ≡ true
+command_reads : (may : Bool) (at : ℕ) (c : CommandTree) (s : List ℕ) → IsCommand d may at c s → reads_locals c ≡ true
 command_reads may at (Does column condition (Read reads)) s (is, conditioned, (front, rest, joined, word, (front', rest', joined', cond, (after, space, list)))) = list_reads reads _ after list
 command_reads may at (Does column condition (Do calls)) s is = refl
 command_reads may at (Does column condition Else) s is = refl
@@ -178,7 +178,7 @@ command_reads may at (Does column condition (Quit value)) s is = refl
 command_reads may at (Does column condition (Set sets)) s is = refl
 command_reads may at (Does column condition (Write writes)) s is = refl
 
-commands_read : (level loops at : ℕ) (cs : CommandTrees) (s : List ℕ) → AreCommands level loops at cs s → ReadsLocals cs
+commands_read : (level loops at : ℕ) (cs : CommandTrees) (s : List ℕ) → AreCommands d level loops at cs s → ReadsLocals cs
 commands_read level loops at finished s h = tt
 commands_read level loops at (then_command c rest) s (text, gap, following, joined, is, gapped, more) =
     (command_reads ((level == 1) && (loops == 0)) at c text is, commands_read level loops _ rest following more)

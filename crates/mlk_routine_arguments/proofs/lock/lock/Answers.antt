@@ -10,21 +10,21 @@ pub returns-in_err-names : goal.returns-in_err-names
 returns-in_err-names c =
     let p = err_from_is_err_and c.from_residual.result c.from_residual.ensures.1 in
     let s = c.sign-sign.result in
-    rw (p.1, p.2) (denied_second (lock_parts c.args.line.now c.args.at) c.requires (s.0) (s.1) c.sign-sign.ensures c.in_err-names.field-0.0
-    (denied_first (timed_parts (s.0) c.args.line.now (s.1)) c.sign-sign.ensures.0.within c.in_err-names.field-0.0 c.in_err-names.ensures))
+    rw (p.1, p.2) (denied_second (lock_parts c.args.dialect c.args.line.now c.args.at) c.requires (s.0) (s.1) c.sign-sign.ensures c.in_err-names.field-0.0
+    (denied_first (timed_parts c.args.dialect (s.0) c.args.line.now (s.1)) c.sign-sign.ensures.0.within c.in_err-names.field-0.0 c.in_err-names.ensures))
 
 pub returns-in_err-timeout : goal.returns-in_err-timeout
 returns-in_err-timeout c =
     let p = err_from_is_err_and c.from_residual-in_err-timeout.result c.from_residual-in_err-timeout.ensures.1 in
     let s = c.sign-sign.result in
     let names = map variable_of c.in_ok-names.names.items in
-    rw (p.1, p.2) (denied_second (lock_parts c.args.line.now c.args.at) c.requires (s.0) (s.1) c.sign-sign.ensures c.in_err-timeout.field-0.0
-    (denied_second (timed_parts (s.0) c.args.line.now (s.1)) c.sign-sign.ensures.0.within names c.in_ok-names.next c.in_ok-names.ensures c.in_err-timeout.field-0.0 c.in_err-timeout.ensures))
+    rw (p.1, p.2) (denied_second (lock_parts c.args.dialect c.args.line.now c.args.at) c.requires (s.0) (s.1) c.sign-sign.ensures c.in_err-timeout.field-0.0
+    (denied_second (timed_parts c.args.dialect (s.0) c.args.line.now (s.1)) c.sign-sign.ensures.0.within names c.in_ok-names.next c.in_ok-names.ensures c.in_err-timeout.field-0.0 c.in_err-timeout.ensures))
 
 pub returns : goal.returns
 returns c =
     let s = c.sign-sign.result in
     let names = map variable_of c.in_ok-names.names.items in
     let timeout = option_map tree_of c.in_ok-timeout.timeout in
-    both_found (lock_parts c.args.line.now c.args.at) c.requires (s.0) (names, timeout) (s.1) c.in_ok-timeout.next c.sign-sign.ensures
-    (both_found (timed_parts (s.0) c.args.line.now (s.1)) c.sign-sign.ensures.0.within names timeout c.in_ok-names.next c.in_ok-timeout.next c.in_ok-names.ensures c.in_ok-timeout.ensures)
+    both_found (lock_parts c.args.dialect c.args.line.now c.args.at) c.requires (s.0) (names, timeout) (s.1) c.in_ok-timeout.next c.sign-sign.ensures
+    (both_found (timed_parts c.args.dialect (s.0) c.args.line.now (s.1)) c.sign-sign.ensures.0.within names timeout c.in_ok-names.next c.in_ok-timeout.next c.in_ok-names.ensures c.in_ok-timeout.ensures)
