@@ -7,8 +7,9 @@ use Rattle.mlk_dialect.specs.Plain.{plain, inert}
 use Rattle.mlk_app.specs.declared.dialect.PlainSources.{PlainSources}
 use Rattle.mlk_app.specs.declared.source.Sources.{Sources}
 
--- the routine with its plain text
+-- the routine with its plain text, to be read in the extended dialect
 pub record IsPlain (source read : Source) : Type 0 where
+  pub dialect : read.dialect ≡ dialect.Extended
   pub stem : read.stem.now ≡ source.stem.now
   pub text : read.text.items ≡ plain source.text.items
 

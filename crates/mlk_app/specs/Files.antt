@@ -50,7 +50,7 @@ texts_below found = option_map (λ v. map string_bytes v.items) found
 
 -- a routine is the text at its path, under the stem of its file's name
 abbrev pub IsSource : Texts → List ℕ → Source → Type 0
-IsSource holds path source = IsPathStem path source.stem.now × holds path source.text.items
+IsSource holds path source = (source.dialect ≡ dialect.Standard) × IsPathStem path source.stem.now × holds path source.text.items
 
 -- the routines are those of these paths, in order, and no others
 abbrev pub AreSources : Texts → List (Bor (List ℕ)) → List Source → Type 0

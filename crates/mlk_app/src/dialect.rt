@@ -4,8 +4,7 @@ ghost use Rattle.std.specs.Prelude.{◌≡◌, min, IfOk};
 ghost use Rattle.mlk_dialect.specs.Plain.{inert};
 ghost use Rattle.mlk_app.specs.Dialects.{IsPlain, ArePlain, ArePlainIn, inert_of};
 
-use mlk_cli::Dialect;
-use mlk_dialect::{PlainText, plain_text};
+use mlk_dialect::{Dialect, PlainText, plain_text};
 use mlk_pool::Source;
 use std::alloc::{AllocError, Global};
 
@@ -29,9 +28,13 @@ fn plain_source<'a>(alloc: Global, source: &Source<'a>) -> Result<PlainSource<'a
     ensures inert { IfOk result (λ p. p.inert ≡ inert source.now.text.items) }
 {
     let PlainText { text, inert } = plain_text(alloc, source.text.as_slice())?;
-    let stem = source.stem;
+    let source = Source {
+        dialect: Dialect::Extended,
+        stem: source.stem,
+        text,
+    };
     Ok(PlainSource {
-        source: Source { stem, text },
+        source,
         inert,
     })
 }

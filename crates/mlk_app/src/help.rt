@@ -5,7 +5,8 @@ use crate::source::{Files, Sources};
 use crate::stuck::push_faults;
 use crate::work::style_in;
 use mlk_cert::CertFault;
-use mlk_cli::{Dialect, ProgramRequest};
+use mlk_cli::ProgramRequest;
+use mlk_dialect::Dialect;
 use mlk_outcome::NoReport;
 use mlk_pool::CheckError;
 use mlk_refusal_text::{

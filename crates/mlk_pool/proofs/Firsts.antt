@@ -14,7 +14,7 @@ use Rattle.mlk_pool.specs.Reading.{IsRead, AreRead, RefusesFirst}
 use Rattle.mlk_pool.specs.Answers.{IsAnswer, IsFirstError}
 
 pub first-refused : (sources front after : List Source) (source : Source) (trees : List RoutineTree) (e : Failure Fault)
-    → sources ≡ front ++ source ∷ after → AreRead front trees → NoRoutine source.stem.now source.text.items e → Places source.stem.now source.text.items e
+    → sources ≡ front ++ source ∷ after → AreRead front trees → NoRoutine source.dialect source.stem.now source.text.items e → Places source.stem.now source.text.items e
     → RefusesFirst sources e
 first-refused sources front after source trees failure.OutOfMemory cut read none place = record {}
 first-refused sources front after source trees (failure.Refused fault) cut read none place = record {

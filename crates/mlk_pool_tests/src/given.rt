@@ -3,6 +3,7 @@
 use crate::halves::{FOUR_LINES, are_same_at_each_depth, long_routine, meet_in_halves};
 use crate::reports::{Run, is_reported, is_verified};
 use crate::working::meet_at_work;
+use mlk_dialect::Dialect;
 use mlk_cert::{CertFormat, Spelled};
 use mlk_make::make;
 use mlk_program::{Program, link};
@@ -100,7 +101,7 @@ fn is_linked_so<R: Threads + Wait + Sync>(
 
 fn is_so<R: Threads + Wait + Sync>(rt: &R, alloc: Global, trial: Trial) -> Option<bool> {
     let text = trial.routine(alloc).ok()?;
-    let routine = read_routine(alloc, b"R", text.as_slice()).ok()?;
+    let routine = read_routine(alloc, Dialect::Standard, b"R", text.as_slice()).ok()?;
     is_linked_so(rt, alloc, &[routine], trial)
 }
 

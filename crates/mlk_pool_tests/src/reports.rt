@@ -2,6 +2,7 @@
 
 use crate::gates::{EACH_ONCE, Holds, Turnstile};
 use crate::given::{TWELVE, TWELVE_RULES, Trial, passes};
+use mlk_dialect::Dialect;
 use mlk_cert::Certificate;
 use mlk_pool::{CheckError, ProgramReport, Source, read_routines, render, report_by, verify};
 use mlk_program::Program;
@@ -83,7 +84,12 @@ pub(crate) fn is_verified<R: Threads + Wait + Sync>(
     let gate = Turnstile::new(run.holds);
     let text = Vec::from_slice(alloc, TWELVE).ok()?;
     let mut sources = Vec::new(alloc);
-    sources.push(Source { stem: b"R", text }).ok()?;
+    let source = Source {
+        dialect: Dialect::Standard,
+        stem: b"R",
+        text,
+    };
+    sources.push(source).ok()?;
     let answer = verify(
         rt,
         alloc,

@@ -25,6 +25,7 @@ ghost use Rattle.std.specs.Prelude.{◌<◌};
 use crate::number::{answer_canonical, answer_whole};
 use crate::part::answer_part;
 use bstr::ByteSlice;
+use mlk_dialect::Dialect;
 use mlk_cert::{CertFault, Certificate, Summary, read_cert};
 use mlk_names::{KnownSym, LockTerm};
 use mlk_program::link;
@@ -108,12 +109,12 @@ pub(crate) fn no_memory() -> io::Error {
 }
 
 fn read_alone(alloc: Global, text: &[u8]) -> Result<(), Failure<Fault>> {
-    read_routine(alloc, b"R", text)?;
+    read_routine(alloc, Dialect::Standard, b"R", text)?;
     Ok(())
 }
 
 fn link_alone(alloc: Global, text: &[u8]) -> Result<(), Failure<Fault>> {
-    let routines = [read_routine(alloc, b"R", text)?];
+    let routines = [read_routine(alloc, Dialect::Standard, b"R", text)?];
     link(alloc, &routines)?;
     Ok(())
 }
