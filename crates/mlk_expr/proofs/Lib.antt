@@ -1,4 +1,4 @@
-pub mod Quiet
+pub mod QuietParts
 pub mod Followed
 pub mod Runs
 pub mod OperatorSpelling

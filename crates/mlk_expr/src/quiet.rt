@@ -12,7 +12,7 @@ use mlk_text::Op;
 
 /// Whether `e` touches no global and calls nothing.
 #[cycle(quiet)]
-#[tactic(auto, using(crate::proofs::Quiet::of_func, crate::proofs::Quiet::of_local, crate::proofs::Quiet::of_binary, crate::proofs::Quiet::of_select))]
+#[tactic(auto, using(crate::proofs::QuietParts::of_func, crate::proofs::QuietParts::of_local, crate::proofs::QuietParts::of_binary, crate::proofs::QuietParts::of_select))]
 pub fn is_quiet_expr(e: &Expr) -> bool
     ensures { result ≡ may_stand NoTouches (tree_of e.now) }
 {
@@ -76,7 +76,7 @@ fn are_quiet_choices(choices: &[(Expr, Expr)]) -> bool
 }
 
 /// Whether the subscripts of the local or global `name` touch no global and call nothing.
-#[tactic(auto, using(crate::proofs::Quiet::of_local))]
+#[tactic(auto, using(crate::proofs::QuietParts::of_local))]
 pub fn are_subscripts_quiet(name: &Expr) -> bool
     ensures { result ≡ subs_stand NoTouches (tree_of name.now) }
 {

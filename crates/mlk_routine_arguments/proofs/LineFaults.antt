@@ -33,14 +33,14 @@ made_fault line code left_out at (Refused fault) t coded worded less =
       last = omega (arith, place, low, less);
     }
 
-no_command : (p : Passing) (n : ℕ) → expr.is_line_code p n ≡ true → (n == 102) ≡ has_word n
+no_command : (p : Passing) (n : ℕ) → expr.is_expression_code p n ≡ true → (n == 102) ≡ has_word n
 no_command p n h = go (lends p) h
   where
     go : (b : Bool) → ((nat_le 101 n && nat_le n 104) || (not b && (n == 207))) ≡ true → (n == 102) ≡ has_word n
     go true h = grind (arith, nat_tests)
     go false h = grind (arith, nat_tests)
 
-known : (p : Passing) (n : ℕ) → expr.is_line_code p n ≡ true → is_line_code n ≡ true
+known : (p : Passing) (n : ℕ) → expr.is_expression_code p n ≡ true → is_line_code n ≡ true
 known p n h = go (lends p) h
   where
     go : (b : Bool) → ((nat_le 101 n && nat_le n 104) || (not b && (n == 207))) ≡ true → is_line_code n ≡ true

@@ -1,12 +1,13 @@
 // The arguments of LOCK.
 
 ghost use Rattle.std.specs.Prelude.{◌≡◌, ◌≤◌, length, map, option_map, IfOk};
+ghost use Rattle.std.specs.List.{list_all};
 ghost use Rattle.mlk_syntax.specs.ExprTrees.{tree_of};
 ghost use Rattle.mlk_expr.specs.declared.context.Allows.TheVariants.{NoTouches};
 ghost use Rattle.mlk_routine_arguments.specs.PartsRead.{Found, ReadsPart, byte_at};
 ghost use Rattle.mlk_routine_arguments.specs.Ends.{IsSign, SignEnds, OneEnds, VariableEnds, TimeoutEnds, LockEnds};
 ghost use Rattle.mlk_syntax.specs.Views.{variable_of, lock_of};
-ghost use Rattle.mlk_routine_arguments.specs.CommandGrammar.{IsVariable, IsOneOrEnclosed, IsLockTimeout, IsLock, after_names, in_names};
+ghost use Rattle.mlk_routine_arguments.specs.CommandGrammar.{IsVariable, IsOneOrEnclosed, IsLockTimeout, IsLock, after_names, in_names, is_quiet};
 
 use crate::fault::{leaves_out, refusal_at};
 use crate::item::one_or_enclosed;
@@ -101,13 +102,19 @@ fn timeout(
     Ok((Some(timeout), next))
 }
 
+fn are_quiet(names: &[Variable]) -> bool
+    ensures { result ≡ list_all (λ name. is_quiet (variable_of name)) names.now }
+{
+    names.iter().all(|name| is_quiet(name))
+}
+
 // What is allowed in the timeout of these names after `+`.
 fn after_names(dialect: Dialect, names: &[Variable]) -> Allows
     ensures { result ≡ after_names dialect (map variable_of names.now) }
 {
     match dialect {
         Dialect::Standard => Allows::NoCalls,
-        Dialect::Extended => in_timeout(names.iter().all(|name| is_quiet(name))),
+        Dialect::Extended => in_timeout(are_quiet(names)),
     }
 }
 

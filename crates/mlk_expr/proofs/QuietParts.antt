@@ -2,7 +2,6 @@
 use Rattle.std.proofs.Common.{◌≡◌, refl, ap, ◌∙◌, ℕ, List, [], ◌∷◌, Vec, Box, Global}
 use Rattle.std.specs.Prelude.{◌&&◌}
 use Rattle.std.specs.List.{list_all}
-use Rattle.std.proofs.lemmas.Bool.{and_assoc}
 use Rattle.mlk_text.specs.declared.operator.Op.{Op}
 use Rattle.mlk_syntax.specs.declared.expr.Expr.{Expr}
 use Rattle.mlk_syntax.specs.declared.expr.Subscript.{Subscript}
