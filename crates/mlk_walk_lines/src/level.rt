@@ -87,7 +87,7 @@ fn without_first(lines: &[Line]) -> &[Line]
     }
 }
 
-/// Walks one line alone, whose block may end in the cases `ends`. Adds the faults, and returns the cases in which the block
+/// Walks one line alone, whose block may end in the cases `inner`. Adds the faults, and returns the cases in which the block
 /// that contains the line may end. `next` is the line at which a job continues.
 pub fn walk_alone<'a>(
     alloc: Global,
