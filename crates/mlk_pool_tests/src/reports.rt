@@ -84,15 +84,18 @@ pub(crate) fn is_verified<R: Threads + Wait + Sync>(
     let text = Vec::from_slice(alloc, TWELVE).ok()?;
     let mut sources = Vec::new(alloc);
     sources.push(Source { stem: b"R", text }).ok()?;
-    let answer = verify(
+    let runner = Runner {
         rt,
         alloc,
+        watch: &Unwatched,
+    };
+    let answer = verify(
+        &runner,
         sources.as_slice(),
         TWELVE_RULES,
         certificate,
         run.workers,
         &gate,
-        &Unwatched,
     );
     let is_so = match &answer {
         Ok(report) => matches!(run.end, End::Report) && is_the_report(alloc, report),
