@@ -90,15 +90,18 @@ pub(crate) fn is_verified<R: Threads + Wait + Sync>(
         text,
     };
     sources.push(source).ok()?;
-    let answer = verify(
+    let runner = Runner {
         rt,
         alloc,
+        watch: &Unwatched,
+    };
+    let answer = verify(
+        &runner,
         sources.as_slice(),
         TWELVE_RULES,
         certificate,
         run.workers,
         &gate,
-        &Unwatched,
     );
     let is_so = match &answer {
         Ok(report) => matches!(run.end, End::Report) && is_the_report(alloc, report),

@@ -27,6 +27,13 @@ pub enum Around<'a> {
     Frame(Option<&'a Line>),
 }
 
+/// What is around a line: its block or its frame, and the line at which a job continues after it, if there is one.
+#[derive(Clone, Copy, Drop)]
+pub struct Surroundings<'a> {
+    pub around: Around<'a>,
+    pub next: Option<&'a Line>,
+}
+
 /// The end of a line: what contains the lines of its level, the next of them, the line's number and level, and the column
 /// after its last byte.
 #[derive(Clone, Copy, Drop)]
