@@ -7,9 +7,12 @@ use mlk_text::{Column, Fault, LeftOut};
 use std::alloc::{AllocError, Global};
 
 const VALUE: &str = "`--dialect extended` reads it, as any value";
+
 const LINE: &str =
     "`--dialect extended` reads it, as any value, if names and digits alone say which line";
+
 const SIGNS: &str = "`--dialect extended` reads `<=` and `>=`";
+
 const TAB: &str = "`--dialect extended` reads a TAB as a space";
 
 // The name of the function or the special variable at `column`, without its `$`.
