@@ -33,10 +33,7 @@ fn plain_source<'a>(alloc: Global, source: &Source<'a>) -> Result<PlainSource<'a
         stem: source.stem,
         text,
     };
-    Ok(PlainSource {
-        source,
-        inert,
-    })
+    Ok(PlainSource { source, inert })
 }
 
 // The routines with their plain texts, in their order.

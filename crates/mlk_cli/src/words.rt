@@ -10,8 +10,8 @@ ghost use Rattle.mlk_cli.specs.CommandLine.{GivesNumber, GivesFormat, NamesOutpu
 
 use clap::error::ErrorKind;
 use clap::{ArgMatches, Error};
-use mlk_dialect::Dialect;
 use mlk_cli_grammar::grammar;
+use mlk_dialect::Dialect;
 use std::alloc::{AllocError, Global};
 
 // How the option begins that names a file which lists routines.

@@ -81,7 +81,9 @@ pub fn are_subscripts_quiet(name: &Expr) -> bool
     ensures { result ≡ subs_stand NoTouches (tree_of name.now) }
 {
     match name {
-        Expr::Local(_, subscripts) | Expr::Global(_, _, subscripts) => are_quiet_subscripts(subscripts),
+        Expr::Local(_, subscripts) | Expr::Global(_, _, subscripts) => are_quiet_subscripts(
+            subscripts,
+        ),
         _ => true,
     }
 }

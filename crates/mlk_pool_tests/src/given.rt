@@ -3,8 +3,8 @@
 use crate::halves::{FOUR_LINES, are_same_at_each_depth, long_routine, meet_in_halves};
 use crate::reports::{Run, is_reported, is_verified};
 use crate::working::meet_at_work;
-use mlk_dialect::Dialect;
 use mlk_cert::{CertFormat, Spelled};
+use mlk_dialect::Dialect;
 use mlk_make::make;
 use mlk_program::{Program, link};
 use mlk_routine::read_routine;

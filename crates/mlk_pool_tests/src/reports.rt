@@ -2,8 +2,8 @@
 
 use crate::gates::{EACH_ONCE, Holds, Turnstile};
 use crate::given::{TWELVE, TWELVE_RULES, Trial, passes};
-use mlk_dialect::Dialect;
 use mlk_cert::Certificate;
+use mlk_dialect::Dialect;
 use mlk_pool::{CheckError, ProgramReport, Source, read_routines, render, report_by, verify};
 use mlk_program::Program;
 use mlk_rules::Rules;

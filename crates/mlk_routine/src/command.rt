@@ -162,21 +162,57 @@ fn action(
     ensures { ReadsPart action_of (IsActionOf word manner.dialect manner.returns) ActionEnds line.now at result }
 {
     match word {
-        Word::Do => turned!(optional_arguments(alloc, manner.dialect, line, at), Action::Do),
+        Word::Do => turned!(
+            optional_arguments(alloc, manner.dialect, line, at),
+            Action::Do
+        ),
         Word::Else => Ok((Action::Else, no_arguments(alloc, line, at)?)),
         Word::Halt => Ok((Action::Halt, no_arguments(alloc, line, at)?)),
-        Word::Hang => turned!(required_arguments(alloc, manner.dialect, line, at), Action::Hang),
-        Word::HaltOrHang => turned!(optional_arguments(alloc, manner.dialect, line, at), halt_or_hang),
-        Word::If => turned!(optional_arguments(alloc, manner.dialect, line, at), Action::If),
-        Word::Job => turned!(required_arguments(alloc, manner.dialect, line, at), Action::Job),
-        Word::Kill => turned!(optional_arguments(alloc, manner.dialect, line, at), Action::Kill),
-        Word::Lock => turned!(optional_arguments(alloc, manner.dialect, line, at), Action::Lock),
-        Word::Merge => turned!(required_arguments(alloc, manner.dialect, line, at), Action::Merge),
-        Word::New => turned!(optional_arguments(alloc, manner.dialect, line, at), Action::New),
+        Word::Hang => turned!(
+            required_arguments(alloc, manner.dialect, line, at),
+            Action::Hang
+        ),
+        Word::HaltOrHang => turned!(
+            optional_arguments(alloc, manner.dialect, line, at),
+            halt_or_hang
+        ),
+        Word::If => turned!(
+            optional_arguments(alloc, manner.dialect, line, at),
+            Action::If
+        ),
+        Word::Job => turned!(
+            required_arguments(alloc, manner.dialect, line, at),
+            Action::Job
+        ),
+        Word::Kill => turned!(
+            optional_arguments(alloc, manner.dialect, line, at),
+            Action::Kill
+        ),
+        Word::Lock => turned!(
+            optional_arguments(alloc, manner.dialect, line, at),
+            Action::Lock
+        ),
+        Word::Merge => turned!(
+            required_arguments(alloc, manner.dialect, line, at),
+            Action::Merge
+        ),
+        Word::New => turned!(
+            optional_arguments(alloc, manner.dialect, line, at),
+            Action::New
+        ),
         Word::Quit => turned!(quit_value(alloc, manner.returns, line, at), Action::Quit),
-        Word::Read => turned!(required_arguments(alloc, manner.dialect, line, at), Action::Read),
-        Word::Set => turned!(required_arguments(alloc, manner.dialect, line, at), Action::Set),
-        Word::Write => turned!(required_arguments(alloc, manner.dialect, line, at), Action::Write),
+        Word::Read => turned!(
+            required_arguments(alloc, manner.dialect, line, at),
+            Action::Read
+        ),
+        Word::Set => turned!(
+            required_arguments(alloc, manner.dialect, line, at),
+            Action::Set
+        ),
+        Word::Write => turned!(
+            required_arguments(alloc, manner.dialect, line, at),
+            Action::Write
+        ),
     }
 }
 

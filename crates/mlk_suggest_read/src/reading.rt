@@ -59,7 +59,11 @@ fn line_alone(alloc: Global, line: &[u8]) -> Result<Vec<u8>, AllocError> {
 }
 
 // The fault of `text` if it is read as the routine of `source`.
-fn fault_of(alloc: Global, source: &RoutineText<'_>, text: &[u8]) -> Result<Option<Fault>, AllocError> {
+fn fault_of(
+    alloc: Global,
+    source: &RoutineText<'_>,
+    text: &[u8],
+) -> Result<Option<Fault>, AllocError> {
     match read_routine(alloc, source.dialect, source.stem, text) {
         Ok(_routine) => Ok(None),
         Err(Failure::Refused(fault)) => Ok(Some(fault)),
@@ -100,7 +104,11 @@ fn readable_part(
 }
 
 // The readable part of commands after the maximum number of cuts; empty if that can't be read either.
-fn readable_commands(alloc: Global, source: &RoutineText<'_>, commands: &[u8]) -> Result<Vec<u8>, AllocError> {
+fn readable_commands(
+    alloc: Global,
+    source: &RoutineText<'_>,
+    commands: &[u8],
+) -> Result<Vec<u8>, AllocError> {
     let mut left = Vec::from_slice(alloc, commands)?;
     for _ in 0..MOST_CUTS {
         let Some(fault) = fault_of(alloc, source, left.as_slice())? else {
