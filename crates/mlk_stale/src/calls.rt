@@ -1,0 +1,132 @@
+// Calls and returns on a path.
+
+use crate::path::{Frame, Path};
+use crate::step::{Call, CallKind};
+use crate::worth::{Namer, Worth};
+use mlk_syntax::Actual;
+use mlk_text::{Name, push_sparing};
+use std::alloc::{AllocError, Global};
+
+// The name that is passed by reference for the formal with this index, or `None`.
+fn passed_name<'a>(call: &Call<'a>, index: usize) -> Option<&'a Name> {
+    match call.actuals.get(index) {
+        Some(Actual::ByRef(_, name)) => Some(name),
+        _ => None,
+    }
+}
+
+impl<'a> Path<'a> {
+    // The value that is passed for the formal with this index, or `None`.
+    fn passed_worth(
+        &mut self,
+        namer: &mut Namer,
+        call: &Call<'a>,
+        worths: &[Worth],
+        index: usize,
+    ) -> Result<Option<Worth>, AllocError> {
+        match call.actuals.get(index) {
+            Some(Actual::ByRef(_, name)) => Ok(Some(self.worth_of(namer, name)?)),
+            Some(Actual::Value(_)) => match worths.get(index) {
+                Some(worth) => Ok(Some(worth.clone()?)),
+                None => Ok(None),
+            },
+            _ => Ok(None),
+        }
+    }
+
+    // The values that are passed for all formals.
+    fn passed_worths(
+        &mut self,
+        alloc: Global,
+        namer: &mut Namer,
+        call: &Call<'a>,
+    ) -> Result<Vec<Option<Worth>>, AllocError> {
+        let worths = self.take(alloc, call.actuals.len())?;
+        let mut passed = Vec::new(alloc);
+        for index in 0..call.formals.len() {
+            let worth = self.passed_worth(namer, call, worths.as_slice(), index)?;
+            push_sparing(&mut passed, worth)?;
+        }
+        Ok(passed)
+    }
+
+    /// Makes a call of the lines at a step: the formals get the actuals, which are taken off the stack.
+    pub(crate) fn enter(
+        &mut self,
+        alloc: Global,
+        namer: &mut Namer,
+        call: &Call<'a>,
+        target: usize,
+    ) -> Result<(), AllocError> {
+        let passed = self.passed_worths(alloc, namer, call)?;
+        let frame = Frame {
+            call: *call,
+            back: self.at,
+            hidden: Vec::new(alloc),
+            height: self.stack.len(),
+            test: self.test,
+        };
+        push_sparing(&mut self.frames, frame)?;
+        for (formal, worth) in call.formals.iter().zip(passed) {
+            self.hide(formal, worth)?;
+        }
+        self.at = target;
+        Ok(())
+    }
+
+    // The values of the formals to which names are passed by reference, each with the name.
+    fn outcomes(
+        &mut self,
+        alloc: Global,
+        namer: &mut Namer,
+        call: &Call<'a>,
+    ) -> Result<Vec<(&'a Name, Worth)>, AllocError> {
+        let mut outcomes = Vec::new(alloc);
+        for (index, formal) in call.formals.iter().enumerate() {
+            if let Some(name) = passed_name(call, index) {
+                let worth = self.worth_of(namer, formal)?;
+                push_sparing(&mut outcomes, (name, worth))?;
+            }
+        }
+        Ok(outcomes)
+    }
+
+    /// Returns from the innermost call with this value, if there is one. Returns whether there was a call.
+    pub(crate) fn leave(
+        &mut self,
+        alloc: Global,
+        namer: &mut Namer,
+        value: Option<Worth>,
+    ) -> Result<bool, AllocError> {
+        let Some(frame) = self.frames.pop() else {
+            return Ok(false);
+        };
+        let Frame {
+            call,
+            back,
+            hidden,
+            height,
+            test,
+        } = frame;
+        let outcomes = self.outcomes(alloc, namer, &call)?;
+        for local in hidden.into_iter().rev() {
+            let _ = self.replace(local.name, local.worth)?;
+        }
+        for (name, worth) in outcomes {
+            let _ = self.replace(name.as_bytes(), Some(worth))?;
+        }
+        self.stack.truncate(height);
+        if call.kind == CallKind::Extrinsic {
+            let worth = match value {
+                Some(worth) => worth,
+                None => namer.make_unknown()?,
+            };
+            self.put(worth)?;
+        }
+        if call.kind != CallKind::Do {
+            self.test = test;
+        }
+        self.at = back;
+        Ok(true)
+    }
+}

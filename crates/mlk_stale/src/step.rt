@@ -1,0 +1,234 @@
+// The steps of routines: what lines do, one thing at a time, by a stack of values.
+
+use mlk_names::Extent;
+use mlk_program::EntryId;
+use mlk_survey_trees::Position;
+use mlk_syntax::{Actual, Expr, LockArgument, Special};
+use mlk_text::{Name, UnaryOp, Value};
+
+/// What is known of a condition.
+#[derive(Clone, Copy, Drop)]
+pub(crate) enum Condition {
+    /// it holds if `$TEST` has this value
+    Test(bool),
+    /// it always has this value
+    Always(bool),
+    /// not known
+    Open,
+}
+
+impl Condition {
+    // The condition that holds if this one does not.
+    fn opposite(self) -> Condition {
+        match self {
+            Condition::Test(is_set) => Condition::Test(!is_set),
+            Condition::Always(holds) => Condition::Always(!holds),
+            Condition::Open => Condition::Open,
+        }
+    }
+
+    /// Whether it may have this answer where `$TEST` is `test`.
+    pub(crate) fn may_be(self, test: Option<bool>, answer: bool) -> bool {
+        match self {
+            Condition::Always(holds) => holds == answer,
+            Condition::Open => true,
+            Condition::Test(is_set) => match test {
+                Some(test) => (test == is_set) == answer,
+                None => true,
+            },
+        }
+    }
+
+    /// What is known of the condition `e`: it is known if it is `$TEST`, `0`, `1`, or `'` before one of these.
+    pub(crate) fn of(e: &Expr) -> Condition {
+        match e {
+            Expr::Special(Special::Test) => Condition::Test(true),
+            Expr::Lit(value) if value.as_bytes() == b"0".as_slice() => Condition::Always(false),
+            Expr::Lit(value) if value.as_bytes() == b"1".as_slice() => Condition::Always(true),
+            Expr::Unary(UnaryOp::Not, operand) => Condition::of(operand).opposite(),
+            _ => Condition::Open,
+        }
+    }
+}
+
+/// `$TEST` after a condition, for each answer.
+#[derive(Clone, Copy, Drop)]
+pub(crate) struct Tests {
+    pub(crate) held: Option<bool>,
+    pub(crate) failed: Option<bool>,
+}
+
+impl Tests {
+    /// `$TEST` becomes the answer.
+    pub(crate) const ANSWER: Tests = Tests {
+        held: Some(true),
+        failed: Some(false),
+    };
+
+    /// `$TEST` stays as it is; a condition on it shows what it is.
+    pub(crate) fn after(condition: Condition, test: Option<bool>) -> Tests {
+        match condition {
+            Condition::Test(is_set) => Tests {
+                held: Some(is_set),
+                failed: Some(!is_set),
+            },
+            _ => Tests {
+                held: test,
+                failed: test,
+            },
+        }
+    }
+}
+
+/// A place in the code: its number among all of them.
+#[derive(Clone, Copy, Drop)]
+pub(crate) struct Mark {
+    pub(crate) index: usize,
+}
+
+/// A use of a global, with the number of its subscripts.
+#[derive(Clone, Copy, Drop)]
+pub(crate) struct Use<'a> {
+    pub(crate) position: Position<'a>,
+    pub(crate) global: &'a Name,
+    pub(crate) count: usize,
+    pub(crate) extent: Extent,
+}
+
+/// How much of a node's value a SET writes.
+#[derive(Clone, Copy, Drop, PartialEq, Eq)]
+pub(crate) enum Amount {
+    Whole,
+    /// a piece or an extract: the rest is read
+    Part,
+}
+
+/// How lines are called.
+#[derive(Clone, Copy, Drop, PartialEq, Eq)]
+pub(crate) enum CallKind {
+    /// DO with arguments
+    Do,
+    /// `$$`
+    Extrinsic,
+    /// DO without arguments
+    Block,
+}
+
+/// A call of the lines at a mark.
+#[derive(Clone, Copy, Drop)]
+pub(crate) struct Call<'a> {
+    pub(crate) kind: CallKind,
+    pub(crate) mark: Mark,
+    pub(crate) formals: &'a [Name],
+    pub(crate) actuals: &'a [Actual],
+}
+
+/// How a FOR can end.
+#[derive(Clone, Copy, Drop, PartialEq, Eq)]
+pub(crate) enum Rounds {
+    /// only by QUIT
+    Endless,
+    /// at the end of its values, or by QUIT
+    Limited,
+}
+
+/// A step on the stack of values.
+#[derive(Clone, Copy, Drop)]
+pub(crate) enum StackStep<'a> {
+    /// puts a constant
+    Constant(&'a Value),
+    /// puts the number of the job
+    JobNumber,
+    /// puts the value of a local
+    Local(&'a Name),
+    /// puts the last value once more
+    Copy,
+    /// takes this many values, and puts one that comes from them
+    Combine(usize),
+    /// takes this many values, and puts one of which nothing is known
+    Forget(usize),
+    /// takes this many values
+    Discard(usize),
+}
+
+/// A step that changes locals or `$TEST`.
+#[derive(Clone, Copy, Drop)]
+pub(crate) enum Change<'a> {
+    /// takes a value, which a local gets
+    Assign(&'a Name),
+    /// nothing is known of any local from here on
+    ForgetLocals,
+    /// NEW of a local
+    New(&'a Name),
+    /// `$TEST` may have either value
+    AnyTest,
+}
+
+/// A step after which another one than the next may come.
+#[derive(Clone, Copy, Drop)]
+pub(crate) enum Jump {
+    Always(Mark),
+    /// takes a condition, and jumps if it does not hold
+    Branch(Condition, Mark),
+    /// takes a condition, which `$TEST` becomes, and jumps if it does not hold
+    If(Condition, Mark),
+    /// jumps if `$TEST` does not have this value
+    OnTest(bool, Mark),
+    /// the begin of a FOR
+    BeginFor,
+    /// the end of a round of a FOR, whose rounds begin at the mark
+    EndRound(Rounds, Mark),
+    /// QUIT in a FOR, which ends at the mark
+    LeaveFor(Mark),
+}
+
+/// A step. Values are put on a stack and taken off it.
+#[derive(Clone, Copy, Drop)]
+pub(crate) enum Step<'a> {
+    Stack(StackStep<'a>),
+    Change(Change<'a>),
+    Jump(Jump),
+    /// takes the subscripts, and puts the value that is read
+    Read(Use<'a>),
+    /// takes the subscripts, and writes the value below them
+    Write(Use<'a>, Amount),
+    /// takes the subscripts of all names of an argument of LOCK, and does what it says
+    Lock(&'a LockArgument),
+    /// LOCK without arguments
+    ReleaseAll,
+    /// takes the actuals; an extrinsic call puts a value when it returns
+    Call(Call<'a>),
+    /// QUIT, or the end of lines
+    Return,
+    /// takes the value that QUIT returns
+    ReturnValue,
+    Halt,
+}
+
+/// The steps of all routines.
+#[derive(Drop)]
+pub(crate) struct Code<'a> {
+    pub(crate) steps: Vec<Step<'a>>,
+    /// for each mark, the index of the step there
+    pub(crate) targets: Vec<usize>,
+    /// for each routine, the number of the mark of its first line of level 1; the others follow
+    pub(crate) firsts: Vec<usize>,
+}
+
+impl Code<'_> {
+    /// The index of the step at `mark`.
+    pub(crate) fn address(&self, mark: Mark) -> usize {
+        match self.targets.get(mark.index) {
+            Some(address) => *address,
+            None => self.steps.len(),
+        }
+    }
+
+    /// The mark of the line of `entry`; `None` if there is no such routine.
+    pub(crate) fn entry_mark(&self, entry: EntryId) -> Option<Mark> {
+        let first = self.firsts.get(entry.routine())?;
+        Some(Mark {
+            index: first.saturating_add(entry.line()),
+        })
+    }
+}

@@ -1,0 +1,416 @@
+// The walk over the steps, one path at a time.
+
+use crate::path::Path;
+use crate::stale::{ReadAt, StaleWrite, is_stale};
+use crate::step::{
+    Amount, Call, Change, Code, Condition, Jump, Mark, Rounds, StackStep, Step, Tests, Use,
+};
+use crate::worth::{Namer, Worth};
+use mlk_names::{Access, Reference, Sym, may_overlap};
+use mlk_rules::Rules;
+use mlk_syntax::{LockArgument, Sign};
+use mlk_text::push_sparing;
+use std::alloc::{AllocError, Global};
+
+/// The maximum number of steps that are walked from one label.
+const MOST_STEPS: usize = 100_000;
+
+/// The maximum number of times that a path branches at one step, in the walk from one label.
+const MOST_BRANCHES: usize = 64;
+
+/// The maximum number of calls and blocks that a path is in.
+const MOST_FRAMES: usize = 24;
+
+/// Whether a path goes on.
+#[derive(Clone, Copy, Drop, PartialEq, Eq)]
+enum Fate {
+    GoesOn,
+    Ends,
+}
+
+/// A walk over steps.
+#[derive(Drop)]
+pub(crate) struct Walk<'w, 'a> {
+    alloc: Global,
+    rules: &'w Rules,
+    code: &'w Code<'a>,
+    namer: Namer,
+    /// the reads that were made in the walk from this label
+    reads: Vec<ReadAt<'a>>,
+    /// the paths that have not ended
+    paths: Vec<Path<'a>>,
+    /// for each step, how often a path has branched there
+    branches: Vec<usize>,
+    // for each mark, whether a call or a walk has come to it
+    called: Vec<bool>,
+    /// the stale writes that were found
+    pub(crate) found: Vec<StaleWrite<'a>>,
+}
+
+impl<'w, 'a> Walk<'w, 'a> {
+    /// A walk that has not begun.
+    pub(crate) fn new(
+        alloc: Global,
+        rules: &'w Rules,
+        code: &'w Code<'a>,
+    ) -> Result<Walk<'w, 'a>, AllocError> {
+        let mut called = Vec::with_capacity(alloc, code.targets.len())?;
+        for _ in &code.targets {
+            push_sparing(&mut called, false)?;
+        }
+        Ok(Walk {
+            alloc,
+            rules,
+            code,
+            namer: Namer::new(alloc),
+            reads: Vec::new(alloc),
+            paths: Vec::new(alloc),
+            branches: Vec::new(alloc),
+            called,
+            found: Vec::new(alloc),
+        })
+    }
+
+    // Counts a branch at the step before `at`, and returns whether it is followed.
+    fn may_branch(&mut self, at: usize) -> bool {
+        match self.branches.get_mut(at) {
+            Some(count) if *count < MOST_BRANCHES => {
+                *count = count.saturating_add(1);
+                true
+            }
+            _ => false,
+        }
+    }
+
+    // Begins a path that goes on from `path` at a step, where `$TEST` is so.
+    fn branch(
+        &mut self,
+        path: &Path<'a>,
+        target: usize,
+        test: Option<bool>,
+    ) -> Result<(), AllocError> {
+        if !self.may_branch(path.at) {
+            return Ok(());
+        }
+        let mut other = path.clone()?;
+        other.at = target;
+        other.test = test;
+        push_sparing(&mut self.paths, other)
+    }
+
+    // Goes on if a condition may hold, and jumps if it may fail. `$TEST` is then as given, for each answer.
+    fn decide(
+        &mut self,
+        path: &mut Path<'a>,
+        condition: Condition,
+        mark: Mark,
+        tests: Tests,
+    ) -> Result<(), AllocError> {
+        let target = self.code.address(mark);
+        if !condition.may_be(path.test, true) {
+            path.at = target;
+            path.test = tests.failed;
+            return Ok(());
+        }
+        if condition.may_be(path.test, false) {
+            self.branch(path, target, tests.failed)?;
+        }
+        path.test = tests.held;
+        Ok(())
+    }
+
+    // Ends a round of a FOR: after the first, another one comes; after the second, none does.
+    fn end_round(
+        &mut self,
+        path: &mut Path<'a>,
+        rounds: Rounds,
+        start: Mark,
+    ) -> Result<Fate, AllocError> {
+        let is_later = path.rounds.pop() == Some(true);
+        if is_later {
+            return Ok(match rounds {
+                Rounds::Limited => Fate::GoesOn,
+                Rounds::Endless => Fate::Ends,
+            });
+        }
+        if rounds == Rounds::Limited {
+            self.branch(path, path.at, path.test)?;
+        }
+        push_sparing(&mut path.rounds, true)?;
+        path.at = self.code.address(start);
+        Ok(Fate::GoesOn)
+    }
+
+    fn jump(&mut self, path: &mut Path<'a>, jump: Jump) -> Result<Fate, AllocError> {
+        match jump {
+            Jump::Always(mark) => path.at = self.code.address(mark),
+            Jump::Branch(condition, mark) => {
+                path.discard(1);
+                let tests = Tests::after(condition, path.test);
+                self.decide(path, condition, mark, tests)?;
+            }
+            Jump::If(condition, mark) => {
+                path.discard(1);
+                self.decide(path, condition, mark, Tests::ANSWER)?;
+            }
+            Jump::OnTest(is_set, mark) => {
+                let condition = Condition::Test(is_set);
+                let tests = Tests::after(condition, path.test);
+                self.decide(path, condition, mark, tests)?;
+            }
+            Jump::BeginFor => push_sparing(&mut path.rounds, false)?,
+            Jump::EndRound(rounds, start) => return self.end_round(path, rounds, start),
+            Jump::LeaveFor(mark) => {
+                let _ = path.rounds.pop();
+                path.at = self.code.address(mark);
+            }
+        }
+        Ok(Fate::GoesOn)
+    }
+
+    // Puts values on the stack, and takes them off.
+    fn change_stack(&mut self, path: &mut Path<'a>, step: StackStep<'a>) -> Result<(), AllocError> {
+        let worth = match step {
+            StackStep::Constant(value) => Worth::of(self.alloc, Sym::Const(value.copy()?)),
+            StackStep::JobNumber => Worth::of(self.alloc, Sym::Job),
+            StackStep::Local(name) => path.worth_of(&mut self.namer, name)?,
+            StackStep::Copy => match path.stack.last() {
+                Some(worth) => worth.clone()?,
+                None => self.namer.make_unknown()?,
+            },
+            StackStep::Combine(count) => {
+                let parts = path.take(self.alloc, count)?;
+                self.namer.combine(parts.as_slice())?
+            }
+            StackStep::Forget(count) => {
+                path.discard(count);
+                self.namer.make_unknown()?
+            }
+            StackStep::Discard(count) => {
+                path.discard(count);
+                return Ok(());
+            }
+        };
+        path.put(worth)
+    }
+
+    fn change(&mut self, path: &mut Path<'a>, change: Change<'a>) -> Result<(), AllocError> {
+        match change {
+            Change::Assign(name) => {
+                let worth = path.stack.pop();
+                let _ = path.replace(name.as_bytes(), worth)?;
+            }
+            Change::ForgetLocals => path.locals.clear(),
+            Change::New(name) => path.hide(name, None)?,
+            Change::AnyTest => path.test = None,
+        }
+        Ok(())
+    }
+
+    // Makes a read, and returns its number.
+    fn make_read(
+        &mut self,
+        path: &mut Path<'a>,
+        place: &Use<'a>,
+        reference: Reference,
+    ) -> Result<usize, AllocError> {
+        let number = self.reads.len();
+        let read = ReadAt {
+            position: place.position,
+            reference,
+        };
+        push_sparing(&mut self.reads, read)?;
+        push_sparing(&mut path.reads, number)?;
+        Ok(number)
+    }
+
+    fn read(&mut self, path: &mut Path<'a>, place: &Use<'a>) -> Result<(), AllocError> {
+        let reference = path.take_reference(self.alloc, place, Access::Reads)?;
+        let number = self.make_read(path, place, reference)?;
+        let mut reads = Vec::new(self.alloc);
+        push_sparing(&mut reads, number)?;
+        path.put(self.namer.make_worth(reads)?)
+    }
+
+    // The number of the last read on a path that may reach a node.
+    fn last_read(&self, path: &Path<'a>, node: &Reference) -> Option<usize> {
+        path.reads.iter().rev().copied().find(|number| match self.reads.get(*number) {
+            Some(read) => may_overlap(&read.reference, node),
+            None => false,
+        })
+    }
+
+    // Adds a write of a value that comes from a read, if it is stale.
+    fn add_stale(
+        &mut self,
+        path: &Path<'a>,
+        place: &Use<'a>,
+        reference: &Reference,
+        number: usize,
+    ) -> Result<(), AllocError> {
+        let (Some(read), Some(last_read)) = (
+            self.reads.get(number),
+            self.last_read(path, reference),
+        ) else {
+            return Ok(());
+        };
+        let write = StaleWrite {
+            position: place.position,
+            reference: reference.clone()?,
+            read: read.clone()?,
+            held: path.held_locks(self.alloc)?,
+            last_read,
+        };
+        if is_stale(self.alloc, self.rules, &write)? {
+            push_sparing(&mut self.found, write)?;
+        }
+        Ok(())
+    }
+
+    // Whether a write at this place was found.
+    fn is_found(&self, place: &Use<'a>) -> bool {
+        self.found
+            .iter()
+            .any(|write| write.position == place.position)
+    }
+
+    // Writes the last value. If only a part of it is written, the rest is read.
+    fn write(
+        &mut self,
+        path: &mut Path<'a>,
+        place: &Use<'a>,
+        amount: Amount,
+    ) -> Result<(), AllocError> {
+        let reference = path.take_reference(self.alloc, place, Access::Writes)?;
+        let sources = match path.stack.last() {
+            Some(worth) => worth.reads.clone()?,
+            None => Vec::new(self.alloc),
+        };
+        for number in &sources {
+            if !self.is_found(place) {
+                self.add_stale(path, place, &reference, *number)?;
+            }
+        }
+        if amount == Amount::Part {
+            let read = Reference {
+                access: Access::Reads,
+                ..reference
+            };
+            let _ = self.make_read(path, place, read)?;
+        }
+        Ok(())
+    }
+
+    // Claims or releases the names of an argument of LOCK. A claim with a timeout may fail.
+    fn lock(&mut self, path: &mut Path<'a>, argument: &'a LockArgument) -> Result<(), AllocError> {
+        let terms = path.take_terms(self.alloc, argument)?;
+        if argument.sign == Sign::Minus {
+            for term in &terms {
+                path.release(term);
+            }
+            return Ok(());
+        }
+        if argument.sign == Sign::None {
+            path.held.clear();
+        }
+        if argument.timeout.is_some() {
+            self.branch(path, path.at, Some(false))?;
+            path.test = Some(true);
+        }
+        for term in terms {
+            path.claim(term, self.reads.len())?;
+        }
+        Ok(())
+    }
+
+    fn call(&mut self, path: &mut Path<'a>, call: &Call<'a>) -> Result<Fate, AllocError> {
+        if path.frames.len() >= MOST_FRAMES {
+            return Ok(Fate::Ends);
+        }
+        self.add_called(call.mark);
+        let target = self.code.address(call.mark);
+        path.enter(self.alloc, &mut self.namer, call, target)?;
+        Ok(Fate::GoesOn)
+    }
+
+    fn leave(&mut self, path: &mut Path<'a>, value: Option<Worth>) -> Result<Fate, AllocError> {
+        if path.leave(self.alloc, &mut self.namer, value)? {
+            Ok(Fate::GoesOn)
+        } else {
+            Ok(Fate::Ends)
+        }
+    }
+
+    // Does a step.
+    fn act(&mut self, path: &mut Path<'a>, step: Step<'a>) -> Result<Fate, AllocError> {
+        match step {
+            Step::Stack(step) => self.change_stack(path, step)?,
+            Step::Change(change) => self.change(path, change)?,
+            Step::Jump(jump) => return self.jump(path, jump),
+            Step::Read(place) => self.read(path, &place)?,
+            Step::Write(place, amount) => self.write(path, &place, amount)?,
+            Step::Lock(argument) => self.lock(path, argument)?,
+            Step::ReleaseAll => path.held.clear(),
+            Step::Call(call) => return self.call(path, &call),
+            Step::Return => return self.leave(path, None),
+            Step::ReturnValue => {
+                let value = path.stack.pop();
+                return self.leave(path, value);
+            }
+            Step::Halt => return Ok(Fate::Ends),
+        }
+        Ok(Fate::GoesOn)
+    }
+
+    // Does the next step of a path, which goes on or ends.
+    fn advance(&mut self, path: Path<'a>) -> Result<(), AllocError> {
+        let mut path = path;
+        let Some(step) = self.code.steps.get(path.at) else {
+            return Ok(());
+        };
+        path.at = path.at.saturating_add(1);
+        if self.act(&mut path, *step)? == Fate::GoesOn {
+            push_sparing(&mut self.paths, path)?;
+        }
+        Ok(())
+    }
+
+    // Forgets the walk from another label.
+    fn begin(&mut self) -> Result<(), AllocError> {
+        self.namer = Namer::new(self.alloc);
+        self.reads.clear();
+        self.paths.clear();
+        self.branches.clear();
+        for _ in &self.code.steps {
+            push_sparing(&mut self.branches, 0)?;
+        }
+        Ok(())
+    }
+
+    // Notes that a call has come to `mark`.
+    fn add_called(&mut self, mark: Mark) {
+        if let Some(is_called) = self.called.get_mut(mark.index) {
+            *is_called = true;
+        }
+    }
+
+    /// Whether a call or a walk has come to `mark`.
+    pub(crate) fn has_come_to(&self, mark: Mark) -> bool {
+        self.called.get(mark.index).copied().unwrap_or(false)
+    }
+
+    /// Walks from the step at `mark`, where nothing is held.
+    pub(crate) fn walk_from(&mut self, mark: Mark) -> Result<(), AllocError> {
+        self.begin()?;
+        self.add_called(mark);
+        let start = Path::new(self.alloc, self.code.address(mark));
+        push_sparing(&mut self.paths, start)?;
+        for _ in 0..MOST_STEPS {
+            let Some(path) = self.paths.pop() else {
+                break;
+            };
+            self.advance(path)?;
+        }
+        Ok(())
+    }
+}

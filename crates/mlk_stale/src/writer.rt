@@ -1,0 +1,133 @@
+// The writer of steps.
+
+use crate::step::{Amount, Change, Code, Jump, Mark, StackStep, Step, Use};
+use mlk_names::Extent;
+use mlk_program::Program;
+use mlk_survey_trees::Position;
+use mlk_text::{Column, LineNumber, Name, push_sparing};
+use std::alloc::{AllocError, Global};
+
+/// The steps so far, and what is needed to add more.
+#[derive(Drop)]
+pub(crate) struct Writer<'p, 'a> {
+    pub(crate) alloc: Global,
+    pub(crate) program: &'p Program<'a>,
+    pub(crate) code: Code<'a>,
+    /// the routine whose steps are added: its index and its name
+    pub(crate) routine: usize,
+    pub(crate) name: &'a [u8],
+    /// the line whose steps are added
+    pub(crate) line: LineNumber,
+}
+
+impl<'p, 'a> Writer<'p, 'a> {
+    /// A writer without steps. Each line of level 1 of `program` has a mark.
+    pub(crate) fn new(
+        alloc: Global,
+        program: &'p Program<'a>,
+    ) -> Result<Writer<'p, 'a>, AllocError> {
+        let mut firsts = Vec::new(alloc);
+        let mut targets = Vec::new(alloc);
+        for routine in program.routines() {
+            push_sparing(&mut firsts, targets.len())?;
+            for _ in &routine.lines {
+                push_sparing(&mut targets, 0)?;
+            }
+        }
+        let steps = Vec::new(alloc);
+        Ok(Writer {
+            alloc,
+            program,
+            code: Code {
+                steps,
+                targets,
+                firsts,
+            },
+            routine: 0,
+            name: b"",
+            line: LineNumber::new(0),
+        })
+    }
+
+    /// Adds `step`.
+    pub(crate) fn push(&mut self, step: Step<'a>) -> Result<(), AllocError> {
+        push_sparing(&mut self.code.steps, step)
+    }
+
+    /// Adds a step on the stack of values.
+    pub(crate) fn push_value(&mut self, step: StackStep<'a>) -> Result<(), AllocError> {
+        self.push(Step::Stack(step))
+    }
+
+    /// Adds a change of locals or of `$TEST`.
+    pub(crate) fn push_change(&mut self, step: Change<'a>) -> Result<(), AllocError> {
+        self.push(Step::Change(step))
+    }
+
+    /// Adds a jump.
+    pub(crate) fn push_jump(&mut self, step: Jump) -> Result<(), AllocError> {
+        self.push(Step::Jump(step))
+    }
+
+    /// Adds that this many values are taken off the stack.
+    pub(crate) fn discard(&mut self, count: usize) -> Result<(), AllocError> {
+        if count == 0 {
+            return Ok(());
+        }
+        self.push_value(StackStep::Discard(count))
+    }
+
+    /// Makes a mark, which is placed later.
+    pub(crate) fn make_mark(&mut self) -> Result<Mark, AllocError> {
+        let index = self.code.targets.len();
+        push_sparing(&mut self.code.targets, 0)?;
+        Ok(Mark { index })
+    }
+
+    /// Places `mark` before the next step.
+    pub(crate) fn place(&mut self, mark: Mark) {
+        let address = self.code.steps.len();
+        if let Some(target) = self.code.targets.get_mut(mark.index) {
+            *target = address;
+        }
+    }
+
+    // A use of a global, whose caret is at `column`.
+    fn use_at(&self, column: Column, global: &'a Name, count: usize, extent: Extent) -> Use<'a> {
+        let position = Position {
+            routine: self.name,
+            line: self.line,
+            column,
+        };
+        Use {
+            position,
+            global,
+            count,
+            extent,
+        }
+    }
+
+    /// Adds a read of a global, whose caret is at `column`.
+    pub(crate) fn read(
+        &mut self,
+        column: Column,
+        global: &'a Name,
+        count: usize,
+        extent: Extent,
+    ) -> Result<(), AllocError> {
+        let place = self.use_at(column, global, count, extent);
+        self.push(Step::Read(place))
+    }
+
+    /// Adds a write of a node of a global, whose caret is at `column`.
+    pub(crate) fn write(
+        &mut self,
+        column: Column,
+        global: &'a Name,
+        count: usize,
+        amount: Amount,
+    ) -> Result<(), AllocError> {
+        let place = self.use_at(column, global, count, Extent::Node);
+        self.push(Step::Write(place, amount))
+    }
+}
