@@ -6,7 +6,7 @@ use crate::step::Code;
 use crate::walk::Walk;
 use mlk_program::{EntryId, Program};
 use mlk_rules::{Rules, entries};
-use mlk_syntax::Line;
+use mlk_syntax::{Line, Routine};
 use std::alloc::{AllocError, Global};
 
 // Walks from the entries that `rules` declare.
@@ -26,19 +26,28 @@ fn walk_entries<'a>(
     Ok(())
 }
 
-// Walks from each label of the routine with this number to which no walk has come.
+// The lines of a routine at which labels begin, or the routine itself.
+fn is_entry(index: usize, line: &Line) -> bool {
+    index == 0 || line.label.is_some()
+}
+
+// Walks from each label of `routines` to which no walk has come, except those whose marks are among `others`.
 fn walk_labels<'a>(
     walk: &mut Walk<'_, 'a>,
     code: &Code<'a>,
-    number: usize,
-    lines: &'a [Line],
+    routines: &'a [Routine],
+    others: &[bool],
 ) -> Result<(), AllocError> {
-    for (index, line) in lines.iter().enumerate() {
-        if index > 0 && !line.label.is_some() {
-            continue;
-        }
-        if let Some(mark) = code.entry_mark(EntryId::new(number, index)) {
-            if !walk.has_come_to(mark) {
+    for (number, routine) in routines.iter().enumerate() {
+        for (index, line) in routine.lines.iter().enumerate() {
+            if !is_entry(index, line) {
+                continue;
+            }
+            let Some(mark) = code.entry_mark(EntryId::new(number, index)) else {
+                continue;
+            };
+            let is_other = others.get(mark.index).copied().unwrap_or(false);
+            if !is_other && !walk.has_come_to(mark) {
                 walk.walk_from(mark)?;
             }
         }
@@ -46,18 +55,19 @@ fn walk_labels<'a>(
     Ok(())
 }
 
-/// The stale writes of `program`.
+/// The stale writes of `program` by `rules`, on the paths that are followed: from the declared entries, then from the labels that
+/// nothing calls, and at last from those to which no path has come.
 pub fn stale_writes<'a>(
     alloc: Global,
     program: &Program<'a>,
     rules: &Rules,
 ) -> Result<Vec<StaleWrite<'a>>, AllocError> {
     let code = code_of(alloc, program)?;
+    let called = code.called_marks(alloc)?;
     let mut walk = Walk::new(alloc, rules, &code)?;
     walk_entries(&mut walk, &code, program, rules)?;
-    for (number, routine) in program.routines().iter().enumerate() {
-        walk_labels(&mut walk, &code, number, routine.lines.as_slice())?;
-    }
+    walk_labels(&mut walk, &code, program.routines(), called.as_slice())?;
+    walk_labels(&mut walk, &code, program.routines(), &[])?;
     let Walk { found, .. } = walk;
     Ok(found)
 }

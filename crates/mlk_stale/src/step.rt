@@ -4,7 +4,8 @@ use mlk_names::Extent;
 use mlk_program::EntryId;
 use mlk_survey_trees::Position;
 use mlk_syntax::{Actual, Expr, LockArgument, Special};
-use mlk_text::{Name, UnaryOp, Value};
+use mlk_text::{Name, UnaryOp, Value, push_sparing};
+use std::alloc::{AllocError, Global};
 
 /// What is known of a condition.
 #[derive(Clone, Copy, Drop)]
@@ -230,5 +231,21 @@ impl Code<'_> {
         Some(Mark {
             index: first.saturating_add(entry.line()),
         })
+    }
+
+    /// For each mark, whether some step calls it.
+    pub(crate) fn called_marks(&self, alloc: Global) -> Result<Vec<bool>, AllocError> {
+        let mut called = Vec::new(alloc);
+        for _ in &self.targets {
+            push_sparing(&mut called, false)?;
+        }
+        for step in &self.steps {
+            if let Step::Call(call) = step {
+                if let Some(is_called) = called.get_mut(call.mark.index) {
+                    *is_called = true;
+                }
+            }
+        }
+        Ok(called)
     }
 }

@@ -1,9 +1,9 @@
 //! Prints the stale writes of programs that are given in one text.
 //!
 //! The text comes on standard input. What comes before the first line that begins with `== ` is a comment. Each such line begins a
-//! case and describes it. The rules follow, up to the first routine; each routine comes after a line of `-- ` and its name. For
-//! each case its first line is printed, and then a line for each stale write: its place, and that of the read from which its value
-//! comes.
+//! case and describes it. Its rules follow, unless they are those of `RULES`, and its routines, each after a line of `-- ` and its
+//! name. For each case its first line is printed, and then a line for each stale write: its place, and that of the read from which
+//! its value comes.
 #![tactic(auto)]
 
 use bstr::ByteSlice;
@@ -24,7 +24,12 @@ const CASE: &[u8] = b"\n== ";
 // The mark before a routine's name.
 const ROUTINE: &[u8] = b"\n-- ";
 
-// Why a case has no answer.
+// The rules of cases that have none.
+const RULES: &[u8] = b"lock = [{name = \"^PAT\", rank = 1}, {name = \"^WARD\", rank = 2}]\n\
+cover = [{global = \"^PAT(id,...)\", lock = \"^PAT(id)\"}, {global = \"^WARD(w,...)\", lock = \"^WARD(w)\"}]\n\
+private = [{global = \"^TMP($J,...)\"}]\n";
+
+// The answer for a case that is not read.
 const NOT_READ: &[u8] = b"not read\n";
 
 // The bytes before the first `mark`, or all of them if there is none.
@@ -88,7 +93,9 @@ fn push_case(alloc: Global, out: &mut Vec<u8>, case: &[u8]) -> Result<(), AllocE
     out.extend_from_slice(b"== ")?;
     out.extend_from_slice(front_of(heading, b"\n"))?;
     out.extend_from_slice(b"\n")?;
-    let Ok(rules) = read_rules(alloc, rest_of(heading, b"\n")) else {
+    let own = rest_of(heading, b"\n");
+    let text = if own.is_empty() { RULES } else { own };
+    let Ok(rules) = read_rules(alloc, text) else {
         return out.extend_from_slice(NOT_READ);
     };
     match routines_of(alloc, case)? {
