@@ -1,13 +1,20 @@
 // The stale writes of a program.
 
+ghost use Rattle.std.specs.Prelude.{IfOk, All};
+ghost use Rattle.std.specs.BTreeMap.{values};
+ghost use Rattle.mlk_stale.specs.Stale.{IsStale};
+
+use crate::judge::is_stale;
 use crate::lines::code_of;
 use crate::stale::StaleWrite;
 use crate::step::Code;
 use crate::walk::Walk;
 use mlk_program::{EntryId, Program};
 use mlk_rules::{Rules, entries};
+use mlk_survey_trees::Position;
 use mlk_syntax::{Line, Routine};
 use std::alloc::{AllocError, Global};
+use std::collections::BTreeMap;
 
 // Walks from the entries that `rules` declare.
 fn walk_entries<'a>(
@@ -55,13 +62,32 @@ fn walk_labels<'a>(
     Ok(())
 }
 
-/// The stale writes of `program` by `rules`, on the paths that are followed: from the declared entries, then from the labels that
-/// nothing calls, and at last from those to which no path has come.
+// Those of `found` that are stale.
+fn keep_stale<'a>(
+    alloc: Global,
+    rules: &Rules,
+    found: BTreeMap<Position<'a>, StaleWrite<'a>>,
+) -> Result<BTreeMap<Position<'a>, StaleWrite<'a>>, AllocError>
+    ensures { IfOk result (λ kept. All (IsStale rules.now) (values kept)) }
+{
+    let mut kept = BTreeMap::new(alloc);
+    for (position, write) in found {
+        if is_stale(alloc, rules, &write)? {
+            kept.insert(position, write)?;
+        }
+    }
+    Ok(kept)
+}
+
+/// The stale writes of `program` by `rules`, each by its place, on the paths that are followed: from the declared entries, then
+/// from the labels that nothing calls, and at last from those to which no path has come.
 pub fn stale_writes<'a>(
     alloc: Global,
     program: &Program<'a>,
     rules: &Rules,
-) -> Result<Vec<StaleWrite<'a>>, AllocError> {
+) -> Result<BTreeMap<Position<'a>, StaleWrite<'a>>, AllocError>
+    ensures { IfOk result (λ found. All (IsStale rules.now) (values found)) }
+{
     let code = code_of(alloc, program)?;
     let called = code.called_marks(alloc)?;
     let mut walk = Walk::new(alloc, rules, &code)?;
@@ -69,5 +95,5 @@ pub fn stale_writes<'a>(
     walk_labels(&mut walk, &code, program.routines(), called.as_slice())?;
     walk_labels(&mut walk, &code, program.routines(), &[])?;
     let Walk { found, .. } = walk;
-    Ok(found)
+    keep_stale(alloc, rules, found)
 }

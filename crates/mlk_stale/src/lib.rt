@@ -6,6 +6,7 @@ mod calls;
 mod command;
 mod expr;
 mod finding;
+mod judge;
 mod lines;
 mod locks;
 mod path;
@@ -16,4 +17,5 @@ mod worth;
 mod writer;
 
 pub use finding::stale_writes;
-pub use stale::{HeldLock, ReadAt, StaleWrite, is_stale};
+pub use judge::is_stale;
+pub use stale::{HeldLock, ReadAt, StaleWrite};

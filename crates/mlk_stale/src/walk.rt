@@ -1,16 +1,19 @@
 // The walk over the steps, one path at a time.
 
+use crate::judge::is_stale;
 use crate::path::Path;
-use crate::stale::{ReadAt, StaleWrite, is_stale};
+use crate::stale::{ReadAt, StaleWrite};
 use crate::step::{
     Amount, Call, Change, Code, Condition, Jump, Mark, Rounds, StackStep, Step, Tests, Use,
 };
 use crate::worth::{Namer, Worth};
 use mlk_names::{Access, Reference, Sym, may_overlap};
 use mlk_rules::Rules;
+use mlk_survey_trees::Position;
 use mlk_syntax::{LockArgument, Sign};
 use mlk_text::push_sparing;
 use std::alloc::{AllocError, Global};
+use std::collections::BTreeMap;
 
 /// The maximum number of steps that are walked from one label.
 const MOST_STEPS: usize = 100_000;
@@ -43,8 +46,8 @@ pub(crate) struct Walk<'w, 'a> {
     branches: Vec<usize>,
     // for each mark, whether a call or a walk has come to it
     called: Vec<bool>,
-    /// the stale writes that were found
-    pub(crate) found: Vec<StaleWrite<'a>>,
+    /// the stale writes that were found, by their places
+    pub(crate) found: BTreeMap<Position<'a>, StaleWrite<'a>>,
 }
 
 impl<'w, 'a> Walk<'w, 'a> {
@@ -67,7 +70,7 @@ impl<'w, 'a> Walk<'w, 'a> {
             paths: Vec::new(alloc),
             branches: Vec::new(alloc),
             called,
-            found: Vec::new(alloc),
+            found: BTreeMap::new(alloc),
         })
     }
 
@@ -255,23 +258,15 @@ impl<'w, 'a> Walk<'w, 'a> {
             return Ok(());
         };
         let write = StaleWrite {
-            position: place.position,
             reference: reference.clone()?,
             read: read.clone()?,
             held: path.held_locks(self.alloc)?,
             last_read,
         };
         if is_stale(self.alloc, self.rules, &write)? {
-            push_sparing(&mut self.found, write)?;
+            self.found.insert(place.position, write)?;
         }
         Ok(())
-    }
-
-    // Whether a write at this place was found.
-    fn is_found(&self, place: &Use<'a>) -> bool {
-        self.found
-            .iter()
-            .any(|write| write.position == place.position)
     }
 
     // Writes the last value. If only a part of it is written, the rest is read.
@@ -287,7 +282,7 @@ impl<'w, 'a> Walk<'w, 'a> {
             None => Vec::new(self.alloc),
         };
         for number in &sources {
-            if !self.is_found(place) {
+            if !self.found.contains_key(&place.position) {
                 self.add_stale(path, place, &reference, *number)?;
             }
         }

@@ -78,8 +78,8 @@ fn push_writes(
     let Ok(program) = link(alloc, routines) else {
         return out.extend_from_slice(NOT_READ);
     };
-    for write in stale_writes(alloc, &program, rules)? {
-        push_place(alloc, out, &write.position)?;
+    for (position, write) in stale_writes(alloc, &program, rules)? {
+        push_place(alloc, out, &position)?;
         out.extend_from_slice(b" from ")?;
         push_place(alloc, out, &write.read.position)?;
         out.extend_from_slice(b"\n")?;

@@ -1,0 +1,78 @@
+// Whether a write is stale.
+
+ghost use Rattle.std.specs.Prelude.{◌≡◌, ◌↔◌, IsTrue, IfOk};
+ghost use Rattle.std.specs.Bool.{Decides};
+ghost use Rattle.mlk_rules.specs.Coverage.{IsCovered};
+ghost use Rattle.mlk_stale.specs.Stale.{ReadsWritten, names_of, held_at, IsStale};
+
+use crate::stale::{HeldLock, StaleWrite};
+use mlk_names::{Access, Extent, LockTerm, Reference};
+use mlk_rules::{Rules, check_reference};
+use mlk_text::copy_of;
+use std::alloc::{AllocError, Global};
+
+// Whether both lists are equal.
+fn are_equal<T: PartialEq>(items: &[T], others: &[T]) -> bool
+    requires { (x y : T) → Decides (T.eq x y) (x ≡ y) }
+    ensures { IsTrue result ↔ (items.now ≡ others.now) }
+{
+    items == others
+}
+
+// Whether the first reads the node that the second writes.
+fn reads_written(read: &Reference, written: &Reference) -> bool
+    ensures { IsTrue result ↔ ReadsWritten read.now written.now }
+{
+    read.access == Access::Reads
+        && written.access == Access::Writes
+        && read.extent == Extent::Node
+        && written.extent == Extent::Node
+        && read.root == written.root
+        && are_equal(read.subs.as_slice(), written.subs.as_slice())
+}
+
+// The names of all of `held`.
+fn names_of(alloc: Global, held: &[HeldLock]) -> Result<Vec<LockTerm>, AllocError>
+    ensures { IfOk result (λ names. names.items ≡ names_of held.now) }
+{
+    let mut names = Vec::new(alloc);
+    for lock in held {
+        names.push(copy_of(&lock.name)?)?;
+    }
+    Ok(names)
+}
+
+// The names of those of `held` that were held already when the read with this number was made.
+fn names_at(alloc: Global, held: &[HeldLock], read: usize) -> Result<Vec<LockTerm>, AllocError>
+    ensures { IfOk result (λ names. names.items ≡ names_of (held_at read held.now)) }
+{
+    let mut names = Vec::new(alloc);
+    for lock in held {
+        if lock.since <= read {
+            names.push(copy_of(&lock.name)?)?;
+        }
+    }
+    Ok(names)
+}
+
+// Whether these locks cover a reference.
+fn is_covered(rules: &Rules, held: &[LockTerm], reference: &Reference) -> bool
+    ensures { IsTrue result ↔ IsCovered rules.now held.now reference.now }
+{
+    check_reference(rules, reference, held).is_ok()
+}
+
+/// Whether a write is stale.
+pub fn is_stale(alloc: Global, rules: &Rules, write: &StaleWrite<'_>) -> Result<bool, AllocError>
+    ensures { IfOk result (λ stale. IsTrue stale ↔ IsStale rules.now write.now) }
+{
+    if !reads_written(&write.read.reference, &write.reference) {
+        return Ok(false);
+    }
+    let held = names_of(alloc, write.held.as_slice())?;
+    if !is_covered(rules, held.as_slice(), &write.reference) {
+        return Ok(false);
+    }
+    let kept = names_at(alloc, write.held.as_slice(), write.last_read)?;
+    Ok(!is_covered(rules, kept.as_slice(), &write.reference))
+}
