@@ -1,6 +1,6 @@
 // Calls and returns on a path.
 
-use crate::path::{Frame, Path};
+use crate::path::{Frame, Local, Path};
 use crate::step::{Call, CallKind};
 use crate::worth::{Namer, Worth};
 use mlk_syntax::Actual;
@@ -8,8 +8,8 @@ use mlk_text::{Name, push_sparing};
 use std::alloc::{AllocError, Global};
 
 // The name that is passed by reference for the formal with this index, or `None`.
-fn passed_name<'a>(call: &Call<'a>, index: usize) -> Option<&'a Name> {
-    match call.actuals.get(index) {
+fn passed_name(actuals: &[Actual], index: usize) -> Option<&Name> {
+    match actuals.get(index) {
         Some(Actual::ByRef(_, name)) => Some(name),
         _ => None,
     }
@@ -60,7 +60,9 @@ impl<'a> Path<'a> {
     ) -> Result<(), AllocError> {
         let passed = self.passed_worths(alloc, namer, call)?;
         let frame = Frame {
-            call: *call,
+            kind: call.kind,
+            formals: call.formals,
+            actuals: call.actuals,
             back: self.at,
             hidden: Vec::new(alloc),
             height: self.stack.len(),
@@ -79,16 +81,26 @@ impl<'a> Path<'a> {
         &mut self,
         alloc: Global,
         namer: &mut Namer,
-        call: &Call<'a>,
+        formals: &'a [Name],
+        actuals: &'a [Actual],
     ) -> Result<Vec<(&'a Name, Worth)>, AllocError> {
         let mut outcomes = Vec::new(alloc);
-        for (index, formal) in call.formals.iter().enumerate() {
-            if let Some(name) = passed_name(call, index) {
+        for (index, formal) in formals.iter().enumerate() {
+            if let Some(name) = passed_name(actuals, index) {
                 let worth = self.worth_of(namer, formal)?;
                 push_sparing(&mut outcomes, (name, worth))?;
             }
         }
         Ok(outcomes)
+    }
+
+    // Gives hidden locals back the values that they had, the last one first.
+    fn uncover(&mut self, hidden: Vec<Local<'a>>) -> Result<(), AllocError> {
+        let mut hidden = hidden;
+        while let Some(Local { name, worth }) = hidden.pop() {
+            let _ = self.replace(name, worth)?;
+        }
+        Ok(())
     }
 
     /// Returns from the innermost call with this value, if there is one. Returns whether there was a call.
@@ -98,32 +110,30 @@ impl<'a> Path<'a> {
         namer: &mut Namer,
         value: Option<Worth>,
     ) -> Result<bool, AllocError> {
+        let value = namer.known_or_made(value)?;
         let Some(frame) = self.frames.pop() else {
             return Ok(false);
         };
         let Frame {
-            call,
+            kind,
+            formals,
+            actuals,
             back,
             hidden,
             height,
             test,
         } = frame;
-        let outcomes = self.outcomes(alloc, namer, &call)?;
-        for local in hidden.into_iter().rev() {
-            let _ = self.replace(local.name, local.worth)?;
-        }
+        let outcomes = self.outcomes(alloc, namer, formals, actuals)?;
+        self.uncover(hidden)?;
         for (name, worth) in outcomes {
             let _ = self.replace(name.as_bytes(), Some(worth))?;
         }
         self.stack.truncate(height);
-        if call.kind == CallKind::Extrinsic {
-            let worth = match value {
-                Some(worth) => worth,
-                None => namer.make_unknown()?,
-            };
-            self.put(worth)?;
+        self.put(value)?;
+        if kind != CallKind::Extrinsic {
+            self.discard(1);
         }
-        if call.kind != CallKind::Do {
+        if kind != CallKind::Do {
             self.test = test;
         }
         self.at = back;

@@ -1,9 +1,10 @@
 // Paths: what is known on one way through the steps.
 
 use crate::stale::HeldLock;
-use crate::step::{Call, Use};
+use crate::step::{CallKind, Use};
 use crate::worth::{Namer, Worth};
 use mlk_names::{Access, Reference, ReferenceSubs};
+use mlk_syntax::Actual;
 use mlk_text::{Name, push_sparing};
 use std::alloc::{AllocError, Global};
 
@@ -18,7 +19,9 @@ pub(crate) struct Local<'a> {
 /// A call that has not returned.
 #[derive(Clone, Drop)]
 pub(crate) struct Frame<'a> {
-    pub(crate) call: Call<'a>,
+    pub(crate) kind: CallKind,
+    pub(crate) formals: &'a [Name],
+    pub(crate) actuals: &'a [Actual],
     /// the index of the step after it
     pub(crate) back: usize,
     /// the locals that it or its NEWs hide, in the order in which they were hidden
@@ -144,10 +147,7 @@ impl<'a> Path<'a> {
         name: &'a Name,
     ) -> Result<Worth, AllocError> {
         let known = self.replace(name.as_bytes(), None)?;
-        let worth = match known {
-            Some(worth) => worth,
-            None => namer.make_unknown()?,
-        };
+        let worth = namer.known_or_made(known)?;
         let copy = worth.clone()?;
         let _ = self.replace(name.as_bytes(), Some(worth))?;
         Ok(copy)

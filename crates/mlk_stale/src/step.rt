@@ -4,7 +4,7 @@ use mlk_names::Extent;
 use mlk_program::EntryId;
 use mlk_survey_trees::Position;
 use mlk_syntax::{Actual, Expr, LockArgument, Special};
-use mlk_text::{Name, UnaryOp, Value, push_sparing};
+use mlk_text::{Column, LineNumber, Name, UnaryOp, Value, push_sparing};
 use std::alloc::{AllocError, Global};
 
 /// What is known of a condition.
@@ -88,12 +88,25 @@ pub(crate) struct Mark {
 }
 
 /// A use of a global, with the number of its subscripts.
-#[derive(Clone, Copy, Drop)]
+#[derive(Drop)]
 pub(crate) struct Use<'a> {
-    pub(crate) position: Position<'a>,
+    pub(crate) routine: &'a [u8],
+    pub(crate) line: LineNumber,
+    pub(crate) column: Column,
     pub(crate) global: &'a Name,
     pub(crate) count: usize,
     pub(crate) extent: Extent,
+}
+
+impl<'a> Use<'a> {
+    /// The place of its caret.
+    pub(crate) fn position(&self) -> Position<'a> {
+        Position {
+            routine: self.routine,
+            line: self.line,
+            column: self.column,
+        }
+    }
 }
 
 /// How much of a node's value a SET writes.
@@ -116,7 +129,7 @@ pub(crate) enum CallKind {
 }
 
 /// A call of the lines at a mark.
-#[derive(Clone, Copy, Drop)]
+#[derive(Drop)]
 pub(crate) struct Call<'a> {
     pub(crate) kind: CallKind,
     pub(crate) mark: Mark,
@@ -134,7 +147,7 @@ pub(crate) enum Rounds {
 }
 
 /// A step on the stack of values.
-#[derive(Clone, Copy, Drop)]
+#[derive(Drop)]
 pub(crate) enum StackStep<'a> {
     /// puts a constant
     Constant(&'a Value),
@@ -153,7 +166,7 @@ pub(crate) enum StackStep<'a> {
 }
 
 /// A step that changes locals or `$TEST`.
-#[derive(Clone, Copy, Drop)]
+#[derive(Drop)]
 pub(crate) enum Change<'a> {
     /// takes a value, which a local gets
     Assign(&'a Name),
@@ -184,7 +197,7 @@ pub(crate) enum Jump {
 }
 
 /// A step. Values are put on a stack and taken off it.
-#[derive(Clone, Copy, Drop)]
+#[derive(Drop)]
 pub(crate) enum Step<'a> {
     Stack(StackStep<'a>),
     Change(Change<'a>),

@@ -16,10 +16,10 @@ use std::alloc::{AllocError, Global};
 use std::collections::BTreeMap;
 
 /// The maximum number of steps that are walked from one label.
-const MOST_STEPS: usize = 100_000;
+const MOST_STEPS: usize = 20_000;
 
 /// The maximum number of times that a path branches at one step, in the walk from one label.
-const MOST_BRANCHES: usize = 64;
+const MOST_BRANCHES: usize = 32;
 
 /// The maximum number of calls and blocks that a path is in.
 const MOST_FRAMES: usize = 24;
@@ -182,22 +182,22 @@ impl<'w, 'a> Walk<'w, 'a> {
                 None => self.namer.make_unknown()?,
             },
             StackStep::Combine(count) => {
-                let parts = path.take(self.alloc, count)?;
+                let parts = path.take(self.alloc, *count)?;
                 self.namer.combine(parts.as_slice())?
             }
             StackStep::Forget(count) => {
-                path.discard(count);
+                path.discard(*count);
                 self.namer.make_unknown()?
             }
             StackStep::Discard(count) => {
-                path.discard(count);
+                path.discard(*count);
                 return Ok(());
             }
         };
         path.put(worth)
     }
 
-    fn change(&mut self, path: &mut Path<'a>, change: Change<'a>) -> Result<(), AllocError> {
+    fn change(&mut self, path: &mut Path<'a>, change: &Change<'a>) -> Result<(), AllocError> {
         match change {
             Change::Assign(name) => {
                 let worth = path.stack.pop();
@@ -219,7 +219,7 @@ impl<'w, 'a> Walk<'w, 'a> {
     ) -> Result<usize, AllocError> {
         let number = self.reads.len();
         let read = ReadAt {
-            position: place.position,
+            position: place.position(),
             reference,
         };
         push_sparing(&mut self.reads, read)?;
@@ -264,7 +264,7 @@ impl<'w, 'a> Walk<'w, 'a> {
             last_read,
         };
         if is_stale(self.alloc, self.rules, &write)? {
-            self.found.insert(place.position, write)?;
+            self.found.insert(place.position(), write)?;
         }
         Ok(())
     }
@@ -282,7 +282,7 @@ impl<'w, 'a> Walk<'w, 'a> {
             None => Vec::new(self.alloc),
         };
         for number in &sources {
-            if !self.found.contains_key(&place.position) {
+            if !self.found.contains_key(&place.position()) {
                 self.add_stale(path, place, &reference, *number)?;
             }
         }
@@ -337,16 +337,16 @@ impl<'w, 'a> Walk<'w, 'a> {
     }
 
     // Does a step.
-    fn act(&mut self, path: &mut Path<'a>, step: Step<'a>) -> Result<Fate, AllocError> {
+    fn act(&mut self, path: &mut Path<'a>, step: &Step<'a>) -> Result<Fate, AllocError> {
         match step {
             Step::Stack(step) => self.change_stack(path, step)?,
             Step::Change(change) => self.change(path, change)?,
-            Step::Jump(jump) => return self.jump(path, jump),
-            Step::Read(place) => self.read(path, &place)?,
-            Step::Write(place, amount) => self.write(path, &place, amount)?,
+            Step::Jump(jump) => return self.jump(path, *jump),
+            Step::Read(place) => self.read(path, place)?,
+            Step::Write(place, amount) => self.write(path, place, *amount)?,
             Step::Lock(argument) => self.lock(path, argument)?,
             Step::ReleaseAll => path.held.clear(),
-            Step::Call(call) => return self.call(path, &call),
+            Step::Call(call) => return self.call(path, call),
             Step::Return => return self.leave(path, None),
             Step::ReturnValue => {
                 let value = path.stack.pop();
@@ -360,11 +360,12 @@ impl<'w, 'a> Walk<'w, 'a> {
     // Does the next step of a path, which goes on or ends.
     fn advance(&mut self, path: Path<'a>) -> Result<(), AllocError> {
         let mut path = path;
-        let Some(step) = self.code.steps.get(path.at) else {
+        let code = self.code;
+        let Some(step) = code.steps.get(path.at) else {
             return Ok(());
         };
         path.at = path.at.saturating_add(1);
-        if self.act(&mut path, *step)? == Fate::GoesOn {
+        if self.act(&mut path, step)? == Fate::GoesOn {
             push_sparing(&mut self.paths, path)?;
         }
         Ok(())

@@ -51,6 +51,14 @@ impl Namer {
         self.make_worth(Vec::new(self.alloc))
     }
 
+    /// This value, or one of which nothing is known.
+    pub(crate) fn known_or_made(&mut self, known: Option<Worth>) -> Result<Worth, AllocError> {
+        match known {
+            Some(worth) => Ok(worth),
+            None => self.make_unknown(),
+        }
+    }
+
     /// Makes a value that comes from all of `parts`.
     pub(crate) fn combine(&mut self, parts: &[Worth]) -> Result<Worth, AllocError> {
         let mut reads = Vec::new(self.alloc);

@@ -3,7 +3,6 @@
 use crate::step::{Amount, Change, Code, Jump, Mark, StackStep, Step, Use};
 use mlk_names::Extent;
 use mlk_program::Program;
-use mlk_survey_trees::Position;
 use mlk_text::{Column, LineNumber, Name, push_sparing};
 use std::alloc::{AllocError, Global};
 
@@ -94,13 +93,10 @@ impl<'p, 'a> Writer<'p, 'a> {
 
     // A use of a global, whose caret is at `column`.
     fn use_at(&self, column: Column, global: &'a Name, count: usize, extent: Extent) -> Use<'a> {
-        let position = Position {
+        Use {
             routine: self.name,
             line: self.line,
             column,
-        };
-        Use {
-            position,
             global,
             count,
             extent,
