@@ -172,7 +172,11 @@ impl<'w, 'a> Walk<'w, 'a> {
     }
 
     // Puts values on the stack, and takes them off.
-    fn change_stack(&mut self, path: &mut Path<'a>, step: StackStep<'a>) -> Result<(), AllocError> {
+    fn change_stack(
+        &mut self,
+        path: &mut Path<'a>,
+        step: &StackStep<'a>,
+    ) -> Result<(), AllocError> {
         let worth = match step {
             StackStep::Constant(value) => Worth::of(self.alloc, Sym::Const(value.copy()?)),
             StackStep::JobNumber => Worth::of(self.alloc, Sym::Job),
