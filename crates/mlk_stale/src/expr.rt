@@ -96,8 +96,7 @@ pub(crate) fn add_call<'a>(
     let Some(entry) = writer.program.target(writer.routine, callee) else {
         return writer.push(Step::Halt);
     };
-    let (Some(mark), Some(line)) = (writer.code.entry_mark(entry), writer.program.line(entry))
-    else {
+    let (Some(mark), Some(line)) = (writer.lines.of(entry), writer.program.line(entry)) else {
         return writer.push(Step::Halt);
     };
     let formals: &'a [Name] = match line.formals.as_ref() {

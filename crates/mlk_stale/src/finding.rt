@@ -25,7 +25,7 @@ fn walk_entries<'a>(
 ) -> Result<(), AllocError> {
     for text in entries(rules) {
         if let Some(entry) = program.entry(text.as_bytes()) {
-            if let Some(mark) = code.entry_mark(entry) {
+            if let Some(mark) = code.lines.of(entry) {
                 walk.walk_from(mark)?;
             }
         }
@@ -50,7 +50,7 @@ fn walk_labels<'a>(
             if !is_entry(index, line) {
                 continue;
             }
-            let Some(mark) = code.entry_mark(EntryId::new(number, index)) else {
+            let Some(mark) = code.lines.of(EntryId::new(number, index)) else {
                 continue;
             };
             let is_other = others.get(mark.index).copied().unwrap_or(false);

@@ -150,7 +150,7 @@ fn add_routine<'a>(
         if line.formals.is_some() {
             writer.push(Step::Return)?;
         }
-        if let Some(mark) = writer.code.entry_mark(EntryId::new(number, index)) {
+        if let Some(mark) = writer.lines.of(EntryId::new(number, index)) {
             writer.place(mark);
         }
         add_line(writer, line)?;
@@ -164,6 +164,5 @@ pub(crate) fn code_of<'a>(alloc: Global, program: &Program<'a>) -> Result<Code<'
     for (number, routine) in program.routines().iter().enumerate() {
         add_routine(&mut writer, number, routine)?;
     }
-    let Writer { code, .. } = writer;
-    Ok(code)
+    Ok(writer.into_code())
 }

@@ -219,14 +219,29 @@ pub(crate) enum Step<'a> {
     Halt,
 }
 
+/// The marks of the lines of level 1, which are numbered one after another: for each routine, the number of its first one.
+#[derive(Drop)]
+pub(crate) struct LineMarks {
+    pub(crate) firsts: Vec<usize>,
+}
+
+impl LineMarks {
+    /// The mark of the line of `entry`; `None` if there is no such routine.
+    pub(crate) fn of(&self, entry: EntryId) -> Option<Mark> {
+        let first = self.firsts.get(entry.routine())?;
+        Some(Mark {
+            index: first.saturating_add(entry.line()),
+        })
+    }
+}
+
 /// The steps of all routines.
 #[derive(Drop)]
 pub(crate) struct Code<'a> {
     pub(crate) steps: Vec<Step<'a>>,
     /// for each mark, the index of the step there
     pub(crate) targets: Vec<usize>,
-    /// for each routine, the number of the mark of its first line of level 1; the others follow
-    pub(crate) firsts: Vec<usize>,
+    pub(crate) lines: LineMarks,
 }
 
 impl Code<'_> {
@@ -236,14 +251,6 @@ impl Code<'_> {
             Some(address) => *address,
             None => self.steps.len(),
         }
-    }
-
-    /// The mark of the line of `entry`; `None` if there is no such routine.
-    pub(crate) fn entry_mark(&self, entry: EntryId) -> Option<Mark> {
-        let first = self.firsts.get(entry.routine())?;
-        Some(Mark {
-            index: first.saturating_add(entry.line()),
-        })
     }
 
     /// For each mark, whether some step calls it.

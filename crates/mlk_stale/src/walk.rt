@@ -16,10 +16,10 @@ use std::alloc::{AllocError, Global};
 use std::collections::BTreeMap;
 
 /// The maximum number of steps that are walked from one label.
-const MOST_STEPS: usize = 20_000;
+const MOST_STEPS: usize = 10_000;
 
 /// The maximum number of times that a path branches at one step, in the walk from one label.
-const MOST_BRANCHES: usize = 32;
+const MOST_BRANCHES: usize = 16;
 
 /// The maximum number of calls and blocks that a path is in.
 const MOST_FRAMES: usize = 24;

@@ -1,6 +1,6 @@
 // The writer of steps.
 
-use crate::step::{Amount, Change, Code, Jump, Mark, StackStep, Step, Use};
+use crate::step::{Amount, Change, Code, Jump, LineMarks, Mark, StackStep, Step, Use};
 use mlk_names::Extent;
 use mlk_program::Program;
 use mlk_text::{Column, LineNumber, Name, push_sparing};
@@ -11,7 +11,10 @@ use std::alloc::{AllocError, Global};
 pub(crate) struct Writer<'p, 'a> {
     pub(crate) alloc: Global,
     pub(crate) program: &'p Program<'a>,
-    pub(crate) code: Code<'a>,
+    steps: Vec<Step<'a>>,
+    // for each mark that was made, the index of the step there
+    targets: Vec<usize>,
+    pub(crate) lines: LineMarks,
     /// the routine whose steps are added: its index and its name
     pub(crate) routine: usize,
     pub(crate) name: &'a [u8],
@@ -33,24 +36,36 @@ impl<'p, 'a> Writer<'p, 'a> {
                 push_sparing(&mut targets, 0)?;
             }
         }
-        let steps = Vec::new(alloc);
         Ok(Writer {
             alloc,
             program,
-            code: Code {
-                steps,
-                targets,
-                firsts,
-            },
+            steps: Vec::new(alloc),
+            targets,
+            lines: LineMarks { firsts },
             routine: 0,
             name: b"",
             line: LineNumber::new(0),
         })
     }
 
+    /// The steps that were added.
+    pub(crate) fn into_code(self) -> Code<'a> {
+        let Writer {
+            steps,
+            targets,
+            lines,
+            ..
+        } = self;
+        Code {
+            steps,
+            targets,
+            lines,
+        }
+    }
+
     /// Adds `step`.
     pub(crate) fn push(&mut self, step: Step<'a>) -> Result<(), AllocError> {
-        push_sparing(&mut self.code.steps, step)
+        push_sparing(&mut self.steps, step)
     }
 
     /// Adds a step on the stack of values.
@@ -78,15 +93,15 @@ impl<'p, 'a> Writer<'p, 'a> {
 
     /// Makes a mark, which is placed later.
     pub(crate) fn make_mark(&mut self) -> Result<Mark, AllocError> {
-        let index = self.code.targets.len();
-        push_sparing(&mut self.code.targets, 0)?;
+        let index = self.targets.len();
+        push_sparing(&mut self.targets, 0)?;
         Ok(Mark { index })
     }
 
     /// Places `mark` before the next step.
     pub(crate) fn place(&mut self, mark: Mark) {
-        let address = self.code.steps.len();
-        if let Some(target) = self.code.targets.get_mut(mark.index) {
+        let address = self.steps.len();
+        if let Some(target) = self.targets.get_mut(mark.index) {
             *target = address;
         }
     }
