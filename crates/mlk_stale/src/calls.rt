@@ -97,7 +97,8 @@ impl<'a> Path<'a> {
     // Gives hidden locals back the values that they had, the last one first.
     fn uncover(&mut self, hidden: Vec<Local<'a>>) -> Result<(), AllocError> {
         let mut hidden = hidden;
-        while let Some(Local { name, worth }) = hidden.pop() {
+        hidden.reverse();
+        for Local { name, worth } in hidden {
             let _ = self.replace(name, worth)?;
         }
         Ok(())

@@ -56,10 +56,14 @@ fn names_at(alloc: Global, held: &[HeldLock], read: usize) -> Result<Vec<LockTer
 }
 
 // Whether these locks cover a reference.
+#[tactic(auto, using(crate::proofs::Covered::not_covered))]
 fn is_covered(rules: &Rules, held: &[LockTerm], reference: &Reference) -> bool
     ensures { IsTrue result ↔ IsCovered rules.now held.now reference.now }
 {
-    check_reference(rules, reference, held).is_ok()
+    match check_reference(rules, reference, held) {
+        Ok(()) => true,
+        Err(_) => false,
+    }
 }
 
 /// Whether a write is stale.
