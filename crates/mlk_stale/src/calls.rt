@@ -1,8 +1,8 @@
 // Calls and returns on a path.
 
 use crate::path::{Frame, Local, Path};
-use crate::step::{Call, CallKind};
 use crate::worth::{Namer, Worth};
+use mlk_stale_steps::{Call, CallKind};
 use mlk_syntax::Actual;
 use mlk_text::{Name, push_sparing};
 use std::alloc::{AllocError, Global};

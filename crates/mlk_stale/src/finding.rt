@@ -5,12 +5,11 @@ ghost use Rattle.std.specs.BTreeMap.{values};
 ghost use Rattle.mlk_stale.specs.Stale.{IsStale};
 
 use crate::judge::is_stale;
-use crate::lines::code_of;
 use crate::stale::StaleWrite;
-use crate::step::Code;
 use crate::walk::Walk;
 use mlk_program::{EntryId, Program};
 use mlk_rules::{Rules, entries};
+use mlk_stale_steps::{Code, code_of};
 use mlk_survey_trees::Position;
 use mlk_syntax::{Line, Routine};
 use std::alloc::{AllocError, Global};

@@ -1,9 +1,9 @@
 // Paths: what is known on one way through the steps.
 
 use crate::stale::HeldLock;
-use crate::step::{CallKind, Use};
 use crate::worth::{Namer, Worth};
 use mlk_names::{Access, Reference, ReferenceSubs};
+use mlk_stale_steps::{CallKind, Use};
 use mlk_syntax::Actual;
 use mlk_text::{Name, push_sparing};
 use std::alloc::{AllocError, Global};

@@ -1,14 +1,15 @@
 // The walk over the steps, one path at a time.
 
+use crate::answer::{Tests, may_be};
 use crate::judge::is_stale;
 use crate::path::Path;
 use crate::stale::{ReadAt, StaleWrite};
-use crate::step::{
-    Amount, Call, Change, Code, Condition, Jump, Mark, Rounds, StackStep, Step, Tests, Use,
-};
 use crate::worth::{Namer, Worth};
 use mlk_names::{Access, Reference, Sym, may_overlap};
 use mlk_rules::Rules;
+use mlk_stale_steps::{
+    Amount, Call, Change, Code, Condition, Jump, Mark, Rounds, StackStep, Step, Use,
+};
 use mlk_survey_trees::Position;
 use mlk_syntax::{LockArgument, Sign};
 use mlk_text::push_sparing;
@@ -110,12 +111,12 @@ impl<'w, 'a> Walk<'w, 'a> {
         tests: Tests,
     ) -> Result<(), AllocError> {
         let target = self.code.address(mark);
-        if !condition.may_be(path.test, true) {
+        if !may_be(condition, path.test, true) {
             path.at = target;
             path.test = tests.failed;
             return Ok(());
         }
-        if condition.may_be(path.test, false) {
+        if may_be(condition, path.test, false) {
             self.branch(path, target, tests.failed)?;
         }
         path.test = tests.held;

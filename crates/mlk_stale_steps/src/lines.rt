@@ -159,7 +159,7 @@ fn add_routine<'a>(
 }
 
 /// The steps of `program`.
-pub(crate) fn code_of<'a>(alloc: Global, program: &Program<'a>) -> Result<Code<'a>, AllocError> {
+pub fn code_of<'a>(alloc: Global, program: &Program<'a>) -> Result<Code<'a>, AllocError> {
     let mut writer = Writer::new(alloc, program)?;
     for (number, routine) in program.routines().iter().enumerate() {
         add_routine(&mut writer, number, routine)?;

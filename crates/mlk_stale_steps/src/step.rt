@@ -9,7 +9,7 @@ use std::alloc::{AllocError, Global};
 
 /// What is known of a condition.
 #[derive(Clone, Copy, Drop)]
-pub(crate) enum Condition {
+pub enum Condition {
     /// it holds if `$TEST` has this value
     Test(bool),
     /// it always has this value
@@ -28,20 +28,8 @@ impl Condition {
         }
     }
 
-    /// Whether it may have this answer where `$TEST` is `test`.
-    pub(crate) fn may_be(self, test: Option<bool>, answer: bool) -> bool {
-        match self {
-            Condition::Always(holds) => holds == answer,
-            Condition::Open => true,
-            Condition::Test(is_set) => match test {
-                Some(test) => (test == is_set) == answer,
-                None => true,
-            },
-        }
-    }
-
     /// What is known of the condition `e`: it is known if it is `$TEST`, `0`, `1`, or `'` before one of these.
-    pub(crate) fn of(e: &Expr) -> Condition {
+    pub fn of(e: &Expr) -> Condition {
         match e {
             Expr::Special(Special::Test) => Condition::Test(true),
             Expr::Lit(value) if value.as_bytes() == b"0".as_slice() => Condition::Always(false),
@@ -52,55 +40,26 @@ impl Condition {
     }
 }
 
-/// `$TEST` after a condition, for each answer.
-#[derive(Clone, Copy, Drop)]
-pub(crate) struct Tests {
-    pub(crate) held: Option<bool>,
-    pub(crate) failed: Option<bool>,
-}
-
-impl Tests {
-    /// `$TEST` becomes the answer.
-    pub(crate) const ANSWER: Tests = Tests {
-        held: Some(true),
-        failed: Some(false),
-    };
-
-    /// `$TEST` stays as it is; a condition on it shows what it is.
-    pub(crate) fn after(condition: Condition, test: Option<bool>) -> Tests {
-        match condition {
-            Condition::Test(is_set) => Tests {
-                held: Some(is_set),
-                failed: Some(!is_set),
-            },
-            _ => Tests {
-                held: test,
-                failed: test,
-            },
-        }
-    }
-}
-
 /// A place in the code: its number among all of them.
 #[derive(Clone, Copy, Drop)]
-pub(crate) struct Mark {
-    pub(crate) index: usize,
+pub struct Mark {
+    pub index: usize,
 }
 
 /// A use of a global, with the number of its subscripts.
 #[derive(Drop)]
-pub(crate) struct Use<'a> {
-    pub(crate) routine: &'a [u8],
-    pub(crate) line: LineNumber,
-    pub(crate) column: Column,
-    pub(crate) global: &'a Name,
-    pub(crate) count: usize,
-    pub(crate) extent: Extent,
+pub struct Use<'a> {
+    pub routine: &'a [u8],
+    pub line: LineNumber,
+    pub column: Column,
+    pub global: &'a Name,
+    pub count: usize,
+    pub extent: Extent,
 }
 
 impl<'a> Use<'a> {
     /// The place of its caret.
-    pub(crate) fn position(&self) -> Position<'a> {
+    pub fn position(&self) -> Position<'a> {
         Position {
             routine: self.routine,
             line: self.line,
@@ -111,7 +70,7 @@ impl<'a> Use<'a> {
 
 /// How much of a node's value a SET writes.
 #[derive(Clone, Copy, Drop, PartialEq, Eq)]
-pub(crate) enum Amount {
+pub enum Amount {
     Whole,
     /// a piece or an extract: the rest is read
     Part,
@@ -119,7 +78,7 @@ pub(crate) enum Amount {
 
 /// How lines are called.
 #[derive(Clone, Copy, Drop, PartialEq, Eq)]
-pub(crate) enum CallKind {
+pub enum CallKind {
     /// DO with arguments
     Do,
     /// `$$`
@@ -130,16 +89,16 @@ pub(crate) enum CallKind {
 
 /// A call of the lines at a mark.
 #[derive(Drop)]
-pub(crate) struct Call<'a> {
-    pub(crate) kind: CallKind,
-    pub(crate) mark: Mark,
-    pub(crate) formals: &'a [Name],
-    pub(crate) actuals: &'a [Actual],
+pub struct Call<'a> {
+    pub kind: CallKind,
+    pub mark: Mark,
+    pub formals: &'a [Name],
+    pub actuals: &'a [Actual],
 }
 
 /// How a FOR can end.
 #[derive(Clone, Copy, Drop, PartialEq, Eq)]
-pub(crate) enum Rounds {
+pub enum Rounds {
     /// only by QUIT
     Endless,
     /// at the end of its values, or by QUIT
@@ -148,7 +107,7 @@ pub(crate) enum Rounds {
 
 /// A step on the stack of values.
 #[derive(Drop)]
-pub(crate) enum StackStep<'a> {
+pub enum StackStep<'a> {
     /// puts a constant
     Constant(&'a Value),
     /// puts the number of the job
@@ -167,7 +126,7 @@ pub(crate) enum StackStep<'a> {
 
 /// A step that changes locals or `$TEST`.
 #[derive(Drop)]
-pub(crate) enum Change<'a> {
+pub enum Change<'a> {
     /// takes a value, which a local gets
     Assign(&'a Name),
     /// nothing is known of any local from here on
@@ -180,7 +139,7 @@ pub(crate) enum Change<'a> {
 
 /// A step after which another one than the next may come.
 #[derive(Clone, Copy, Drop)]
-pub(crate) enum Jump {
+pub enum Jump {
     Always(Mark),
     /// takes a condition, and jumps if it does not hold
     Branch(Condition, Mark),
@@ -198,7 +157,7 @@ pub(crate) enum Jump {
 
 /// A step. Values are put on a stack and taken off it.
 #[derive(Drop)]
-pub(crate) enum Step<'a> {
+pub enum Step<'a> {
     Stack(StackStep<'a>),
     Change(Change<'a>),
     Jump(Jump),
@@ -221,13 +180,13 @@ pub(crate) enum Step<'a> {
 
 /// The marks of the lines of level 1, which are numbered one after another: for each routine, the number of its first one.
 #[derive(Drop)]
-pub(crate) struct LineMarks {
-    pub(crate) firsts: Vec<usize>,
+pub struct LineMarks {
+    pub firsts: Vec<usize>,
 }
 
 impl LineMarks {
     /// The mark of the line of `entry`; `None` if there is no such routine.
-    pub(crate) fn of(&self, entry: EntryId) -> Option<Mark> {
+    pub fn of(&self, entry: EntryId) -> Option<Mark> {
         let first = self.firsts.get(entry.routine())?;
         Some(Mark {
             index: first.saturating_add(entry.line()),
@@ -237,16 +196,16 @@ impl LineMarks {
 
 /// The steps of all routines.
 #[derive(Drop)]
-pub(crate) struct Code<'a> {
-    pub(crate) steps: Vec<Step<'a>>,
+pub struct Code<'a> {
+    pub steps: Vec<Step<'a>>,
     /// for each mark, the index of the step there
-    pub(crate) targets: Vec<usize>,
-    pub(crate) lines: LineMarks,
+    pub targets: Vec<usize>,
+    pub lines: LineMarks,
 }
 
 impl Code<'_> {
     /// The index of the step at `mark`.
-    pub(crate) fn address(&self, mark: Mark) -> usize {
+    pub fn address(&self, mark: Mark) -> usize {
         match self.targets.get(mark.index) {
             Some(address) => *address,
             None => self.steps.len(),
@@ -254,7 +213,7 @@ impl Code<'_> {
     }
 
     /// For each mark, whether some step calls it.
-    pub(crate) fn called_marks(&self, alloc: Global) -> Result<Vec<bool>, AllocError> {
+    pub fn called_marks(&self, alloc: Global) -> Result<Vec<bool>, AllocError> {
         let mut called = Vec::new(alloc);
         for _ in &self.targets {
             push_sparing(&mut called, false)?;
