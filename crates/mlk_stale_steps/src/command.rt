@@ -8,6 +8,7 @@ use mlk_syntax::{
     Action, Actual, Command, DoArgument, Expr, KillArgument, LockArgument, MergeArgument,
     NewArgument, ReadArgument, SetArgument, Subscript, Target, Variable, WriteArgument,
 };
+use mlk_text::push_sparing;
 use std::alloc::AllocError;
 
 /// Where the commands of a line jump to.
@@ -71,12 +72,15 @@ fn add_dos<'a>(
         add_conditional_do(writer, argument)?;
     }
     match scope.block {
-        Some(mark) if arguments.is_empty() => writer.push(Step::Call(Call {
-            kind: CallKind::Block,
-            mark,
-            formals: &[],
-            actuals: &[],
-        })),
+        Some(mark) if arguments.is_empty() => push_sparing(
+            &mut writer.steps,
+            Step::Call(Call {
+                kind: CallKind::Block,
+                mark,
+                formals: &[],
+                actuals: &[],
+            }),
+        ),
         _ => Ok(()),
     }
 }
@@ -143,14 +147,14 @@ fn add_locks<'a>(
     arguments: &'a [LockArgument],
 ) -> Result<(), AllocError> {
     if arguments.is_empty() {
-        return writer.push(Step::ReleaseAll);
+        return push_sparing(&mut writer.steps, Step::ReleaseAll);
     }
     for argument in arguments {
         add_unused(writer, &argument.timeout)?;
         for name in &argument.names {
             add_subscripts(writer, subscripts_of(name))?;
         }
-        writer.push(Step::Lock(argument))?;
+        push_sparing(&mut writer.steps, Step::Lock(argument))?;
     }
     Ok(())
 }
@@ -280,10 +284,10 @@ fn add_quit<'a>(
         return writer.push_jump(Jump::LeaveFor(mark));
     }
     match value {
-        None => writer.push(Step::Return),
+        None => push_sparing(&mut writer.steps, Step::Return),
         Some(value) => {
             add_expr(writer, value)?;
-            writer.push(Step::ReturnValue)
+            push_sparing(&mut writer.steps, Step::ReturnValue)
         }
     }
 }
@@ -297,7 +301,7 @@ fn add_action<'a>(
     match action {
         Action::Do(arguments) => add_dos(writer, scope, arguments),
         Action::Else => writer.push_jump(Jump::OnTest(false, scope.skip)),
-        Action::Halt => writer.push(Step::Halt),
+        Action::Halt => push_sparing(&mut writer.steps, Step::Halt),
         Action::Hang(values) => {
             add_exprs(writer, values)?;
             writer.discard(values.len())

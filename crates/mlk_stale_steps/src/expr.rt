@@ -4,7 +4,7 @@ use crate::step::{Call, CallKind, StackStep, Step};
 use crate::writer::Writer;
 use mlk_names::Extent;
 use mlk_syntax::{Actual, Callee, Expr, Function, Special, Subscript};
-use mlk_text::{Column, Name, Op};
+use mlk_text::{Column, Name, Op, push_sparing};
 use std::alloc::AllocError;
 
 /// Adds the steps of the expression `e`.
@@ -86,7 +86,7 @@ pub(crate) fn add_actuals<'a>(
     Ok(())
 }
 
-/// Adds a call of `callee`, after the steps of its actuals. One that the program does not have takes these and does nothing.
+/// Adds a call of `callee`, after the steps of its actuals. A path ends at one that the program does not have.
 pub(crate) fn add_call<'a>(
     writer: &mut Writer<'_, 'a>,
     callee: &'a Callee,
@@ -94,21 +94,24 @@ pub(crate) fn add_call<'a>(
     kind: CallKind,
 ) -> Result<(), AllocError> {
     let Some(entry) = writer.program.target(writer.routine, callee) else {
-        return writer.push(Step::Halt);
+        return push_sparing(&mut writer.steps, Step::Halt);
     };
     let (Some(mark), Some(line)) = (writer.lines.of(entry), writer.program.line(entry)) else {
-        return writer.push(Step::Halt);
+        return push_sparing(&mut writer.steps, Step::Halt);
     };
     let formals: &'a [Name] = match line.formals.as_ref() {
         Some(formals) => formals.as_slice(),
         None => &[],
     };
-    writer.push(Step::Call(Call {
-        kind,
-        mark,
-        formals,
-        actuals,
-    }))
+    push_sparing(
+        &mut writer.steps,
+        Step::Call(Call {
+            kind,
+            mark,
+            formals,
+            actuals,
+        }),
+    )
 }
 
 #[cycle(writing)]

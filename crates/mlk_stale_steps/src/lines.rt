@@ -6,6 +6,7 @@ use crate::step::{Change, Code, Jump, Mark, Rounds, StackStep, Step};
 use crate::writer::Writer;
 use mlk_program::{EntryId, Program};
 use mlk_syntax::{Commands, Control, For, Line, Parameter, Routine};
+use mlk_text::push_sparing;
 use std::alloc::{AllocError, Global};
 
 // Adds the steps of a parameter of FOR, and returns how it can end.
@@ -133,7 +134,7 @@ fn add_line<'a>(writer: &mut Writer<'_, 'a>, line: &'a Line) -> Result<(), Alloc
     for inner in &line.block {
         add_line(writer, inner)?;
     }
-    writer.push(Step::Return)?;
+    push_sparing(&mut writer.steps, Step::Return)?;
     writer.place(over);
     Ok(())
 }
@@ -148,14 +149,14 @@ fn add_routine<'a>(
     writer.name = routine.name.as_bytes();
     for (index, line) in routine.lines.iter().enumerate() {
         if line.formals.is_some() {
-            writer.push(Step::Return)?;
+            push_sparing(&mut writer.steps, Step::Return)?;
         }
         if let Some(mark) = writer.lines.of(EntryId::new(number, index)) {
             writer.place(mark);
         }
         add_line(writer, line)?;
     }
-    writer.push(Step::Return)
+    push_sparing(&mut writer.steps, Step::Return)
 }
 
 /// The steps of `program`.

@@ -11,7 +11,7 @@ use std::alloc::{AllocError, Global};
 pub(crate) struct Writer<'p, 'a> {
     pub(crate) alloc: Global,
     pub(crate) program: &'p Program<'a>,
-    steps: Vec<Step<'a>>,
+    pub(crate) steps: Vec<Step<'a>>,
     // for each mark that was made, the index of the step there
     targets: Vec<usize>,
     pub(crate) lines: LineMarks,
@@ -63,24 +63,19 @@ impl<'p, 'a> Writer<'p, 'a> {
         }
     }
 
-    /// Adds `step`.
-    pub(crate) fn push(&mut self, step: Step<'a>) -> Result<(), AllocError> {
-        push_sparing(&mut self.steps, step)
-    }
-
     /// Adds a step on the stack of values.
     pub(crate) fn push_value(&mut self, step: StackStep<'a>) -> Result<(), AllocError> {
-        self.push(Step::Stack(step))
+        push_sparing(&mut self.steps, Step::Stack(step))
     }
 
     /// Adds a change of locals or of `$TEST`.
     pub(crate) fn push_change(&mut self, step: Change<'a>) -> Result<(), AllocError> {
-        self.push(Step::Change(step))
+        push_sparing(&mut self.steps, Step::Change(step))
     }
 
     /// Adds a jump.
     pub(crate) fn push_jump(&mut self, step: Jump) -> Result<(), AllocError> {
-        self.push(Step::Jump(step))
+        push_sparing(&mut self.steps, Step::Jump(step))
     }
 
     /// Adds that this many values are taken off the stack.
@@ -127,7 +122,7 @@ impl<'p, 'a> Writer<'p, 'a> {
         extent: Extent,
     ) -> Result<(), AllocError> {
         let place = self.use_at(column, global, count, extent);
-        self.push(Step::Read(place))
+        push_sparing(&mut self.steps, Step::Read(place))
     }
 
     /// Adds a write of a node of a global, whose caret is at `column`.
@@ -139,6 +134,6 @@ impl<'p, 'a> Writer<'p, 'a> {
         amount: Amount,
     ) -> Result<(), AllocError> {
         let place = self.use_at(column, global, count, Extent::Node);
-        self.push(Step::Write(place, amount))
+        push_sparing(&mut self.steps, Step::Write(place, amount))
     }
 }
