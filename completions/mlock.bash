@@ -7,18 +7,19 @@ _mlock() {
     if [ "$before" = "=" ]; then before=${COMP_WORDS[COMP_CWORD - 2]}; fi
     COMPREPLY=()
     if [ "$COMP_CWORD" -eq 1 ]; then
-        mapfile -t COMPREPLY < <(compgen -W "check make verify replay convert survey suggest explain help --help --version" -- "$word")
+        mapfile -t COMPREPLY < <(compgen -W "check make verify replay convert survey suggest stubs explain help --help --version" -- "$word")
         return
     fi
     case ${COMP_WORDS[1]}:$before in
-        help:*) words="check make verify replay convert survey suggest explain" ;;
+        help:*) words="check make verify replay convert survey suggest stubs explain" ;;
         check:--workers) words="" ;;
-        check:--output) words="text json sarif" ;;
+        check:--output) words="text json sarif lines" ;;
         make:--format) words="1 2" ;;
         verify:--workers) words="" ;;
-        verify:--output) words="text json sarif" ;;
+        verify:--output) words="text json sarif lines" ;;
         convert:--format) words="1 2" ;;
         survey:--output) words="text json" ;;
+        stubs:--for) words="" ;;
         *)
             if [[ $word != -* ]]; then
                 compopt -o filenames
@@ -28,13 +29,14 @@ _mlock() {
     esac
     if [[ $word == -* ]]; then
         case ${COMP_WORDS[1]} in
-            check) words="--workers --output --strict --explain --help" ;;
-            make) words="--format --help" ;;
-            verify) words="--workers --output --strict --explain --help" ;;
-            replay) words="--help" ;;
+            check) words="--files-from --workers --output --strict --explain --quiet --exit-zero --baseline --write-baseline --help" ;;
+            make) words="--files-from --format --help" ;;
+            verify) words="--files-from --workers --output --strict --explain --quiet --exit-zero --baseline --write-baseline --help" ;;
+            replay) words="--files-from --help" ;;
             convert) words="--format --help" ;;
-            survey) words="--output --help" ;;
-            suggest) words="--beside --help" ;;
+            survey) words="--files-from --output --help" ;;
+            suggest) words="--files-from --beside --stubs --help" ;;
+            stubs) words="--files-from --for --help" ;;
             explain) words="--help" ;;
         esac
     fi

@@ -4,7 +4,7 @@ import sys
 
 MADE = '# Made by tools/manual.py from what --help says.\n'
 # how files end as the guide names them; where none does, a shell offers any
-ENDINGS = {'RULES': 'toml', 'CERT': 'cert', 'EVENTS': 'events', 'ROUTINE': 'm'}
+ENDINGS = {'RULES': 'toml', 'CERT': 'cert', 'EVENTS': 'events', 'ROUTINE': 'm', 'FILE': None}
 ALWAYS = ('help', 'Shows the help of a command')
 
 
@@ -89,7 +89,7 @@ def zsh_text(text):
 
 def zsh_files(name):
     """The files that a value with this name may have."""
-    return f'_files -g "*.{ENDINGS[name]}(-.)"'
+    return f'_files -g "*.{ENDINGS[name]}(-.)"' if ENDINGS[name] else '_files'
 
 
 def zsh_option(words, said):

@@ -120,9 +120,11 @@ def unread(folder):
     lines = [('verify', WARD.rules, *WARD.paths), ('make', HOSPITAL.rules, *HOSPITAL.paths),
              ('check', HOSPITAL.rules, HOSPITAL.certificate, *HOSPITAL.paths), ('convert', HOSPITAL.certificate),
              ('replay', 'examples/night/rules.toml', 'examples/night/ring', 'examples/night/WARD.m'), ('suggest', *HOSPITAL.paths), ('stubs', *HOSPITAL.paths)]
+    # (from which word on a command has routines, for which a folder stands too)
+    routines = {'verify': 2, 'make': 2, 'check': 3, 'convert': 2, 'replay': 3, 'suggest': 1, 'stubs': 1}
     for words in lines:
         for at in range(1, len(words)):
-            for path in bad:
+            for path in bad if at < routines[words[0]] else [it for it in bad if it != '.']:
                 for rest in words[at + 1:], ['nor this'] * (len(words) - at - 1):
                     given = [*words[:at], path, *rest]
                     yield Trial(f"mlock {' '.join(given)}", try_unread, (given, path))

@@ -39,7 +39,7 @@ SCHEMA = {
     'sarifLog': {'$schema': 'string', 'version!': ('in', ['2.1.0']), 'runs!': ['run']},
     'run': {'tool!': 'tool', 'invocations': ['invocation'], 'originalUriBaseIds': ('map', 'artifactLocation'), 'results': ['result'],
             'columnKind': ('in', ['utf16CodeUnits', 'unicodeCodePoints']), 'properties': 'propertyBag'},
-    'propertyBag': {'behind': ['object']},
+    'propertyBag': {'behind': ['object'], 'coverage': 'object'},
     'tool': {'driver!': 'toolComponent'},
     'toolComponent': {'name!': 'string', 'version': 'string', 'semanticVersion': 'string', 'rules': ['reportingDescriptor']},
     'reportingDescriptor': {'id!': 'string', 'name': 'string', 'shortDescription': 'multiformatMessageString',
@@ -240,8 +240,9 @@ class Run:
             yield f'status {self.sarif.returncode}, and exitCode {ended["exitCode"]}'
         if ended['executionSuccessful'] != (self.report['answer'] != 'refused'):
             yield 'executionSuccessful'
-        if run.get('properties', {}).get('behind') != self.report.get('behind'):
-            yield 'the faults behind those of the report'
+        for name, what in (('behind', 'the faults behind those of the report'), ('coverage', 'how much the report is about')):
+            if run.get('properties', {}).get(name) != self.report.get(name):
+                yield what
         if len(results) != len(wanted):
             yield f'{len(results)} results in place of {len(wanted)}'
             return

@@ -26,6 +26,7 @@ COMMANDS = [
     (['verify', *TRANSFER], True),
     (['verify', '--explain', *WARD], True),
     (['verify', '--strict', '--output', 'sarif', *WARD], True),
+    (['verify', '--baseline', 'examples/recipes/release/known.txt', 'examples/recipes/release/rules.toml', 'examples/recipes/release/after'], True),
     (['make', *TRANSFER], False),
     (['make', '--format', '2', *TRANSFER], False),
     (['convert', 'examples/transfer/bank.cert'], False),

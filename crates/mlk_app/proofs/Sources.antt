@@ -16,15 +16,15 @@ cut-at : (paths : List (Bor (List ℕ))) (i : ℕ) (d : Bor (List ℕ)) → i < 
 cut-at paths i d less =
     ap bytes_of (sym (take-append-drop i paths)) ∙ map-append (λ p. p.now) (take i paths) (drop i paths) ∙ ap (λ l. bytes_of (take i paths) ++ bytes_of l) (drop_more paths i d less)
 
-pub loses-first : (holds : Texts) (lacks : List ℕ → Type 0) (paths : List (Bor (List ℕ))) (i : ℕ) (d : Bor (List ℕ)) (e : FileError) → i < length paths → AreHeld holds (bytes_of (take i paths))
-    → Loses lacks (slice_index_or paths i d).now e → LosesFirst holds lacks (bytes_of paths) e
-loses-first holds lacks paths i d error.OutOfMemory less held lost = record {}
-loses-first holds lacks paths i d (error.Unread path) less held (same, lost) = record {
+pub loses-first : (holds : Texts) (unreadable : List ℕ → Type 0) (paths : List (Bor (List ℕ))) (i : ℕ) (d : Bor (List ℕ)) (e : FileError) → i < length paths → AreHeld holds (bytes_of (take i paths))
+    → Loses unreadable (slice_index_or paths i d).now e → LosesFirst holds unreadable (bytes_of paths) e
+loses-first holds unreadable paths i d error.OutOfMemory less held lost = record {}
+loses-first holds unreadable paths i d (error.Unread path) less held (same, lost) = record {
   front = bytes_of (take i paths);
   after = bytes_of (drop (i + 1) paths);
   cut = cut-at paths i d less ∙ ap (λ p. bytes_of (take i paths) ++ p ∷ bytes_of (drop (i + 1) paths)) (sym same);
   held = held;
-  lost = subst lacks (sym same) lost;
+  lost = subst unreadable (sym same) lost;
 }
 
 held-one-more : (holds : Texts) (paths : List (List ℕ)) (path text : List ℕ) → AreHeld holds paths → holds path text → AreHeld holds (paths ++ path ∷ [])
@@ -47,19 +47,19 @@ read-more holds paths i d source done longer less is here before more h =
 pub read-all : (holds : Texts) (paths : List (Bor (List ℕ))) (i : ℕ) (done : List Source) → length paths ≤ i → ((more : List Source) → AreSources holds (drop i paths) more → AreSources holds paths (done ++ more)) → AreSources holds paths done
 read-all holds paths i done past before = subst (AreSources holds paths) (append-nil done) (before [] (subst (λ l. AreSources holds l []) (sym (drop_all i paths past)) (record {})))
 
-pub loses-front : (holds : Texts) (lacks : List ℕ → Type 0) (path : List ℕ) (paths : List (List ℕ)) (e : FileError) → Loses lacks path e → LosesFirst holds lacks (path ∷ paths) e
-loses-front holds lacks path paths error.OutOfMemory lost = record {}
-loses-front holds lacks path paths (error.Unread other) (same, lost) = record {
+pub loses-front : (holds : Texts) (unreadable : List ℕ → Type 0) (path : List ℕ) (paths : List (List ℕ)) (e : FileError) → Loses unreadable path e → LosesFirst holds unreadable (path ∷ paths) e
+loses-front holds unreadable path paths error.OutOfMemory lost = record {}
+loses-front holds unreadable path paths (error.Unread other) (same, lost) = record {
   front = [];
   after = paths;
   cut = ap (λ p. p ∷ paths) (sym same);
   held = record {};
-  lost = subst lacks (sym same) lost;
+  lost = subst unreadable (sym same) lost;
 }
 
-pub loses-after : (holds : Texts) (lacks : List ℕ → Type 0) (path text : List ℕ) (paths : List (List ℕ)) (e : FileError) → holds path text → LosesFirst holds lacks paths e → LosesFirst holds lacks (path ∷ paths) e
-loses-after holds lacks path text paths error.OutOfMemory held lost = record {}
-loses-after holds lacks path text paths (error.Unread other) held lost = record {
+pub loses-after : (holds : Texts) (unreadable : List ℕ → Type 0) (path text : List ℕ) (paths : List (List ℕ)) (e : FileError) → holds path text → LosesFirst holds unreadable paths e → LosesFirst holds unreadable (path ∷ paths) e
+loses-after holds unreadable path text paths error.OutOfMemory held lost = record {}
+loses-after holds unreadable path text paths (error.Unread other) held lost = record {
   front = path ∷ lost.front;
   after = lost.after;
   cut = ap (λ l. path ∷ l) lost.cut;
@@ -68,9 +68,9 @@ loses-after holds lacks path text paths (error.Unread other) held lost = record 
 }
 
 -- what is lost among the first paths is lost among all
-pub loses-within : (holds : Texts) (lacks : List ℕ → Type 0) (paths more : List (List ℕ)) (e : FileError) → LosesFirst holds lacks paths e → LosesFirst holds lacks (paths ++ more) e
-loses-within holds lacks paths more error.OutOfMemory lost = record {}
-loses-within holds lacks paths more (error.Unread path) lost = record {
+pub loses-within : (holds : Texts) (unreadable : List ℕ → Type 0) (paths more : List (List ℕ)) (e : FileError) → LosesFirst holds unreadable paths e → LosesFirst holds unreadable (paths ++ more) e
+loses-within holds unreadable paths more error.OutOfMemory lost = record {}
+loses-within holds unreadable paths more (error.Unread path) lost = record {
   front = lost.front;
   after = lost.after ++ more;
   cut = ap (λ l. l ++ more) lost.cut ∙ append_assoc lost.front (path.now ∷ lost.after) more;
@@ -79,15 +79,24 @@ loses-within holds lacks paths more (error.Unread path) lost = record {
 }
 
 -- what is lost after the text of the certificate, or of the events, was had
-pub loses-past : (holds : Texts) (lacks : List ℕ → Type 0) (a : Asked) (w : Work) (paths : List (List ℕ)) (e : FileError) → IsWork holds a w → LosesFirst holds lacks paths e
-    → LosesFirst holds lacks (work_path a ++ paths) e
-loses-past holds lacks (asked.Check path workers style) (work.Check text given) paths e held lost = loses-after holds lacks path.now text.items paths e held.0 lost
-loses-past holds lacks (asked.Check path workers style) (work.Make format) paths e held lost = absurd held
-loses-past holds lacks (asked.Check path workers style) (work.Verify given) paths e held lost = absurd held
-loses-past holds lacks (asked.Check path workers style) (work.Replay text) paths e held lost = absurd held
-loses-past holds lacks (asked.Make format) w paths e held lost = lost
-loses-past holds lacks (asked.Verify workers style) w paths e held lost = lost
-loses-past holds lacks (asked.Replay path) (work.Check text given) paths e held lost = absurd held
-loses-past holds lacks (asked.Replay path) (work.Make format) paths e held lost = absurd held
-loses-past holds lacks (asked.Replay path) (work.Verify given) paths e held lost = absurd held
-loses-past holds lacks (asked.Replay path) (work.Replay text) paths e held lost = loses-after holds lacks path.now text.items paths e held lost
+pub loses-past : (holds : Texts) (unreadable : List ℕ → Type 0) (a : Asked) (w : Work) (paths : List (List ℕ)) (e : FileError) → IsWork holds a w → LosesFirst holds unreadable paths e
+    → LosesFirst holds unreadable (work_path a ++ paths) e
+loses-past holds unreadable (asked.Check path workers style) (work.Check text given) paths e held lost = loses-after holds unreadable path.now text.items paths e held.0 lost
+loses-past holds unreadable (asked.Check path workers style) (work.Make format) paths e held lost = absurd held
+loses-past holds unreadable (asked.Check path workers style) (work.Verify given) paths e held lost = absurd held
+loses-past holds unreadable (asked.Check path workers style) (work.Replay text) paths e held lost = absurd held
+loses-past holds unreadable (asked.Make format) w paths e held lost = lost
+loses-past holds unreadable (asked.Verify workers style) w paths e held lost = lost
+loses-past holds unreadable (asked.Replay path) (work.Check text given) paths e held lost = absurd held
+loses-past holds unreadable (asked.Replay path) (work.Make format) paths e held lost = absurd held
+loses-past holds unreadable (asked.Replay path) (work.Verify given) paths e held lost = absurd held
+loses-past holds unreadable (asked.Replay path) (work.Replay text) paths e held lost = loses-after holds unreadable path.now text.items paths e held lost
+
+-- what is lost after the texts of routines were had
+pub loses-behind : (holds : Texts) (unreadable : List ℕ → Type 0) (paths : List (Bor (List ℕ))) (sources : List Source) (more : List (List ℕ)) (e : FileError) → AreSources holds paths sources → LosesFirst holds unreadable more e
+    → LosesFirst holds unreadable (bytes_of paths ++ more) e
+loses-behind holds unreadable [] [] more e read lost = lost
+loses-behind holds unreadable [] (source ∷ sources) more e read lost = absurd read
+loses-behind holds unreadable (path ∷ paths) [] more e read lost = absurd read
+loses-behind holds unreadable (path ∷ paths) (source ∷ sources) more e read lost =
+    loses-after holds unreadable path.now source.text.items (bytes_of paths ++ more) e read.0.1 (loses-behind holds unreadable paths sources more e read.1 lost)

@@ -14,15 +14,15 @@ use Rattle.mlk_app.proofs.Saying.{no-notice}
 use Rattle.mlk_app.specs.Ran.{TellsStubFault, TellsUnread, PrintsStubs, Answers}
 
 pub fault-printed : (fault : Fault) (a : Answer) → TellsStubFault fault a → PrintsStubs a
-fault-printed fault (answer.Report text status) told = absurd told
-fault-printed fault (answer.Refused line notice help) told = ((fault, told.0), told.1)
-fault-printed fault (answer.Unread line help) told = absurd told
-fault-printed fault (answer.Usage text) told = absurd told
-fault-printed fault answer.OutOfMemory told = record {}
+fault-printed fault (answer.Report text status) printed = absurd printed
+fault-printed fault (answer.Refused line notice help) printed = ((fault, printed.0), printed.1)
+fault-printed fault (answer.Unread line help) printed = absurd printed
+fault-printed fault (answer.Usage text) printed = absurd printed
+fault-printed fault answer.OutOfMemory printed = record {}
 
-pub stubs-answer : (holds : Texts) (lacks : List ℕ → Type 0) (stubs : StubsRequest) (sources : List Source) (a : Answer) → AreSources holds stubs.routines.items sources → PrintsStubs a
-    → Answers holds lacks (request.Stubs stubs) a
-stubs-answer holds lacks stubs sources (answer.Report text status) texts printed = (
+pub stubs-answer : (holds : Texts) (unreadable : List ℕ → Type 0) (stubs : StubsRequest) (sources : List Source) (a : Answer) → AreSources holds stubs.routines.items sources → PrintsStubs a
+    → Answers holds unreadable (request.Stubs stubs) a
+stubs-answer holds unreadable stubs sources (answer.Report text status) texts printed = (
   record {
     sources = sources;
     texts = texts;
@@ -30,19 +30,19 @@ stubs-answer holds lacks stubs sources (answer.Report text status) texts printed
   },
   printed.1,
 )
-stubs-answer holds lacks stubs sources (answer.Refused line notice help) texts printed = (printed.0, printed.1)
-stubs-answer holds lacks stubs sources (answer.Unread line help) texts printed = absurd printed
-stubs-answer holds lacks stubs sources (answer.Usage text) texts printed = absurd printed
-stubs-answer holds lacks stubs sources answer.OutOfMemory texts printed = record {}
+stubs-answer holds unreadable stubs sources (answer.Refused line notice help) texts printed = (printed.0, printed.1)
+stubs-answer holds unreadable stubs sources (answer.Unread line help) texts printed = absurd printed
+stubs-answer holds unreadable stubs sources (answer.Usage text) texts printed = absurd printed
+stubs-answer holds unreadable stubs sources answer.OutOfMemory texts printed = record {}
 
-pub unstubbed-answers : (holds : Texts) (lacks : List ℕ → Type 0) (stubs : StubsRequest) (path : Bor (List ℕ)) (a : Answer) → LosesFirst holds lacks (bytes_of stubs.routines.items) (error.Unread path)
-    → TellsUnread path.now a → Answers holds lacks (request.Stubs stubs) a
-unstubbed-answers holds lacks stubs path (answer.Report text status) lost told = absurd told
-unstubbed-answers holds lacks stubs path (answer.Refused line notice help) lost told = absurd told
-unstubbed-answers holds lacks stubs path (answer.Unread line help) lost told = record {
+pub unstubbed-answers : (holds : Texts) (unreadable : List ℕ → Type 0) (stubs : StubsRequest) (path : Bor (List ℕ)) (a : Answer) → LosesFirst holds unreadable (bytes_of stubs.routines.items) (error.Unread path)
+    → TellsUnread path.now a → Answers holds unreadable (request.Stubs stubs) a
+unstubbed-answers holds unreadable stubs path (answer.Report text status) lost printed = absurd printed
+unstubbed-answers holds unreadable stubs path (answer.Refused line notice help) lost printed = absurd printed
+unstubbed-answers holds unreadable stubs path (answer.Unread line help) lost printed = record {
   path = path.now;
   lost = lost;
-  told = told;
+  printed = printed;
 }
-unstubbed-answers holds lacks stubs path (answer.Usage text) lost told = absurd told
-unstubbed-answers holds lacks stubs path answer.OutOfMemory lost told = record {}
+unstubbed-answers holds unreadable stubs path (answer.Usage text) lost printed = absurd printed
+unstubbed-answers holds unreadable stubs path answer.OutOfMemory lost printed = record {}

@@ -1,7 +1,8 @@
 -- The texts that a command reads: those of the files that it names, and a routine's name from its file's. This
 -- project's own choice.
-use Rattle.std.specs.Prelude.{Option, None, Some, ℕ, ◌≡◌, ◌<◌, ◌⊎◌, List, [], ◌∷◌, ◌++◌, length, slice_index}
+use Rattle.std.specs.Prelude.{Option, None, Some, option_map, map, String, string_bytes, Vec, ℕ, ◌≡◌, ◌<◌, ◌⊎◌, List, [], ◌∷◌, ◌++◌, length, slice_index}
 use Rattle.std.specs.Borrow.{Bor}
+use Rattle.std.specs.Global.{Global}
 use Rattle.mlk_app.specs.declared.source.FileError.{FileError}
 use Rattle.mlk_app.specs.declared.source.FileError.TheVariants as error
 use Rattle.mlk_pool.specs.declared.source.Source.{Source}
@@ -38,6 +39,14 @@ IsPathStem path stem = (name : List ℕ) × IsFileName path name × IsNameStem n
 abbrev pub Texts : Type 1
 Texts = List ℕ → List ℕ → Type 0
 
+-- what is known of folders: the paths of the routines below a path, in order; `None` if it is no folder
+abbrev pub Folders : Type 1
+Folders = List ℕ → Option (List (List ℕ)) → Type 0
+
+-- the texts of the paths below a folder
+abbrev pub texts_below : Option (Vec (String Global) Global) → Option (List (List ℕ))
+texts_below found = option_map (λ v. map string_bytes v.items) found
+
 -- a routine is the text at its path, under the stem of its file's name
 abbrev pub IsSource : Texts → List ℕ → Source → Type 0
 IsSource holds path source = IsPathStem path source.stem.now × holds path source.text.items
@@ -67,11 +76,24 @@ IsWork holds (asked.Replay path) (work.Make format) = ⊥
 IsWork holds (asked.Replay path) (work.Verify given) = ⊥
 IsWork holds (asked.Replay path) (work.Replay text) = holds path.now text.items
 
+-- the path of a file that may be given
+abbrev pub given_path : Option (Bor (List ℕ)) → List (List ℕ)
+given_path None = []
+given_path (Some path) = path.now ∷ []
+
+-- the text of a file that may be given
+abbrev pub IsGivenText : Texts → Option (Bor (List ℕ)) → Option (Vec ℕ Global) → Type 0
+IsGivenText holds None None = Unit {0}
+IsGivenText holds None (Some text) = ⊥
+IsGivenText holds (Some path) None = ⊥
+IsGivenText holds (Some path) (Some text) = holds path.now text.items
+
 -- the texts are those of the files of a program that a command names
 pub record AreTexts (holds : Texts) (program : ProgramRequest) (sources : Sources) : Type 0 where
   pub rules : holds program.rules.now sources.rules.items
   pub work : IsWork holds program.asked sources.work
   pub routines : AreSources holds program.routines.items sources.routines.items
+  pub baseline : IsGivenText holds program.baseline sources.baseline
 
 abbrev pub work_path : Asked → List (List ℕ)
 work_path (asked.Check path workers style) = path.now ∷ []
@@ -79,20 +101,15 @@ work_path (asked.Make format) = []
 work_path (asked.Verify workers style) = []
 work_path (asked.Replay path) = path.now ∷ []
 
--- the paths that a command names, in the order of its words
+-- the paths that a command names, in the order of its words, and that of the known faults last
 abbrev pub program_paths : ProgramRequest → List (List ℕ)
-program_paths program = program.rules.now ∷ (work_path program.asked ++ bytes_of program.routines.items)
-
--- the path of the rules beside which others are suggested, if there is one
-abbrev pub beside_path : Option (Bor (List ℕ)) → List (List ℕ)
-beside_path None = []
-beside_path (Some path) = path.now ∷ []
+program_paths program = program.rules.now ∷ (work_path program.asked ++ (bytes_of program.routines.items ++ given_path program.baseline))
 
 abbrev pub paths_of : Request → List (List ℕ)
 paths_of (request.Program program) = program_paths program
 paths_of (request.Convert certificate format) = certificate.now ∷ []
 paths_of (request.Survey survey) = bytes_of survey.routines.items
-paths_of (request.Suggest suggestion) = beside_path suggestion.beside ++ bytes_of suggestion.routines.items
+paths_of (request.Suggest suggestion) = given_path suggestion.beside ++ bytes_of suggestion.routines.items
 paths_of (request.Stubs stubs) = bytes_of stubs.routines.items
 paths_of (request.Explain code) = []
 
@@ -102,19 +119,34 @@ AreHeld holds [] = Unit {0}
 AreHeld holds (path ∷ paths) = ((text : List ℕ) × holds path text) × AreHeld holds paths
 
 -- the first path of a list that can't be read
-pub record IsFirstLost (holds : Texts) (lacks : List ℕ → Type 0) (paths : List (List ℕ)) (path : List ℕ) : Type 0 where
+pub record IsFirstLost (holds : Texts) (unreadable : List ℕ → Type 0) (paths : List (List ℕ)) (path : List ℕ) : Type 0 where
   pub front : List (List ℕ)
   pub after : List (List ℕ)
   pub cut : paths ≡ front ++ path ∷ after
   pub held : AreHeld holds front
-  pub lost : lacks path
+  pub lost : unreadable path
 
 -- why a file was not read. Want of memory says nothing.
 abbrev pub Loses : (List ℕ → Type 0) → List ℕ → FileError → Type 0
-Loses lacks path error.OutOfMemory = Unit {0}
-Loses lacks path (error.Unread other) = (other.now ≡ path) × lacks path
+Loses unreadable path error.OutOfMemory = Unit {0}
+Loses unreadable path (error.Unread other) = (other.now ≡ path) × unreadable path
+
+-- the same of some path
+abbrev pub LosesPath : (List ℕ → Type 0) → FileError → Type 0
+LosesPath unreadable error.OutOfMemory = Unit {0}
+LosesPath unreadable (error.Unread path) = unreadable path.now
 
 -- the same of the first of a list
 abbrev pub LosesFirst : Texts → (List ℕ → Type 0) → List (List ℕ) → FileError → Type 0
-LosesFirst holds lacks paths error.OutOfMemory = Unit {0}
-LosesFirst holds lacks paths (error.Unread path) = IsFirstLost holds lacks paths path.now
+LosesFirst holds unreadable paths error.OutOfMemory = Unit {0}
+LosesFirst holds unreadable paths (error.Unread path) = IsFirstLost holds unreadable paths path.now
+
+-- what a path stands for: the routines below it, if it is a folder; else itself
+abbrev pub or_itself : List ℕ → Option (List (List ℕ)) → List (List ℕ)
+or_itself path None = path ∷ []
+or_itself path (Some below) = below
+
+-- The paths of routines: those of files, and of a folder those of all routines below it.
+abbrev pub AreFound : Folders → List (List ℕ) → List (List ℕ) → Type 0
+AreFound below [] found = found ≡ []
+AreFound below (path ∷ paths) found = (at : Option (List (List ℕ))) × (more : List (List ℕ)) × below path at × AreFound below paths more × (found ≡ or_itself path at ++ more)

@@ -15,6 +15,7 @@ use Rattle.mlk_machine.specs.declared.fault.EventsRefusal.TheVariants as why
 use Rattle.mlk_pool.specs.Texts.{space, line_end, code_text, place_text}
 use Rattle.mlk_rules_file.specs.RuleAnswers.{section_word}
 use Rattle.mlk_walk_exprs.specs.declared.walk.Fault.{Fault as WalkFault}
+use Rattle.mlk_baseline.specs.declared.baseline.BaselineFault.{BaselineFault}
 
 -- the word after a code that leaves something out
 abbrev pub left_out_text : Option LeftOut → List ℕ
@@ -56,6 +57,10 @@ events_code (why.Refused cant.UnknownJob) = UnknownJob
 -- `refused line LINE CODE NAME`
 abbrev pub events_line : EventsFault → List ℕ
 events_line f = codes "refused line " ++ decimal f.line ++ space ++ code_text (events_code f.why) ++ line_end
+
+-- `refused baseline LINE`
+abbrev pub baseline_line : BaselineFault → List ℕ
+baseline_line f = codes "refused baseline " ++ decimal f.line ++ line_end
 
 -- `error file PATH`
 abbrev pub file_line : List ℕ → List ℕ

@@ -1,6 +1,6 @@
 -- What the program says: what it prints on standard output, what it tells on the error stream, and the status that
 -- it ends with. This project's own choice.
-use Rattle.std.specs.Prelude.{◌≡◌, ◌⊎◌, ℕ, List, [], ◌∷◌, Bool, true, false, Option, None, Some, String}
+use Rattle.std.specs.Prelude.{◌≡◌, ◌⊎◌, ◌||◌, ◌++◌, ℕ, List, [], ◌∷◌, length, Bool, true, false, Option, None, Some, option_copied, String}
 use Rattle.std.specs.Io.KnownBytes.{Keeps, Appends}
 use Rattle.mlk_syntax.specs.Trees.{RoutineTree}
 use Rattle.mlk_walk.specs.declared.report.Row.{Row}
@@ -13,6 +13,7 @@ use Rattle.mlk_cli.specs.declared.words.ProgramRequest.{ProgramRequest}
 use Rattle.mlk_cli.specs.declared.words.SurveyRequest.{SurveyRequest}
 use Rattle.mlk_cli.specs.declared.words.SuggestRequest.{SuggestRequest}
 use Rattle.mlk_cli.specs.declared.words.StubsRequest.{StubsRequest}
+use Rattle.mlk_cli.specs.declared.words.Invocation.{Invocation}
 use Rattle.mlk_cli.specs.declared.words.Request.{Request}
 use Rattle.mlk_cli.specs.declared.words.Request.TheVariants as request
 use Rattle.mlk_text.specs.declared.failure.Failure.TheVariants as failure
@@ -33,9 +34,13 @@ use Rattle.mlk_rules_file.specs.declared.read.fault.RulesFault.{RulesFault}
 use Rattle.mlk_suggest_text.specs.RuleTexts.{IsRuleText}
 use Rattle.mlk_stubs.specs.StubTexts.{AreStubs}
 use Rattle.mlk_text.specs.declared.fault.Fault.{Fault}
-use Rattle.mlk_forms.specs.Rendering.{IsRendered, IsNoticed}
-use Rattle.mlk_app.specs.Printed.{fault_line, rules_line, certificate_line, missing_line, workers_line, stuck_line, events_line, file_line, no_page_line}
-use Rattle.mlk_app.specs.Files.{Texts, AreTexts, AreSources, IsFirstLost, beside_path, cert_format, paths_of}
+use Rattle.mlk_baseline.specs.declared.baseline.Baseline.{Baseline}
+use Rattle.mlk_baseline.specs.declared.baseline.Comparison.{Comparison}
+use Rattle.mlk_baseline.specs.declared.baseline.BaselineFault.{BaselineFault}
+use Rattle.mlk_baseline.specs.Known.{IsComparison}
+use Rattle.mlk_forms.specs.Rendering.{IsRendered, IsNoticed, printed_rows}
+use Rattle.mlk_app.specs.Printed.{fault_line, rules_line, certificate_line, missing_line, workers_line, stuck_line, events_line, baseline_line, file_line, no_page_line}
+use Rattle.mlk_app.specs.Files.{Texts, Folders, AreFound, AreTexts, AreSources, IsFirstLost, given_path, cert_format, paths_of, program_paths}
 use Rattle.mlk_cli.specs.CommandLine.{IsRequest, AsksNothing, bytes_of}
 use Rattle.mlk_program.specs.Program.{IsProgram}
 use Rattle.mlk_rules.specs.declared.rules.RuleLists.{RuleLists}
@@ -48,9 +53,9 @@ use Rattle.mlk_outcome.specs.Making.{IsMade, IsUnmade}
 use Rattle.mlk_outcome.specs.Replaying.{IsReplayed, IsUnreplayed}
 use Rattle.mlk_outcome.specs.Conversion.{IsConverted, IsUnconverted}
 
--- how a report is told: as text, without hazards and explanations, unless the words say otherwise
+-- how a report is printed: as text, without hazards and explanations, unless the words say otherwise
 abbrev pub plain_style : ReportStyle
-plain_style = record { output = Plain; is_strict = false; is_explained = false }
+plain_style = record { output = Plain; is_strict = false; is_explained = false; is_quiet = false; exits_zero = false }
 
 abbrev pub style_in : Asked → ReportStyle
 style_in (asked.Check certificate workers style) = style
@@ -66,18 +71,34 @@ output_in (request.Suggest suggestion) = Plain
 output_in (request.Stubs stubs) = Plain
 output_in (request.Explain code) = Plain
 
--- 0 for a report that passes, 1 for another
+-- 0 for a report that passes, or if the words ask for it; else 1
 abbrev pub status_of : Bool → ℕ
 status_of true = 0
 status_of false = 1
 
--- What is printed of a report, and the status: in whatever form it is told, 0 says that it has no row. In the plain style it
--- passes if it has none, and the text is that of the report.
-pub record IsReportPrinted (style : ReportStyle) (trees : List RoutineTree) (rows : List Row) (text : List ℕ) (status : ℕ) : Type 0 where
+abbrev pub status_in : ReportStyle → Bool → ℕ
+status_in style passed = status_of (passed || style.exits_zero)
+
+-- The faults of a report are compared with known ones if there are such.
+abbrev pub AreCompared : Option (Bor Baseline) → List Row → Option Comparison → Type 0
+AreCompared None rows comparison = comparison ≡ None
+AreCompared (Some known) rows None = ⊥
+AreCompared (Some known) rows (Some comparison) = IsComparison (length rows) comparison
+
+-- What is printed of a report, and the status: in whatever form it is printed, 0 says that it has no row, or, beside known faults, no
+-- row that is new, unless the words ask for 0 in any case. In the plain style it passes if it has none, and the text is that of the
+-- report.
+pub record IsPrintedBeside (style : ReportStyle) (comparison : Option (Bor Comparison)) (trees : List RoutineTree) (rows : List Row) (text : List ℕ) (status : ℕ) : Type 0 where
   pub passed : Bool
-  pub told : IsRendered style trees rows text passed
-  pub ended : status ≡ status_of passed
-  pub yes : status ≡ 0 → rows ≡ []
+  pub printed : IsRendered style comparison trees rows text passed
+  pub ended : status ≡ status_in style passed
+  pub yes : style.exits_zero ≡ false → status ≡ 0 → printed_rows comparison rows ≡ []
+
+-- The same, where the faults are compared with known ones if there are such.
+pub record IsReportPrinted (program : ProgramRequest) (known : Option (Bor Baseline)) (trees : List RoutineTree) (rows : List Row) (text : List ℕ) (status : ℕ) : Type 0 where
+  pub comparison : Option (Bor Comparison)
+  pub compared : AreCompared known rows (option_copied comparison)
+  pub printed : IsPrintedBeside (style_in program.asked) comparison trees rows text status
 
 -- the line of what the check itself refuses
 abbrev pub IsErrorLine : CheckError → List ℕ → Type 0
@@ -100,24 +121,24 @@ IsRefusalLine (refusal.GaveUp entry fault) line = line ≡ stuck_line entry faul
 IsRefusalLine (refusal.Events fault) line = line ≡ events_line fault
 
 -- the report of a program by rules and a certificate's blocks is printed
-abbrev pub IsReportOfBlocks : ReportStyle → List RoutineTree → RuleLists → List EntryCert → List ℕ → ℕ → Type 0
-IsReportOfBlocks style trees rules blocks text status = (rows : List Row) × IsReportBy trees rules blocks rows × IsReportPrinted style trees rows text status
+abbrev pub IsReportOfBlocks : ProgramRequest → Option (Bor Baseline) → List RoutineTree → RuleLists → List EntryCert → List ℕ → ℕ → Type 0
+IsReportOfBlocks program known trees rules blocks text status = (rows : List Row) × IsReportBy trees rules blocks rows × IsReportPrinted program known trees rows text status
 
 -- the report by the certificate with this text is printed
-abbrev pub IsReportByText : ReportStyle → List RoutineTree → RuleLists → List ℕ → List ℕ → ℕ → Type 0
-IsReportByText style trees rules cert_text text status = (blocks : List EntryCert) × Spells blocks cert_text × IsReportOfBlocks style trees rules blocks text status
+abbrev pub IsReportByText : ProgramRequest → Option (Bor Baseline) → List RoutineTree → RuleLists → List ℕ → List ℕ → ℕ → Type 0
+IsReportByText program known trees rules cert_text text status = (blocks : List EntryCert) × Spells blocks cert_text × IsReportOfBlocks program known trees rules blocks text status
 
 -- the report by a certificate that is made is printed; which certificate it is, is not said
-abbrev pub IsReportOfMade : ReportStyle → List RoutineTree → RuleLists → List ℕ → ℕ → Type 0
-IsReportOfMade style trees rules text status = (blocks : List EntryCert) × IsReportOfBlocks style trees rules blocks text status
+abbrev pub IsReportOfMade : ProgramRequest → Option (Bor Baseline) → List RoutineTree → RuleLists → List ℕ → ℕ → Type 0
+IsReportOfMade program known trees rules text status = (blocks : List EntryCert) × IsReportOfBlocks program known trees rules blocks text status
 
 -- What is printed of a program and its rules, by what is asked, and the status: the report by the certificate that is given, or by
 -- one that is made; the text of a certificate that is made; what is shown of jobs after events.
-abbrev pub IsPrinted : ReportStyle → List RoutineTree → RuleLists → Work → List ℕ → ℕ → Type 0
-IsPrinted style trees rules (work.Check given workers) text status = IsReportByText style trees rules given.items text status
-IsPrinted style trees rules (work.Verify workers) text status = IsReportOfMade style trees rules text status
-IsPrinted style trees rules (work.Make format) text status = IsMade trees rules format text × (status ≡ 0)
-IsPrinted style trees rules (work.Replay events) text status = IsReplayed trees rules events.items text × (status ≡ 0)
+abbrev pub IsPrinted : ProgramRequest → Option (Bor Baseline) → List RoutineTree → RuleLists → Work → List ℕ → ℕ → Type 0
+IsPrinted program known trees rules (work.Check given workers) text status = IsReportByText program known trees rules given.items text status
+IsPrinted program known trees rules (work.Verify workers) text status = IsReportOfMade program known trees rules text status
+IsPrinted program known trees rules (work.Make format) text status = IsMade trees rules format text × (status ≡ 0)
+IsPrinted program known trees rules (work.Replay events) text status = IsReplayed trees rules events.items text × (status ≡ 0)
 
 -- why there is no report by a certificate that is made
 abbrev pub RefusesMade : ℕ → List RoutineTree → RuleLists → NoReport → Type 0
@@ -171,6 +192,14 @@ TellsStubFault fault (answer.Unread line help) = ⊥
 TellsStubFault fault (answer.Usage text) = ⊥
 TellsStubFault fault answer.OutOfMemory = Unit {0}
 
+-- the line of a fault of a list of known ones, where memory doesn't run out
+abbrev pub TellsBaseline : BaselineFault → Answer → Type 0
+TellsBaseline fault (answer.Report text status) = ⊥
+TellsBaseline fault (answer.Refused line notice help) = (line ≡ baseline_line fault) × (notice ≡ None)
+TellsBaseline fault (answer.Unread line help) = ⊥
+TellsBaseline fault (answer.Usage text) = ⊥
+TellsBaseline fault answer.OutOfMemory = Unit {0}
+
 -- the texts of stubs, or the line of a fault, where memory doesn't run out
 abbrev pub PrintsStubs : Answer → Type 0
 PrintsStubs (answer.Report text status) = AreStubs text × (status ≡ 0)
@@ -195,6 +224,12 @@ TellsPage code (answer.Unread line help) = ⊥
 TellsPage code (answer.Usage text) = ⊥
 TellsPage code answer.OutOfMemory = Unit {0}
 
+-- there are known faults if the words name a file of them
+abbrev pub AreKnown : Option (Bor (List ℕ)) → Option (Bor Baseline) → Type 0
+AreKnown None known = known ≡ None
+AreKnown (Some path) None = ⊥
+AreKnown (Some path) (Some known) = Unit {0}
+
 -- What the texts at the paths of a program come to: its routines are read and make a program, the text of its rules says rules,
 -- and this is printed of both.
 pub record IsProgramReported (holds : Texts) (program : ProgramRequest) (text : List ℕ) (status : ℕ) : Type 0 where
@@ -205,7 +240,9 @@ pub record IsProgramReported (holds : Texts) (program : ProgramRequest) (text : 
   pub linked : IsProgram trees
   pub rules : RuleLists
   pub said : SaysRules sources.rules.items rules
-  pub printed : IsPrinted (style_in program.asked) trees rules sources.work text status
+  pub known : Option (Bor Baseline)
+  pub beside : AreKnown program.baseline known
+  pub printed : IsPrinted program known trees rules sources.work text status
 
 -- The refusal of the texts at the paths of a program: of its routines, of their linking, of its rules, or for what is asked.
 pub record IsProgramRefused (holds : Texts) (program : ProgramRequest) (line : List ℕ) : Type 0 where
@@ -214,6 +251,21 @@ pub record IsProgramRefused (holds : Texts) (program : ProgramRequest) (line : L
   pub reason : NoReport
   pub refused : RefusesTexts refusal.Check sources.routines.items sources.rules.items (IsRefusedFor sources.work) reason
   pub printed : IsRefusalLine reason line
+
+-- a line of the known faults is refused; which one, is not said
+pub record IsBaselineRefused (holds : Texts) (program : ProgramRequest) (line : List ℕ) : Type 0 where
+  pub path : Bor (List ℕ)
+  pub named : program.baseline ≡ Some path
+  pub given : List ℕ
+  pub held : holds path.now given
+  pub fault : BaselineFault
+  pub printed : line ≡ baseline_line fault
+
+-- the file can't be written in which the faults of a report were to be listed as known ones
+pub record IsUnwritten (program : ProgramRequest) (line : List ℕ) : Type 0 where
+  pub path : Bor (List ℕ)
+  pub named : program.new_baseline ≡ Some path
+  pub printed : line ≡ file_line path.now
 
 -- the text in this format of the certificate whose text stands at the path
 pub record IsConvertedThere (holds : Texts) (path : List ℕ) (format : CertFormat) (text : List ℕ) : Type 0 where
@@ -227,7 +279,7 @@ pub record IsUnconvertedThere (holds : Texts) (path : List ℕ) (format : CertFo
   pub held : holds path given
   pub fault : CertFault
   pub refused : IsUnconverted format given (failure.Refused fault)
-  pub told : line ≡ certificate_line fault
+  pub printed : line ≡ certificate_line fault
 
 -- A survey is made of the texts at the paths, whatever they are: none is refused. What it says is not said.
 pub record IsSurveyed (holds : Texts) (survey : SurveyRequest) : Type 0 where
@@ -243,12 +295,12 @@ pub record IsSuggested (holds : Texts) (paths : List (Bor (List ℕ))) (text : L
 -- the refusal of the rules beside which others were to be suggested
 pub record IsUnsuggested (holds : Texts) (suggestion : SuggestRequest) (line : List ℕ) : Type 0 where
   pub path : List ℕ
-  pub named : beside_path suggestion.beside ≡ path ∷ []
+  pub named : given_path suggestion.beside ≡ path ∷ []
   pub given : List ℕ
   pub held : holds path given
   pub fault : RulesFault
   pub refused : RefusesRules given (failure.Refused fault)
-  pub told : line ≡ rules_line fault
+  pub printed : line ≡ rules_line fault
 
 -- Stubs are printed for the texts at the paths, whatever they are: routines, one after another; which ones, nothing says.
 pub record IsStubbed (holds : Texts) (stubs : StubsRequest) (text : List ℕ) : Type 0 where
@@ -257,18 +309,18 @@ pub record IsStubbed (holds : Texts) (stubs : StubsRequest) (text : List ℕ) : 
   pub printed : AreStubs text
 
 -- the first of these paths that can't be read
-pub record IsFirstUnread (holds : Texts) (lacks : List ℕ → Type 0) (paths : List (List ℕ)) (line : List ℕ) : Type 0 where
+pub record IsFirstUnread (holds : Texts) (unreadable : List ℕ → Type 0) (paths : List (List ℕ)) (line : List ℕ) : Type 0 where
   pub path : List ℕ
-  pub lost : IsFirstLost holds lacks paths path
-  pub told : line ≡ file_line path
+  pub lost : IsFirstLost holds unreadable paths path
+  pub printed : line ≡ file_line path
 
 -- what is answered if rules are suggested for the routines at these paths
 abbrev pub SuggestsFor : Texts → (List ℕ → Type 0) → List (Bor (List ℕ)) → Answer → Type 0
-SuggestsFor holds lacks paths (answer.Report text status) = IsSuggested holds paths text × (status ≡ 0)
-SuggestsFor holds lacks paths (answer.Refused line notice help) = ⊥
-SuggestsFor holds lacks paths (answer.Unread line help) = IsFirstUnread holds lacks (bytes_of paths) line
-SuggestsFor holds lacks paths (answer.Usage text) = ⊥
-SuggestsFor holds lacks paths answer.OutOfMemory = Unit {0}
+SuggestsFor holds unreadable paths (answer.Report text status) = IsSuggested holds paths text × (status ≡ 0)
+SuggestsFor holds unreadable paths (answer.Refused line notice help) = ⊥
+SuggestsFor holds unreadable paths (answer.Unread line help) = IsFirstUnread holds unreadable (bytes_of paths) line
+SuggestsFor holds unreadable paths (answer.Usage text) = ⊥
+SuggestsFor holds unreadable paths answer.OutOfMemory = Unit {0}
 
 -- what the texts at the paths of a request come to: a certificate is printed as it is; what a page says is not said
 abbrev pub IsReported : Texts → Request → List ℕ → ℕ → Type 0
@@ -280,7 +332,7 @@ IsReported holds (request.Stubs stubs) text status = IsStubbed holds stubs text 
 IsReported holds (request.Explain code) text status = status ≡ 0
 
 abbrev pub IsRefusedThere : Texts → Request → List ℕ → Type 0
-IsRefusedThere holds (request.Program program) line = IsProgramRefused holds program line
+IsRefusedThere holds (request.Program program) line = IsProgramRefused holds program line ⊎ IsBaselineRefused holds program line
 IsRefusedThere holds (request.Convert certificate format) line = IsUnconvertedThere holds certificate.now (cert_format format) line
 IsRefusedThere holds (request.Survey survey) line = ⊥
 IsRefusedThere holds (request.Suggest suggestion) line = IsUnsuggested holds suggestion line
@@ -291,17 +343,22 @@ IsRefusedThere holds (request.Explain code) line = line ≡ no_page_line code.no
 abbrev pub IsRefusedSo : Texts → Request → List ℕ → Option (List ℕ) → Type 0
 IsRefusedSo holds request line notice = IsRefusedThere holds request line × IsNoticed (output_in request) notice
 
--- the first path of a request that can't be read
+-- the first path of a request that can't be read; of a program also the one that can't be written
 abbrev pub IsUnread : Texts → (List ℕ → Type 0) → Request → List ℕ → Type 0
-IsUnread holds lacks request line = IsFirstUnread holds lacks (paths_of request) line
+IsUnread holds unreadable (request.Program program) line = IsFirstUnread holds unreadable (program_paths program) line ⊎ IsUnwritten program line
+IsUnread holds unreadable (request.Convert certificate format) line = IsFirstUnread holds unreadable (paths_of (request.Convert certificate format)) line
+IsUnread holds unreadable (request.Survey survey) line = IsFirstUnread holds unreadable (paths_of (request.Survey survey)) line
+IsUnread holds unreadable (request.Suggest suggestion) line = IsFirstUnread holds unreadable (paths_of (request.Suggest suggestion)) line
+IsUnread holds unreadable (request.Stubs stubs) line = IsFirstUnread holds unreadable (paths_of (request.Stubs stubs)) line
+IsUnread holds unreadable (request.Explain code) line = ⊥
 
 -- What the program answers to a request. Want of memory says nothing.
 abbrev pub Answers : Texts → (List ℕ → Type 0) → Request → Answer → Type 0
-Answers holds lacks request (answer.Report text status) = IsReported holds request text status
-Answers holds lacks request (answer.Refused line notice help) = IsRefusedSo holds request line notice
-Answers holds lacks request (answer.Unread line help) = IsUnread holds lacks request line
-Answers holds lacks request (answer.Usage text) = ⊥
-Answers holds lacks request answer.OutOfMemory = Unit {0}
+Answers holds unreadable request (answer.Report text status) = IsReported holds request text status
+Answers holds unreadable request (answer.Refused line notice help) = IsRefusedSo holds request line notice
+Answers holds unreadable request (answer.Unread line help) = IsUnread holds unreadable request line
+Answers holds unreadable request (answer.Usage text) = ⊥
+Answers holds unreadable request answer.OutOfMemory = Unit {0}
 
 -- how a refusal is said, and what is printed beside its line
 abbrev pub IsRefusalSaid : Option (List ℕ) → Option (List ℕ) → Option (List ℕ) → ℕ → Type 0
@@ -316,16 +373,77 @@ IsSaid (answer.Unread line help) old new status = (status ≡ 3) × Keeps old ne
 IsSaid (answer.Usage text) old new status = (status ≡ 2) × Keeps old new
 IsSaid answer.OutOfMemory old new status = (status ≡ 3) × Keeps old new
 
--- What the program answers to its words: the answer to their request, or that they ask for nothing.
-abbrev pub AnswersWords : {A : Type 0} → Texts → (List ℕ → Type 0) → List (String A) → Answer → Type 0
-AnswersWords holds lacks words (answer.Report text status) = (request : Request) × IsRequest words request × IsReported holds request text status
-AnswersWords holds lacks words (answer.Refused line notice help) = (request : Request) × IsRequest words request × IsRefusedSo holds request line notice
-AnswersWords holds lacks words (answer.Unread line help) = (request : Request) × IsRequest words request × IsUnread holds lacks request line
-AnswersWords holds lacks words (answer.Usage text) = AsksNothing words
-AnswersWords holds lacks words answer.OutOfMemory = Unit {0}
+-- the paths of the routines that a request names
+abbrev pub named_paths : Request → List (List ℕ)
+named_paths (request.Program program) = bytes_of program.routines.items
+named_paths (request.Convert certificate format) = []
+named_paths (request.Survey survey) = bytes_of survey.routines.items
+named_paths (request.Suggest suggestion) = bytes_of suggestion.routines.items
+named_paths (request.Stubs stubs) = bytes_of stubs.routines.items
+named_paths (request.Explain code) = []
+
+-- a request with other routines
+abbrev pub IsWithRoutines : Request → List (List ℕ) → Request → Type 0
+IsWithRoutines (request.Program program) found (request.Program other) = (bytes_of other.routines.items ≡ found) × (other ≡ record program { routines = other.routines })
+IsWithRoutines (request.Survey survey) found (request.Survey other) = (bytes_of other.routines.items ≡ found) × (other ≡ record survey { routines = other.routines })
+IsWithRoutines (request.Suggest suggestion) found (request.Suggest other) = (bytes_of other.routines.items ≡ found) × (other ≡ record suggestion { routines = other.routines })
+IsWithRoutines (request.Stubs stubs) found (request.Stubs other) = (bytes_of other.routines.items ≡ found) × (other ≡ record stubs { routines = other.routines })
+IsWithRoutines r found other = other ≡ r
+
+-- the paths that a text lists: none if there is no text. Which they are is not said.
+abbrev pub MayList : Bool → List (List ℕ) → Type 0
+MayList false paths = paths ≡ []
+MayList true paths = Unit {0}
+
+-- the paths that a file lists: none if there is no file
+abbrev pub AreListed : Texts → Option (Bor (List ℕ)) → List (List ℕ) → Type 0
+AreListed holds None paths = paths ≡ []
+AreListed holds (Some list) paths = (text : List ℕ) × holds list.now text
+
+-- What a command line asks for, with the routines that are found at its paths, and at those that a file lists: of a folder those below
+-- it.
+pub record Finds (holds : Texts) (below : Folders) (line : Invocation) (request : Request) : Type 0 where
+  pub listed : List (List ℕ)
+  pub of_list : AreListed holds line.list listed
+  pub paths : List (List ℕ)
+  pub found : AreFound below (named_paths line.request ++ listed) paths
+  pub replaced : IsWithRoutines line.request paths request
+
+-- the list of routines, or a folder, that can't be read
+abbrev pub IsUnfound : (List ℕ → Type 0) → List ℕ → Type 0
+IsUnfound unreadable line = (path : List ℕ) × unreadable path × (line ≡ file_line path)
+
+-- what is answered where a list of routines, or a folder, can't be read
+abbrev pub TellsUnfound : (List ℕ → Type 0) → Answer → Type 0
+TellsUnfound unreadable (answer.Report text status) = ⊥
+TellsUnfound unreadable (answer.Refused line notice help) = ⊥
+TellsUnfound unreadable (answer.Unread line help) = IsUnfound unreadable line
+TellsUnfound unreadable (answer.Usage text) = ⊥
+TellsUnfound unreadable answer.OutOfMemory = Unit {0}
+
+-- What is answered to a request with the routines that are found at these paths.
+abbrev pub AnswersFound : Texts → Folders → (List ℕ → Type 0) → Request → List (List ℕ) → Answer → Type 0
+AnswersFound holds below unreadable named paths a = TellsUnfound unreadable a
+    ⊎ ((found : List (List ℕ)) × (request : Request) × AreFound below paths found × IsWithRoutines named found request × Answers holds unreadable request a)
+
+-- What is answered to a command line: the answer to its request with the routines that are found.
+abbrev pub AnswersLine : Texts → Folders → (List ℕ → Type 0) → Invocation → Answer → Type 0
+AnswersLine holds below unreadable line (answer.Report text status) = (request : Request) × Finds holds below line request × IsReported holds request text status
+AnswersLine holds below unreadable line (answer.Refused text notice help) = (request : Request) × Finds holds below line request × IsRefusedSo holds request text notice
+AnswersLine holds below unreadable line (answer.Unread text help) = ((request : Request) × Finds holds below line request × IsUnread holds unreadable request text) ⊎ IsUnfound unreadable text
+AnswersLine holds below unreadable line (answer.Usage text) = ⊥
+AnswersLine holds below unreadable line answer.OutOfMemory = Unit {0}
+
+-- What the program answers to its words: the answer to what they ask for, or that they ask for nothing.
+abbrev pub AnswersWords : {A : Type 0} → Texts → Folders → (List ℕ → Type 0) → List (String A) → Answer → Type 0
+AnswersWords holds below unreadable words (answer.Report text status) = (line : Invocation) × IsRequest words line × AnswersLine holds below unreadable line (answer.Report text status)
+AnswersWords holds below unreadable words (answer.Refused text notice help) = (line : Invocation) × IsRequest words line × AnswersLine holds below unreadable line (answer.Refused text notice help)
+AnswersWords holds below unreadable words (answer.Unread text help) = (line : Invocation) × IsRequest words line × AnswersLine holds below unreadable line (answer.Unread text help)
+AnswersWords holds below unreadable words (answer.Usage text) = AsksNothing words
+AnswersWords holds below unreadable words answer.OutOfMemory = Unit {0}
 
 -- What is answered is said.
-pub record Ran {A : Type 0} (holds : Texts) (lacks : List ℕ → Type 0) (words : List (String A)) (old new : Option (List ℕ)) (status : ℕ) : Type 0 where
+pub record Ran {A : Type 0} (holds : Texts) (below : Folders) (unreadable : List ℕ → Type 0) (words : List (String A)) (old new : Option (List ℕ)) (status : ℕ) : Type 0 where
   pub answer : Answer
-  pub answered : AnswersWords holds lacks words answer
+  pub answered : AnswersWords holds below unreadable words answer
   pub said : IsSaid answer old new status

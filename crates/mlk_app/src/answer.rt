@@ -23,7 +23,7 @@ pub(crate) enum Answer {
     /// The line that says why the input is refused, what is printed beside it, if a form is asked for, and what explains it
     /// below the line, if that is asked for.
     Refused(ReportText, Option<ReportText>, Vec<u8>),
-    /// The line that says which file can't be read, and what explains it.
+    /// The line that says which file can't be read or written, and what explains it.
     Unread(ReportText, Vec<u8>),
     /// `clap`'s text, if the words ask for nothing.
     Usage(String),

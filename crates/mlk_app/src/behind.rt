@@ -19,10 +19,10 @@ use std::thread::Threads;
 // How often faults are mended at most, each time all that were found.
 const MOST_ROUNDS: usize = 16;
 
-/// Looks for what is behind the faults of a report: its routines are mended at these faults, as far as a text can be, and checked
-/// again by a certificate that is made of them; and so on with the faults that are found then.
+// Looks for what is behind the faults of a report: its routines are mended at these faults, as far as a text can be, and checked
+// again by a certificate that is made of them; and so on with the faults that are found then.
 #[derive(Drop)]
-pub(crate) struct Search<'a> {
+struct Search<'a> {
     alloc: Global,
     sources: &'a Sources<'a>,
     // what explains the report that was given
@@ -34,14 +34,17 @@ pub(crate) struct Search<'a> {
 // In which form faults are explained in this style.
 fn form_in(style: ReportStyle) -> ExplainedAs {
     match style.output {
-        Output::Text => ExplainedAs::Text,
+        Output::Text | Output::Lines => ExplainedAs::Text,
         Output::Json | Output::Sarif => ExplainedAs::Stories,
     }
 }
 
 /// Whether a report in this style says more than its faults.
 pub(crate) fn is_explained(style: ReportStyle) -> bool {
-    style.is_explained || style.output != Output::Text
+    match style.output {
+        Output::Text | Output::Lines => style.is_explained,
+        Output::Json | Output::Sarif => true,
+    }
 }
 
 // The routines with these texts.
@@ -62,8 +65,8 @@ fn sources_with<'a>(
 }
 
 impl<'a> Search<'a> {
-    /// One that has found nothing. What it finds is explained as a report in this style is.
-    pub(crate) fn new(
+    // One that has found nothing. What it finds is explained as a report in this style is.
+    fn new(
         alloc: Global,
         sources: &'a Sources<'a>,
         grounds: &'a Grounds<'a>,
@@ -178,8 +181,8 @@ impl<'a> Search<'a> {
         Ok(())
     }
 
-    /// Finds the faults behind those of `report`, if a report in this style explains its faults.
-    pub(crate) fn run<R: Threads + Wait + Sync, W: Watch>(
+    // Finds the faults behind those of `report`, if a report in this style explains its faults.
+    fn run<R: Threads + Wait + Sync, W: Watch>(
         self,
         runner: &Runner<'_, R, W>,
         report: &Report,
@@ -199,4 +202,21 @@ impl<'a> Search<'a> {
         }
         Ok(search.behind)
     }
+}
+
+/// What is behind the faults of `report`, if a report in this style explains its faults. Nothing is looked for if they are compared
+/// with known faults: only new ones are of interest then, and most faults behind others are behind known ones.
+pub(crate) fn find_behind<'a, R: Threads + Wait + Sync, W: Watch>(
+    runner: &Runner<'_, R, W>,
+    sources: &'a Sources<'a>,
+    grounds: &'a Grounds<'a>,
+    report: &Report,
+    style: ReportStyle,
+    is_compared: bool,
+) -> Result<FaultsBehind, AllocError> {
+    let search = Search::new(runner.alloc, sources, grounds, style);
+    if is_compared {
+        return Ok(search.behind);
+    }
+    search.run(runner, report, style)
 }

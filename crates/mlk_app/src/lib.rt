@@ -3,6 +3,7 @@
 #![tactic(auto)]
 
 mod answer;
+mod baseline;
 mod behind;
 mod file;
 mod help;
@@ -10,6 +11,7 @@ mod notice;
 mod printed;
 mod program;
 mod refused;
+mod routines;
 mod source;
 mod stubs;
 mod stuck;

@@ -2,8 +2,9 @@
 
 ghost use Rattle.std.specs.Prelude.{◌≡◌, IfOk};
 ghost use Rattle.mlk_report_text.specs.Pieces.{pieces_text};
-ghost use Rattle.mlk_app.specs.Printed.{left_out_text, fault_line, missing_line, workers_line, rules_line, certificate_line, events_code, events_line, stuck_line, file_line, no_page_line};
+ghost use Rattle.mlk_app.specs.Printed.{left_out_text, fault_line, missing_line, workers_line, rules_line, certificate_line, events_code, events_line, stuck_line, baseline_line, file_line, no_page_line};
 
+use mlk_baseline::BaselineFault;
 use mlk_cert::CertFault;
 use mlk_machine::{EventsFault, EventsRefusal};
 use mlk_machine_locks::Refusal;
@@ -152,6 +153,20 @@ pub(crate) fn events_line(alloc: Global, fault: &EventsFault) -> Result<ReportTe
             Number(fault.line.number() as usize),
             Words(" "),
             CodeName(events_code(fault.why)),
+            Words("\n"),
+        ],
+    )
+}
+
+/// `refused baseline LINE`
+pub(crate) fn baseline_line(alloc: Global, fault: &BaselineFault) -> Result<ReportText, AllocError>
+    ensures { IfOk result (λ t. t ≡ baseline_line fault.now) }
+{
+    line_of(
+        alloc,
+        &[
+            Words("refused baseline "),
+            Number(fault.line.number() as usize),
             Words("\n"),
         ],
     )

@@ -3,24 +3,34 @@
 ghost use Rattle.std.specs.Prelude.{◌≡◌, ◌≢◌, IfOk};
 ghost use Rattle.std.specs.IoError.{error_kind};
 ghost use Rattle.mlk_cli.specs.declared.words.Request.TheVariants as wanted;
-ghost use Rattle.mlk_app.specs.Ran.{style_in, IsErrorLine, IsRefusalLine, TellsRefusal, TellsFault, TellsUnread, TellsPage, Answers, AnswersWords, Ran};
+ghost use Rattle.mlk_app.specs.Ran.{style_in, IsErrorLine, IsRefusalLine, TellsRefusal, TellsFault, TellsBaseline, TellsUnread, TellsUnfound, TellsPage, Answers, AnswersFound, AnswersLine, AnswersWords, Ran};
+ghost use Rattle.mlk_app.specs.Files.{AreTexts, LosesPath};
+ghost use Rattle.mlk_app.specs.Printing.{IsReportAnswer};
+ghost use Rattle.mlk_cli.specs.CommandLine.{bytes_of};
 ghost use Rattle.mlk_forms.specs.Rendering.{IsNoticed};
 ghost use Rattle.mlk_outcome.specs.Refusals.{IsOfOpenGate, IsNotShut};
 
 use crate::answer::{Answer, REFUSED, YES, print_answer, write_error, write_memory_error};
+use crate::baseline::known_faults;
 use crate::help::{Explaining, certificate_help, is_refusal_explained, refusal_help, why_unread};
 use crate::notice::notice_of;
 use crate::printed::{
-    certificate_line, events_line, fault_line, file_line, missing_line, no_page_line, rules_line,
-    stuck_line, workers_line,
+    baseline_line, certificate_line, events_line, fault_line, file_line, missing_line,
+    no_page_line, rules_line, stuck_line, workers_line,
 };
 use crate::refused::{refused_file, rule_file, spot_in};
-use crate::source::{FileError, Files, Sources, cert_format, read_file, read_files, read_sources};
+use crate::routines::{all_paths, find_routines, found_paths, list_of, with_routines};
+use crate::source::{
+    FileError, Files, Sources, cert_format, read_file, read_files, read_given, read_sources,
+};
 use crate::stubs::answer_stubs;
 use crate::suggestion::answer_suggestion;
-use crate::work::{print_sources, style_in};
+use crate::work::{Printed, print_sources, style_in};
+use mlk_baseline::BaselineFault;
 use mlk_cert::CertFault;
-use mlk_cli::{Format, ProgramRequest, Request, SurveyRequest, UsageError, read_request};
+use mlk_cli::{
+    Format, Invocation, ProgramRequest, Request, SurveyRequest, UsageError, read_request,
+};
 use mlk_forms::{render_notice, render_pages, render_survey};
 use mlk_outcome::{NoReport, convert};
 use mlk_pool::{CheckError, ReportText};
@@ -175,6 +185,75 @@ fn answer_page(alloc: Global, code: &str) -> Answer
     }
 }
 
+// What is answered if a line of the known faults is refused.
+fn baseline_answer(alloc: Global, fault: &BaselineFault) -> Answer
+    ensures { TellsBaseline fault.now result }
+{
+    match baseline_line(alloc, fault) {
+        Ok(line) => Answer::Refused(line, None, Vec::new(alloc)),
+        Err(AllocError) => Answer::OutOfMemory,
+    }
+}
+
+// What is answered if the file at `path` can't be written.
+fn unwritten_answer(alloc: Global, path: &str) -> Answer
+    ensures { TellsUnread path.now result }
+{
+    match file_line(alloc, path) {
+        Ok(line) => Answer::Unread(line, Vec::new(alloc)),
+        Err(AllocError) => Answer::OutOfMemory,
+    }
+}
+
+// Writes the known faults, if there are any to write.
+fn write_known<F: Files>(files: &F, path: &str, known: &Option<Vec<u8>>) -> io::Result<()> {
+    match known {
+        Some(text) => files.write(path, text.as_slice()),
+        None => Ok(()),
+    }
+}
+
+// Writes the faults of a report as known ones, if that is asked for, and answers with the report.
+fn report_answer<F: Files>(
+    alloc: Global,
+    program: &ProgramRequest<'_>,
+    printed: Printed,
+    files: &F,
+) -> Answer
+    ensures { IsReportAnswer program.now printed.entry.text printed.entry.status result }
+{
+    let Some(path) = program.new_baseline else {
+        return Answer::Report(printed.text, printed.status);
+    };
+    if write_known(files, path, &printed.new_baseline).is_err() {
+        return unwritten_answer(alloc, path);
+    }
+    Answer::Report(printed.text, printed.status)
+}
+
+// What is answered to a request for a program whose files have these texts.
+fn answer_sources<R: Threads + Wait + Sync, F: Files, W: Watch>(
+    runner: &Runner<'_, R, W>,
+    program: &ProgramRequest<'_>,
+    sources: &Sources<'_>,
+    files: &F,
+    explaining: Explaining,
+) -> Answer
+    requires { AreTexts (F.holds files.now) program.now sources.now }
+    ensures { Answers (F.holds files.now) (F.unreadable files.now) (wanted.Program program.now) result }
+{
+    let alloc = runner.alloc;
+    let known = match known_faults(alloc, sources) {
+        Ok(known) => known,
+        Err(Failure::OutOfMemory) => return Answer::OutOfMemory,
+        Err(Failure::Refused(fault)) => return baseline_answer(alloc, &fault),
+    };
+    match print_sources(runner, sources, program, known.as_ref()) {
+        Ok(printed) => report_answer(alloc, program, printed, files),
+        Err(refusal) => refusal_answer(runner, &refusal, program, sources, explaining),
+    }
+}
+
 // What is answered to a request for a program, from the texts of its files.
 fn answer_program<R: Threads + Wait + Sync, F: Files, W: Watch>(
     runner: &Runner<'_, R, W>,
@@ -182,14 +261,11 @@ fn answer_program<R: Threads + Wait + Sync, F: Files, W: Watch>(
     files: &F,
     explaining: Explaining,
 ) -> Answer
-    ensures { Answers (F.holds files.now) (F.lacks files.now) (wanted.Program program.now) result }
+    ensures { Answers (F.holds files.now) (F.unreadable files.now) (wanted.Program program.now) result }
 {
     let alloc = runner.alloc;
     match read_files(alloc, files, program) {
-        Ok(sources) => match print_sources(runner, &sources, program) {
-            Ok(printed) => Answer::Report(printed.text, printed.status),
-            Err(refusal) => refusal_answer(runner, &refusal, program, &sources, explaining),
-        },
+        Ok(sources) => answer_sources(runner, program, &sources, files, explaining),
         Err(FileError::OutOfMemory) => Answer::OutOfMemory,
         Err(FileError::Unread(path)) => {
             let is_explained = is_refusal_explained(program, explaining);
@@ -207,7 +283,7 @@ fn answer_conversion<F: Files, W: Watch>(
     explaining: Explaining,
     watch: &W,
 ) -> Answer
-    ensures { Answers (F.holds files.now) (F.lacks files.now) (wanted.Convert certificate.entry format) result }
+    ensures { Answers (F.holds files.now) (F.unreadable files.now) (wanted.Convert certificate.entry format) result }
 {
     match read_file(alloc, files, certificate) {
         Ok(text) => match convert(alloc, text.as_slice(), cert_format(format), watch) {
@@ -231,7 +307,7 @@ fn answer_survey<R: Threads + Wait + Sync, F: Files, W: Watch>(
     files: &F,
     explaining: Explaining,
 ) -> Answer
-    ensures { Answers (F.holds files.now) (F.lacks files.now) (wanted.Survey survey.now) result }
+    ensures { Answers (F.holds files.now) (F.unreadable files.now) (wanted.Survey survey.now) result }
 {
     let alloc = runner.alloc;
     match read_sources(alloc, files, survey.routines.as_slice()) {
@@ -253,7 +329,7 @@ fn answer_request<R: Threads + Wait + Sync, F: Files, W: Watch>(
     files: &F,
     explaining: Explaining,
 ) -> Answer
-    ensures { Answers (F.holds files.now) (F.lacks files.now) request.now result }
+    ensures { Answers (F.holds files.now) (F.unreadable files.now) request.now result }
 {
     let alloc = runner.alloc;
     match request {
@@ -276,17 +352,81 @@ fn answer_request<R: Threads + Wait + Sync, F: Files, W: Watch>(
     }
 }
 
+// What is answered if a file can't be read that the routines are found by.
+fn unfound_answer<F: Files>(
+    alloc: Global,
+    files: &F,
+    error: &FileError<'_>,
+    explaining: Explaining,
+) -> Answer
+    requires { LosesPath (F.unreadable files.now) error.now }
+    ensures { TellsUnfound (F.unreadable files.now) result }
+{
+    match error {
+        FileError::OutOfMemory => Answer::OutOfMemory,
+        FileError::Unread(path) => {
+            unread_answer(alloc, files, *path, explaining == Explaining::Refusals)
+        }
+    }
+}
+
+// What is answered to a request whose routines are at these paths, and below those that are folders.
+fn answer_paths<R: Threads + Wait + Sync, F: Files, W: Watch>(
+    runner: &Runner<'_, R, W>,
+    request: Request<'_>,
+    paths: &[&str],
+    files: &F,
+    explaining: Explaining,
+) -> Answer
+    ensures { AnswersFound (F.holds files.now) (F.below files.now) (F.unreadable files.now) request.entry (bytes_of paths.now) result }
+{
+    let alloc = runner.alloc;
+    let found = match find_routines(alloc, files, paths) {
+        Ok(found) => found,
+        Err(error) => return unfound_answer(alloc, files, &error, explaining),
+    };
+    let Ok(routines) = found_paths(alloc, found.as_slice()) else {
+        return Answer::OutOfMemory;
+    };
+    let request = with_routines(request, routines);
+    answer_request(runner, &request, files, explaining)
+}
+
+// What is answered to a command line: its routines are found, and its request is answered.
+fn answer_line<R: Threads + Wait + Sync, F: Files, W: Watch>(
+    runner: &Runner<'_, R, W>,
+    line: Invocation<'_>,
+    files: &F,
+    explaining: Explaining,
+) -> Answer
+    ensures { AnswersLine (F.holds files.now) (F.below files.now) (F.unreadable files.now) line.entry result }
+{
+    let alloc = runner.alloc;
+    let Invocation { request, list } = line;
+    let text = match read_given(alloc, files, list) {
+        Ok(text) => text,
+        Err(error) => return unfound_answer(alloc, files, &error, explaining),
+    };
+    let Ok(list) = list_of(alloc, &text) else {
+        return Answer::OutOfMemory;
+    };
+    match all_paths(alloc, &request, &list) {
+        Ok(paths) => answer_paths(runner, request, paths.as_slice(), files, explaining),
+        Err(AllocError) => Answer::OutOfMemory,
+    }
+}
+
 fn answer_words<R: Threads + Wait + Sync, F: Files, W: Watch>(
     runner: &Runner<'_, R, W>,
     words: &[String],
     files: &F,
     explaining: Explaining,
 ) -> Answer
-    ensures { AnswersWords (F.holds files.now) (F.lacks files.now) words.now result }
+    ensures { AnswersWords (F.holds files.now) (F.below files.now) (F.unreadable files.now) words.now result }
 {
     let alloc = runner.alloc;
     match read_request(alloc, words) {
-        Ok(request) => answer_request(runner, &request, files, explaining),
+        Ok(line) => answer_line(runner, line, files, explaining),
         Err(UsageError::OutOfMemory) => Answer::OutOfMemory,
         Err(UsageError::Usage(text)) => Answer::Usage(text),
     }
@@ -320,7 +460,7 @@ pub fn run<R: Threads + Wait + Sync, F: Files, W: Watch, O: Write, E: Write>(
     out: &mut O,
     err: &mut E,
 ) -> u8
-    ensures { Ran (F.holds files.now) (F.lacks files.now) words.now (O.contents out.old) (O.contents out.new) result }
+    ensures { Ran (F.holds files.now) (F.below files.now) (F.unreadable files.now) words.now (O.contents out.old) (O.contents out.new) result }
 {
     let answer = answer_words(runner, words, files, explaining);
     runner.watch.end();

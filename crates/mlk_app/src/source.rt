@@ -19,13 +19,25 @@ pub trait Files {
     // Which text a path may have, as far as is known.
     ghost holds: { Self → List ℕ → List ℕ → Type 0 } = { λ _ _ _. Unit {0} };
 
+    // Which routines a path may have below it; `None` if it is no folder.
+    ghost below: { Self → List ℕ → Option (List (List ℕ)) → Type 0 } = { λ _ _ _. Unit {0} };
+
     // Which paths may have none that can be read.
-    ghost lacks: { Self → List ℕ → Type 0 } = { λ _ _. Unit {0} };
+    ghost unreadable: { Self → List ℕ → Type 0 } = { λ _ _. Unit {0} };
 
     /// The bytes of the file at a path. An error of the kind `OutOfMemory` says nothing of the file.
     fn read(&self, alloc: Global, path: &str) -> io::Result<Vec<u8>>
         ensures ok { IfOk result (λ text. holds self.now path.now text.items) }
-        ensures err { IfErr result (λ e. error_kind e ≢ ErrorKind.OutOfMemory → lacks self.now path.now) };
+        ensures err { IfErr result (λ e. error_kind e ≢ ErrorKind.OutOfMemory → unreadable self.now path.now) };
+
+    /// The paths of the routines below the folder at a path, in their order; `None` if there is no folder. An error of the kind
+    /// `OutOfMemory` says nothing of the folder.
+    fn routines_below(&self, alloc: Global, path: &str) -> io::Result<Option<Vec<String>>>
+        ensures ok { IfOk result (λ found. below self.now path.now (texts_below found)) }
+        ensures err { IfErr result (λ e. error_kind e ≢ ErrorKind.OutOfMemory → unreadable self.now path.now) };
+
+    /// Writes a file at a path. Nothing says what it holds then.
+    fn write(&self, path: &str, text: &[u8]) -> io::Result<()>;
 }
 
 /// What is to be done with a program, with the texts that it takes.
@@ -47,6 +59,8 @@ pub(crate) struct Sources<'a> {
     pub(crate) work: Work,
     pub(crate) rules: Vec<u8>,
     pub(crate) routines: Vec<Source<'a>>,
+    /// the text of the faults that are known, if it is given
+    pub(crate) baseline: Option<Vec<u8>>,
 }
 
 /// Why a file was not read.
@@ -91,7 +105,7 @@ pub(crate) fn read_file<'a, F: Files>(
     path: &'a str,
 ) -> Result<Vec<u8>, FileError<'a>>
     ensures ok { IfOk result (λ text. F.holds files.now path.now text.items) }
-    ensures lost { IfErr result (Loses (F.lacks files.now) path.now) }
+    ensures lost { IfErr result (Loses (F.unreadable files.now) path.now) }
 {
     match files.read(alloc, path) {
         Ok(text) => Ok(text),
@@ -111,7 +125,7 @@ fn read_source<'a, F: Files>(
     path: &'a str,
 ) -> Result<Source<'a>, FileError<'a>>
     ensures ok { IfOk result (IsSource (F.holds files.now) path.now) }
-    ensures lost { IfErr result (Loses (F.lacks files.now) path.now) }
+    ensures lost { IfErr result (Loses (F.unreadable files.now) path.now) }
 {
     let text = read_file(alloc, files, path)?;
     let stem = stem_of(path).as_bytes();
@@ -125,7 +139,7 @@ pub(crate) fn read_sources<'a, F: Files>(
     paths: &[&'a str],
 ) -> Result<Vec<Source<'a>>, FileError<'a>>
     ensures ok { IfOk result (λ sources. AreSources (F.holds files.now) paths.now sources.items) }
-    ensures lost { IfErr result (LosesFirst (F.holds files.now) (F.lacks files.now) (bytes_of paths.now)) }
+    ensures lost { IfErr result (LosesFirst (F.holds files.now) (F.unreadable files.now) (bytes_of paths.now)) }
 {
     let mut sources = Vec::new(alloc);
     for path in paths {
@@ -154,7 +168,7 @@ fn read_work<'a, F: Files>(
     asked: &Asked<'a>,
 ) -> Result<Work, FileError<'a>>
     ensures ok { IfOk result (IsWork (F.holds files.now) asked.now) }
-    ensures lost { IfErr result (LosesFirst (F.holds files.now) (F.lacks files.now) (work_path asked.now)) }
+    ensures lost { IfErr result (LosesFirst (F.holds files.now) (F.unreadable files.now) (work_path asked.now)) }
 {
     match asked {
         Asked::Check {
@@ -173,22 +187,39 @@ fn read_work<'a, F: Files>(
     }
 }
 
-/// Reads all files of a program, in the order of the words.
+/// The text of the file at a path, if one is given.
+pub(crate) fn read_given<'a, F: Files>(
+    alloc: Global,
+    files: &F,
+    path: Option<&'a str>,
+) -> Result<Option<Vec<u8>>, FileError<'a>>
+    ensures ok { IfOk result (IsGivenText (F.holds files.now) path) }
+    ensures lost { IfErr result (LosesFirst (F.holds files.now) (F.unreadable files.now) (given_path path)) }
+{
+    match path {
+        Some(path) => Ok(Some(read_file(alloc, files, path)?)),
+        None => Ok(None),
+    }
+}
+
+/// Reads all files of a program, in the order of the words, and the known faults last.
 pub(crate) fn read_files<'a, F: Files>(
     alloc: Global,
     files: &F,
     request: &ProgramRequest<'a>,
 ) -> Result<Sources<'a>, FileError<'a>>
     ensures ok { IfOk result (AreTexts (F.holds files.now) request.now) }
-    ensures lost { IfErr result (LosesFirst (F.holds files.now) (F.lacks files.now) (program_paths request.now)) }
+    ensures lost { IfErr result (LosesFirst (F.holds files.now) (F.unreadable files.now) (program_paths request.now)) }
 {
     let rules = read_file(alloc, files, request.rules)?;
     let work = read_work(alloc, files, &request.asked)?;
     let routines = read_sources(alloc, files, request.routines.as_slice())?;
+    let baseline = read_given(alloc, files, request.baseline)?;
     Ok(Sources {
         work,
         rules,
         routines,
+        baseline,
     })
 }
 

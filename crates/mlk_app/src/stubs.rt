@@ -61,7 +61,7 @@ pub(crate) fn answer_stubs<F: Files>(
     files: &F,
     explaining: Explaining,
 ) -> Answer
-    ensures { Answers (F.holds files.now) (F.lacks files.now) (wanted.Stubs stubs.now) result }
+    ensures { Answers (F.holds files.now) (F.unreadable files.now) (wanted.Stubs stubs.now) result }
 {
     match read_sources(alloc, files, stubs.routines.as_slice()) {
         Ok(sources) => {

@@ -3,7 +3,7 @@
 ghost use Rattle.std.specs.Prelude.{◌≡◌, ◌∷◌, IfOk, []};
 ghost use Rattle.mlk_cli.specs.declared.words.Request.TheVariants as wanted;
 ghost use Rattle.mlk_suggest_text.specs.RuleTexts.{IsRuleText};
-ghost use Rattle.mlk_app.specs.Files.{beside_path};
+ghost use Rattle.mlk_app.specs.Files.{given_path};
 ghost use Rattle.mlk_app.specs.Ran.{TellsRules, PrintsRules, SuggestsFor, Answers};
 
 use crate::answer::{Answer, YES};
@@ -66,7 +66,7 @@ fn suggest_for<F: Files>(
     files: &F,
     explaining: Explaining,
 ) -> Answer
-    ensures { SuggestsFor (F.holds files.now) (F.lacks files.now) routines.now result }
+    ensures { SuggestsFor (F.holds files.now) (F.unreadable files.now) routines.now result }
 {
     match read_sources(alloc, files, routines) {
         Ok(sources) => suggestion_answer(alloc, sources.as_slice(), known),
@@ -85,8 +85,8 @@ fn suggest_beside<F: Files>(
     files: &F,
     explaining: Explaining,
 ) -> Answer
-    requires { beside_path suggestion.now.beside ≡ path.now ∷ [] }
-    ensures { Answers (F.holds files.now) (F.lacks files.now) (wanted.Suggest suggestion.now) result }
+    requires { given_path suggestion.now.beside ≡ path.now ∷ [] }
+    ensures { Answers (F.holds files.now) (F.unreadable files.now) (wanted.Suggest suggestion.now) result }
 {
     let routines = suggestion.routines.as_slice();
     match read_file(alloc, files, path) {
@@ -116,7 +116,7 @@ pub(crate) fn answer_suggestion<F: Files>(
     files: &F,
     explaining: Explaining,
 ) -> Answer
-    ensures { Answers (F.holds files.now) (F.lacks files.now) (wanted.Suggest suggestion.now) result }
+    ensures { Answers (F.holds files.now) (F.unreadable files.now) (wanted.Suggest suggestion.now) result }
 {
     match suggestion.beside {
         None => {

@@ -7,12 +7,14 @@ ghost use Rattle.mlk_pool.specs.Headline.{RefusesReport, RefusesByText, RefusesT
 ghost use Rattle.mlk_outcome.specs.Making.{IsMade, IsUnmade};
 ghost use Rattle.mlk_outcome.specs.Replaying.{IsReplayed, IsUnreplayed};
 ghost use Rattle.mlk_outcome.specs.declared.refusal.NoReport.TheVariants as refusal;
-ghost use Rattle.mlk_app.specs.Ran.{style_in, status_of, IsReportPrinted, IsReportOfBlocks, IsReportByText, IsReportOfMade, IsPrinted, RefusesMade, IsRefusedFor};
+ghost use Rattle.mlk_app.specs.Ran.{style_in, status_in, IsPrintedBeside, IsReportPrinted, IsReportOfBlocks, IsReportByText, IsReportOfMade, IsPrinted, RefusesMade, IsRefusedFor};
 ghost use Rattle.mlk_app.specs.Printing.{IsPrintedOfTrees, IsPrintedOfTexts, IsRefusedSources};
 
 use crate::answer::{NO, YES};
-use crate::behind::{Search, is_explained};
+use crate::baseline::{compare_faults, uses_keys};
+use crate::behind::{find_behind, is_explained};
 use crate::source::{Sources, Work, copied_texts};
+use mlk_baseline::Baseline;
 use mlk_cert::{CertFormat, Certificate, read_cert};
 use mlk_cli::{Asked, Output, ProgramRequest, ReportStyle};
 use mlk_coverage::{Coverage, coverage_of};
@@ -36,6 +38,8 @@ use std::thread::Threads;
 pub(crate) struct Printed {
     pub(crate) text: ReportText,
     pub(crate) status: u8,
+    /// the text of the baseline that is to be written, if it is asked for
+    pub(crate) new_baseline: Option<Vec<u8>>,
 }
 
 /// The style of the report that is asked for.
@@ -48,14 +52,16 @@ pub(crate) fn style_in(asked: &Asked<'_>) -> ReportStyle
             output: Output::Text,
             is_strict: false,
             is_explained: false,
+            is_quiet: false,
+            exits_zero: false,
         },
     }
 }
 
-fn status_of(passes: bool) -> u8
-    ensures { result ≡ status_of passes }
+fn status_in(style: ReportStyle, passes: bool) -> u8
+    ensures { result ≡ status_in style passes }
 {
-    if passes { YES } else { NO }
+    if passes || style.exits_zero { YES } else { NO }
 }
 
 // What a command is about: a program, its rules, the texts of both, and the request.
@@ -65,16 +71,18 @@ struct Subject<'a> {
     rules: &'a Rules,
     sources: &'a Sources<'a>,
     request: &'a ProgramRequest<'a>,
+    // the faults that are known, if they are given
+    known: Option<&'a Baseline<'a>>,
 }
 
-// The texts of the routines, if the report shows lines of them.
+// The texts of the routines, if the report shows lines of them, or its faults are known by them.
 fn shown_texts(
     alloc: Global,
     sources: &Sources<'_>,
     request: &ProgramRequest<'_>,
 ) -> Result<Vec<Vec<u8>>, AllocError> {
     let style = style_in(&request.asked);
-    if is_explained(style) {
+    if is_explained(style) || uses_keys(request) {
         return copied_texts(alloc, sources.routines.as_slice());
     }
     Ok(Vec::new(alloc))
@@ -88,7 +96,7 @@ fn listed_reads(
 ) -> Result<Vec<Vec<u8>>, AllocError> {
     match output {
         Output::Json => free_reads(alloc, rule_text),
-        Output::Text | Output::Sarif => Ok(Vec::new(alloc)),
+        Output::Text | Output::Lines | Output::Sarif => Ok(Vec::new(alloc)),
     }
 }
 
@@ -112,7 +120,7 @@ fn printed_report(
     request: &ProgramRequest<'_>,
     report: &Report,
 ) -> Result<Printed, AllocError>
-    ensures { IfOk result (λ p. IsReportPrinted (style_in request.now.asked) (map routine_of explanations.now.grounds.now.program.now) report.now p.text p.status) }
+    ensures { IfOk result (λ p. IsPrintedBeside (style_in request.now.asked) explanations.now.comparison (map routine_of explanations.now.grounds.now.program.now) report.now p.text p.status) }
 {
     let grounds = explanations.grounds;
     let style = style_in(&request.asked);
@@ -126,10 +134,50 @@ fn printed_report(
         free_reads: free_reads.as_slice(),
     };
     let printed = render_report(alloc, &inputs, report, style, explanations)?;
-    let status = status_of(printed.passes);
+    let status = status_in(style, printed.passes);
     Ok(Printed {
         text: printed.text,
         status,
+        new_baseline: None,
+    })
+}
+
+// Prints `report`, which is of a program by `certificate`, with all that explains it in the style that is asked for.
+fn print_explained<R: Threads + Wait + Sync, W: Watch>(
+    runner: &Runner<'_, R, W>,
+    subject: &Subject<'_>,
+    certificate: &Certificate,
+    is_made: bool,
+    report: &Report,
+) -> Result<Printed, AllocError>
+    ensures { IfOk result (λ p. IsReportPrinted subject.now.request.now subject.now.known (map routine_of subject.now.program.now) report.now p.text p.status) }
+{
+    let alloc = runner.alloc;
+    let style = style_in(&subject.request.asked);
+    let coverage = reported_coverage(alloc, subject.program, subject.rules, style)?;
+    let texts = shown_texts(alloc, subject.sources, subject.request)?;
+    let grounds = Grounds {
+        program: subject.program,
+        texts: texts.as_slice(),
+        rules: subject.rules,
+        rule_text: subject.sources.rules.as_slice(),
+        certificate,
+        is_made,
+    };
+    let request = subject.request;
+    let beside = compare_faults(alloc, &grounds, report, subject.known, request)?;
+    let is_compared = subject.known.is_some();
+    let behind = find_behind(runner, subject.sources, &grounds, report, style, is_compared)?;
+    let explanations = Explanations {
+        grounds: &grounds,
+        behind: &behind,
+        coverage: coverage.as_ref(),
+        comparison: beside.comparison.as_ref(),
+    };
+    let printed = printed_report(alloc, &explanations, request, report)?;
+    Ok(Printed {
+        new_baseline: beside.new_baseline,
+        ..printed
     })
 }
 
@@ -142,32 +190,17 @@ fn print_report<R: Threads + Wait + Sync, W: Watch>(
     workers: u32,
 ) -> Result<Printed, NoReport>
     requires { AreFormed (map routine_of subject.now.program.now) }
-    ensures ok { IfOk result (λ p. IsReportOfBlocks (style_in subject.now.request.now.asked) (map routine_of subject.now.program.now) subject.now.rules.now certificate.now p.text p.status) }
+    ensures ok { IfOk result (λ p. IsReportOfBlocks subject.now.request.now subject.now.known (map routine_of subject.now.program.now) subject.now.rules.now certificate.now p.text p.status) }
     ensures refused { IfErr result (RefusesReport refusal.Check (Unit {0}) workers (map routine_of subject.now.program.now) subject.now.rules.now certificate.now) }
 {
-    let alloc = runner.alloc;
-    let program = subject.program;
-    let rules = subject.rules;
-    let report = report_by_certificate(runner, program, rules, certificate, workers)?;
-    let texts = shown_texts(alloc, subject.sources, subject.request)?;
-    let grounds = Grounds {
-        program,
-        texts: texts.as_slice(),
-        rules,
-        rule_text: subject.sources.rules.as_slice(),
+    let report = report_by_certificate(
+        runner,
+        subject.program,
+        subject.rules,
         certificate,
-        is_made,
-    };
-    let style = style_in(&subject.request.asked);
-    let search = Search::new(alloc, subject.sources, &grounds, style);
-    let behind = search.run(runner, &report, style)?;
-    let coverage = reported_coverage(alloc, program, rules, style)?;
-    let explanations = Explanations {
-        grounds: &grounds,
-        behind: &behind,
-        coverage: coverage.as_ref(),
-    };
-    let printed = printed_report(alloc, &explanations, subject.request, &report)?;
+        workers,
+    )?;
+    let printed = print_explained(runner, subject, certificate, is_made, &report)?;
     Ok(printed)
 }
 
@@ -179,7 +212,7 @@ fn print_check<R: Threads + Wait + Sync, W: Watch>(
     workers: u32,
 ) -> Result<Printed, NoReport>
     requires { AreFormed (map routine_of subject.now.program.now) }
-    ensures ok { IfOk result (λ p. IsReportByText (style_in subject.now.request.now.asked) (map routine_of subject.now.program.now) subject.now.rules.now text.now p.text p.status) }
+    ensures ok { IfOk result (λ p. IsReportByText subject.now.request.now subject.now.known (map routine_of subject.now.program.now) subject.now.rules.now text.now p.text p.status) }
     ensures refused { IfErr result (RefusesByText refusal.Check (Unit {0}) workers text.now (map routine_of subject.now.program.now) subject.now.rules.now) }
 {
     let alloc = runner.alloc;
@@ -194,7 +227,7 @@ fn print_verification<R: Threads + Wait + Sync, W: Watch>(
     workers: u32,
 ) -> Result<Printed, NoReport>
     requires { AreFormed (map routine_of subject.now.program.now) }
-    ensures ok { IfOk result (λ p. IsReportOfMade (style_in subject.now.request.now.asked) (map routine_of subject.now.program.now) subject.now.rules.now p.text p.status) }
+    ensures ok { IfOk result (λ p. IsReportOfMade subject.now.request.now subject.now.known (map routine_of subject.now.program.now) subject.now.rules.now p.text p.status) }
     ensures refused { IfErr result (RefusesMade workers (map routine_of subject.now.program.now) subject.now.rules.now) }
 {
     let alloc = runner.alloc;
@@ -216,6 +249,7 @@ fn print_certificate<W: Watch>(
     Ok(Printed {
         text: ReportText::of(text),
         status: YES,
+        new_baseline: None,
     })
 }
 
@@ -228,6 +262,7 @@ fn print_jobs(alloc: Global, subject: &Subject<'_>, events: &[u8]) -> Result<Pri
     Ok(Printed {
         text: ReportText::of(text.into_bytes()),
         status: YES,
+        new_baseline: None,
     })
 }
 
@@ -238,7 +273,7 @@ fn print_work<R: Threads + Wait + Sync, W: Watch>(
     work: &Work,
 ) -> Result<Printed, NoReport>
     requires { AreFormed (map routine_of subject.now.program.now) }
-    ensures ok { IfOk result (λ p. IsPrinted (style_in subject.now.request.now.asked) (map routine_of subject.now.program.now) subject.now.rules.now work.now p.text p.status) }
+    ensures ok { IfOk result (λ p. IsPrinted subject.now.request.now subject.now.known (map routine_of subject.now.program.now) subject.now.rules.now work.now p.text p.status) }
     ensures refused { IfErr result (IsRefusedFor work.now (map routine_of subject.now.program.now) subject.now.rules.now) }
 {
     let alloc = runner.alloc;
@@ -259,9 +294,10 @@ fn print_routines<R: Threads + Wait + Sync, W: Watch>(
     routines: &[Routine],
     sources: &Sources<'_>,
     request: &ProgramRequest<'_>,
+    known: Option<&Baseline<'_>>,
 ) -> Result<Printed, NoReport>
     requires { AreFormed (map routine_of routines.now) }
-    ensures ok { IfOk result (λ p. IsPrintedOfTrees (style_in request.now.asked) (map routine_of routines.now) sources.now p.text p.status) }
+    ensures ok { IfOk result (λ p. IsPrintedOfTrees request.now known (map routine_of routines.now) sources.now p.text p.status) }
     ensures refused { IfErr result (RefusesTrees refusal.Check (map routine_of routines.now) sources.now.rules.items (IsRefusedFor sources.now.work)) }
 {
     let alloc = runner.alloc;
@@ -272,25 +308,27 @@ fn print_routines<R: Threads + Wait + Sync, W: Watch>(
         rules: &rules,
         sources,
         request,
+        known,
     };
     let printed = print_work(runner, &subject, &sources.work);
     runner.watch.discard(program);
     printed
 }
 
-/// Reads the routines of `sources`, and prints what is asked of them.
+/// Reads the routines of `sources`, and prints what is asked of them, beside `known` faults if some are given.
 ///
 /// Refuses, in this order: the first routine that can't be read, their linking, the rules, and what `print_work` refuses.
 pub(crate) fn print_sources<R: Threads + Wait + Sync, W: Watch>(
     runner: &Runner<'_, R, W>,
     sources: &Sources<'_>,
     request: &ProgramRequest<'_>,
+    known: Option<&Baseline<'_>>,
 ) -> Result<Printed, NoReport>
-    ensures ok { IfOk result (λ p. IsPrintedOfTexts (style_in request.now.asked) sources.now p.text p.status) }
+    ensures ok { IfOk result (λ p. IsPrintedOfTexts request.now known sources.now p.text p.status) }
     ensures refused { IfErr result (IsRefusedSources sources.now) }
 {
     let routines = read_routines(runner, sources.routines.as_slice())?;
-    let printed = print_routines(runner, routines.as_slice(), sources, request);
+    let printed = print_routines(runner, routines.as_slice(), sources, request, known);
     runner.watch.discard(routines);
     printed
 }

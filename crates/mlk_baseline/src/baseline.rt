@@ -1,5 +1,8 @@
 // Baselines: faults that are known, and how often each is.
 
+ghost use Rattle.std.specs.Prelude.{IfOk, length};
+ghost use Rattle.mlk_baseline.specs.Known.{IsComparison};
+
 use crate::fault_key::FaultKey;
 use bstr::ByteSlice;
 use indexmap::IndexMap;
@@ -22,7 +25,7 @@ pub struct Baseline<'t> {
 }
 
 /// A known fault that a report does not have, or not as often.
-#[derive(Clone, Copy, Drop)]
+#[derive(Clone, Copy, Debug, Drop, PartialEq, Eq)]
 pub struct GoneFault<'t> {
     pub key: &'t [u8],
     /// how often it is missing
@@ -86,46 +89,64 @@ pub fn read_baseline<'t>(
     Ok(Baseline { counts })
 }
 
-impl<'t> Baseline<'t> {
-    // Takes one fault with this key off what is known, and returns whether it was.
-    fn take(&mut self, key: &[u8]) -> bool {
-        match self.counts.get_mut(key) {
-            Some(count) if *count > 0 => {
-                *count = count.saturating_sub(1);
-                true
-            }
-            _ => false,
-        }
+// How often each key was met.
+#[derive(Drop)]
+struct Met<'k> {
+    counts: IndexMap<&'k [u8], usize>,
+}
+
+impl<'k> Met<'k> {
+    fn count(&self, key: &[u8]) -> usize {
+        self.counts.get(key).copied().unwrap_or(0)
     }
 
-    // What is left of it.
-    fn gone(&self, alloc: Global) -> Result<Vec<GoneFault<'t>>, AllocError> {
+    fn add(&mut self, key: &'k [u8]) -> Result<(), AllocError> {
+        let count = self.count(key).saturating_add(1);
+        let Ok(_) = self.counts.insert(key, count) else {
+            return Err(AllocError);
+        };
+        Ok(())
+    }
+}
+
+impl<'t> Baseline<'t> {
+    // How often a fault with this key is known.
+    fn count(&self, key: &[u8]) -> usize {
+        self.counts.get(key).copied().unwrap_or(0)
+    }
+
+    // The known faults of which fewer were met.
+    fn gone(&self, alloc: Global, met: &Met<'_>) -> Result<Vec<GoneFault<'t>>, AllocError> {
         let mut gone = Vec::new(alloc);
-        for (key, count) in &self.counts {
-            if *count > 0 {
-                push_sparing(
-                    &mut gone,
-                    GoneFault {
-                        key: *key,
-                        count: *count,
-                    },
-                )?;
+        for (key, known) in &self.counts {
+            let count = known.saturating_sub(met.count(*key));
+            if count > 0 {
+                push_sparing(&mut gone, GoneFault { key: *key, count })?;
             }
         }
         Ok(gone)
     }
 
     /// Compares faults with these keys with what is known. Of faults with the same key the first are taken for the known ones.
-    pub fn compare(self, alloc: Global, keys: &[FaultKey]) -> Result<Comparison<'t>, AllocError> {
-        let mut left = self;
+    pub fn compare(&self, alloc: Global, keys: &[FaultKey]) -> Result<Comparison<'t>, AllocError>
+        ensures { IfOk result (IsComparison (length keys.now)) }
+    {
+        let counts = IndexMap::new(alloc);
+        let mut met = Met { counts };
         let mut news = Vec::new(alloc);
-        for (index, key) in keys.iter().enumerate() {
-            if !left.take(key.as_bytes()) {
-                push_sparing(&mut news, index)?;
+        let mut known: usize = 0;
+        for key in keys {
+            let number = known + news.len();
+            let key = key.as_bytes();
+            let is_known = met.count(key) < self.count(key);
+            met.add(key)?;
+            if is_known {
+                known += 1;
+            } else {
+                push_sparing(&mut news, number)?;
             }
         }
-        let known = keys.len().saturating_sub(news.len());
-        let gone = left.gone(alloc)?;
+        let gone = self.gone(alloc, &met)?;
         Ok(Comparison { news, known, gone })
     }
 }

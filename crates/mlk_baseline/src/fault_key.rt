@@ -1,5 +1,7 @@
 // What a fault is known by, so that it is found again when lines move.
 
+ghost use Rattle.std.specs.Prelude.{◌≡◌, IfOk, length};
+
 use crate::labels::{RelativeLine, RoutineLines};
 use mlk_program::{EntryId, Program};
 use mlk_report_text::Piece::{Bytes, Number, Words};
@@ -111,7 +113,9 @@ pub fn fault_keys<'a>(
     program: &Program<'a>,
     texts: &'a [Vec<u8>],
     report: &Report,
-) -> Result<Vec<FaultKey>, AllocError> {
+) -> Result<Vec<FaultKey>, AllocError>
+    ensures { IfOk result (λ keys. length keys.items ≡ length report.now) }
+{
     let mut keys = Keys {
         alloc,
         program,

@@ -67,6 +67,17 @@ impl<'a> Case<'a> {
         Err(io::Error::from(ErrorKind::NotFound))
     }
 
+    /// The names of the files, in their order.
+    pub fn names(&self, alloc: Global) -> Result<Vec<&'a [u8]>, AllocError> {
+        let mut names = Vec::new(alloc);
+        for file in self.text.split_str(FILE).skip(1) {
+            let Ok(()) = names.push(front_of(file, b"\n")) else {
+                return Err(AllocError);
+            };
+        }
+        Ok(names)
+    }
+
     /// Appends the command line as it is given, and what it shows.
     pub fn push_heading(&self, out: &mut Vec<u8>) -> Result<(), AllocError> {
         out.extend_from_slice(b"== ")?;

@@ -1,6 +1,7 @@
 -- What the words of a command line ask for.
 use Rattle.std.specs.Borrow.{Bor}
 use Rattle.std.proofs.Common.{◌≡◌, ◌∙◌, sym, ap, subst, ℕ, ◌<◌, ◌^◌, List, Bool, true, false, Option, Some, None, Result, Ok, Err, refl, codes, slice_index, arith}
+use Rattle.std.specs.Prelude.{option_map}
 use Rattle.std.specs.Str.Parse.{ParsesUnsigned, IsNumeral, digits_value, without_leading_plus}
 use Rattle.clap.specs.Matches.{ReadsOne}
 use Rattle.clap.specs.Words.{Text, Row, first_of, one_of}
@@ -21,7 +22,7 @@ use Rattle.mlk_cli.specs.declared.words.StubsRequest.{StubsRequest}
 use Rattle.mlk_cli.specs.declared.words.Request.{Request}
 use Rattle.mlk_cli.specs.declared.words.Request.TheVariants as request
 use Rattle.mlk_cli.specs.declared.words.ProgramRequest.{ProgramRequest}
-use Rattle.mlk_cli.specs.CommandLine.{IsAsked, IsNumber, IsNumberOf, IsFormat, IsWalk, IsOutput, NamesOutput, GivesOutput, IsFlag, GivesFlag, IsSurveyOutput, IsSurvey, IsSuggestion, IsWanted, IsStubs, IsConversion, IsProgramGiven, IsGiven, GivesNumber}
+use Rattle.mlk_cli.specs.CommandLine.{IsAsked, IsNumber, IsNumberOf, IsFormat, IsWalk, IsOutput, output_word, NamesOutput, GivesOutput, IsFlag, GivesFlag, IsExplained, IsQuiet, goes_together, IsStyle, IsSurveyOutput, IsSurvey, IsSuggestion, IsWanted, IsStubs, IsConversion, IsProgramGiven, IsGiven, GivesNumber}
 
 -- a number of workers, after a plus and zeros
 plus_and_zeros : IsNumber (codes "+004") 4
@@ -29,6 +30,13 @@ plus_and_zeros = ((omega arith, (omega arith, (omega arith, (omega arith, tt))))
 
 some_same : {X : Type 0} {x y : X} → Some x ≡ Some y → x ≡ y
 some_same e = cc
+
+-- where an option has a value, its two parts are known if each is
+pub both-parts : {A X Y : Type 0} (f : A → X) (g : A → Y) (met : Option A) (x : X) (y : Y)
+    → Some x ≡ option_map f met → Some y ≡ option_map (λ (p : X × Y). p.1) (option_map {U = X × Y} (λ a. (f a, g a)) met) → option_map {U = X × Y} (λ a. (f a, g a)) met ≡ Some (x, y)
+both-parts f g None x y first second = let bad = first in cc bad
+both-parts f g (Some a) x y first second =
+    ap (λ q. Some (q, g a)) (sym (some_same first)) ∙ ap (λ q. Some (x, q)) (sym (some_same second))
 
 -- the number of an option is what is read of the text that a command was given
 pub gives-number : (option : Text) (E : Type 0) (gives : List ℕ → Result ℕ E → Type 0) (rows : List Row) (given : Option Text) (read : Option ℕ)
@@ -115,6 +123,55 @@ pub only-false : (option : Text) (rows : List Row) (flag : Option Bool) → (fla
 only-false option rows None other none not-given = none false not-given
 only-false option rows (Some true) other is not-given = true-not-false option rows is not-given
 only-false option rows (Some false) other is not-given = other refl
+
+pub one-flag : (option : Text) (rows : List Row) (f g : Bool) → IsFlag option rows f → IsFlag option rows g → f ≡ g
+one-flag option rows true true h k = refl
+one-flag option rows true false h k = absurd (true-not-false option rows h k)
+one-flag option rows false true h k = absurd (true-not-false option rows k h)
+one-flag option rows false false h k = refl
+
+-- A report has one form.
+starts_text : (text : Text) → text ≡ codes "text" → slice_index text 0 ≡ 116
+starts_text text is = rw is refl
+
+starts_lines : (text : Text) → text ≡ codes "lines" → slice_index text 0 ≡ 108
+starts_lines text is = rw is refl
+
+text-not-json : codes "text" ≡ codes "json" → ⊥
+text-not-json e = let bad : ◌≡◌ {A = ℕ} 106 116 = starts_text (codes "json") (sym e) in omega arith
+
+lines-not-sarif : codes "lines" ≡ codes "sarif" → ⊥
+lines-not-sarif e = let bad : ◌≡◌ {A = ℕ} 115 108 = starts_lines (codes "sarif") (sym e) in omega arith
+
+word-of-one : (o p : Output) → output_word o ≡ output_word p → o ≡ p
+word-of-one output.Text output.Text e = refl
+word-of-one output.Text output.Json e = absurd (text-not-json e)
+word-of-one output.Text output.Sarif e = cc
+word-of-one output.Text output.Lines e = cc
+word-of-one output.Json output.Text e = absurd (text-not-json (sym e))
+word-of-one output.Json output.Json e = refl
+word-of-one output.Json output.Sarif e = cc
+word-of-one output.Json output.Lines e = cc
+word-of-one output.Sarif output.Text e = cc
+word-of-one output.Sarif output.Json e = cc
+word-of-one output.Sarif output.Sarif e = refl
+word-of-one output.Sarif output.Lines e = absurd (lines-not-sarif (sym e))
+word-of-one output.Lines output.Text e = cc
+word-of-one output.Lines output.Json e = cc
+word-of-one output.Lines output.Sarif e = absurd (lines-not-sarif e)
+word-of-one output.Lines output.Lines e = refl
+
+one-output : (rows : List Row) (o p : Output) → IsOutput rows o → IsOutput rows p → o ≡ p
+one-output rows o p h k = word-of-one o p (some_same (sym h ∙ k))
+
+-- What doesn't go together makes no style.
+pub no-style : (rows : List Row) (o : Output) (explained quiet : Bool) → IsOutput rows o → IsExplained rows explained → IsQuiet rows quiet → goes_together o explained quiet ≡ false
+    → (style : ReportStyle) → IsStyle rows style → ⊥
+no-style rows o explained quiet h k l apart style is =
+    let one = subst (λ p. goes_together p style.is_explained style.is_quiet ≡ true) (one-output rows style.output o is.output h) is.possible in
+    let two = subst (λ e. goes_together o e style.is_quiet ≡ true) (one-flag (codes "explain") rows style.is_explained explained is.explained k) one in
+    let three = subst (λ q. goes_together o explained q ≡ true) (one-flag (codes "quiet") rows style.is_quiet quiet is.quiet l) two in
+    let bad = sym three ∙ apart in cc bad
 
 pub no-survey-output : (rows : List Row) → ((output : Output) → IsOutput rows output → ⊥) → (output : SurveyOutput) → IsSurveyOutput rows output → ⊥
 no-survey-output rows none surveyed.Text h = none output.Text h

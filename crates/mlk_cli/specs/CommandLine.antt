@@ -1,6 +1,8 @@
 -- What the words of a command line ask for, by what `clap` makes of them. This project's own choice.
 use Rattle.std.specs.Borrow.{Bor}
-use Rattle.std.specs.Prelude.{option_map, ℕ, ◌≡◌, ◌<◌, ◌^◌, List, Option, Some, None, Bool, if◌then◌else◌, codes, true, false, map, string_bytes, String}
+use Rattle.std.specs.Global.{Global}
+use Rattle.std.specs.Prelude.{option_map, ℕ, ◌≡◌, ◌==◌, ◌<◌, ◌^◌, List, [], Option, Some, None, Bool, if◌then◌else◌, not, ◌&&◌, codes, true, false, map, string_bytes, String, Vec}
+use Rattle.std.specs.List.{list_any, starts_with}
 use Rattle.std.specs.Str.Parse.{IsNumeral, digits_value, without_leading_plus}
 use Rattle.clap.specs.Words.{Row, Text, all_of, first_of, one_of, subcommand_of}
 use Rattle.clap.specs.Takes.{takes}
@@ -10,7 +12,7 @@ use Rattle.mlk_cli.specs.declared.words.Asked.TheVariants as asked
 use Rattle.mlk_cli.specs.declared.words.Format.{Format}
 use Rattle.mlk_cli.specs.declared.words.Format.TheVariants.{First, Second}
 use Rattle.mlk_cli.specs.declared.words.Output.{Output}
-use Rattle.mlk_cli.specs.declared.words.Output.TheVariants.{Text as Plain, Json, Sarif}
+use Rattle.mlk_cli.specs.declared.words.Output.TheVariants.{Text as Plain, Json, Sarif, Lines}
 use Rattle.mlk_cli.specs.declared.words.SurveyOutput.{SurveyOutput}
 use Rattle.mlk_cli.specs.declared.words.SurveyOutput.TheVariants as surveyed
 use Rattle.mlk_cli.specs.declared.words.ReportStyle.{ReportStyle}
@@ -22,6 +24,7 @@ use Rattle.mlk_cli.specs.declared.words.WantedStubs.TheVariants as wanted
 use Rattle.mlk_cli.specs.declared.words.StubsRequest.{StubsRequest}
 use Rattle.mlk_cli.specs.declared.words.Request.{Request}
 use Rattle.mlk_cli.specs.declared.words.Request.TheVariants as request
+use Rattle.mlk_cli.specs.declared.words.Invocation.{Invocation}
 use Rattle.mlk_cli.specs.declared.words.UsageError.{UsageError}
 use Rattle.mlk_cli.specs.declared.words.UsageError.TheVariants as usage
 
@@ -55,6 +58,7 @@ abbrev pub output_word : Output → Text
 output_word Plain = codes "text"
 output_word Json = codes "json"
 output_word Sarif = codes "sarif"
+output_word Lines = codes "lines"
 
 abbrev pub NamesOutput : Text → Option Output → Type 0
 NamesOutput text None = (output : Output) → text ≡ output_word output → ⊥
@@ -83,13 +87,28 @@ IsStrict rows strict = IsFlag (codes "strict") rows strict
 abbrev pub IsExplained : List Row → Bool → Type 0
 IsExplained rows explained = IsFlag (codes "explain") rows explained
 
--- Only text is explained.
-abbrev pub MayExplain : Output → Bool → Type 0
-MayExplain output explained = explained ≡ true → output ≡ Plain
+-- whether a command was given `--quiet`, and `--exit-zero`
+abbrev pub IsQuiet : List Row → Bool → Type 0
+IsQuiet rows quiet = IsFlag (codes "quiet") rows quiet
+
+abbrev pub ExitsZero : List Row → Bool → Type 0
+ExitsZero rows zero = IsFlag (codes "exit-zero") rows zero
+
+-- Only text is explained, or reduced to its answer, and not both.
+abbrev pub goes_together : Output → Bool → Bool → Bool
+goes_together Plain explained quiet = not (explained && quiet)
+goes_together Json explained quiet = not explained && not quiet
+goes_together Sarif explained quiet = not explained && not quiet
+goes_together Lines explained quiet = not explained && not quiet
 
 -- the style of a report
-abbrev pub IsStyle : List Row → ReportStyle → Type 0
-IsStyle rows style = IsOutput rows style.output × IsStrict rows style.is_strict × IsExplained rows style.is_explained × MayExplain style.output style.is_explained
+pub record IsStyle (rows : List Row) (style : ReportStyle) : Type 0 where
+  pub output : IsOutput rows style.output
+  pub strict : IsStrict rows style.is_strict
+  pub explained : IsExplained rows style.is_explained
+  pub quiet : IsQuiet rows style.is_quiet
+  pub zero : ExitsZero rows style.exits_zero
+  pub possible : goes_together style.output style.is_explained style.is_quiet ≡ true
 
 abbrev pub GivesStyle : List Row → Option ReportStyle → Type 0
 GivesStyle rows None = (style : ReportStyle) → IsStyle rows style → ⊥
@@ -127,11 +146,30 @@ GivesAsked name rows (Some a) = IsAsked name rows a
 abbrev pub bytes_of : List (Bor (List ℕ)) → List Text
 bytes_of paths = map (λ path. path.now) paths
 
+-- the path that a command was given by the option of this name, if it was
+abbrev pub IsPathOf : Text → List Row → Option (Bor (List ℕ)) → Type 0
+IsPathOf option rows path = first_of option rows ≡ option_map (λ p. p.now) path
+
+-- The paths of the routines that a command was given. There may be none if a file lists them.
+abbrev pub paths_or_list : Option (List Text) → Option Text → Option (List Text)
+paths_or_list (Some paths) list = Some paths
+paths_or_list None (Some list) = Some []
+paths_or_list None None = None
+
+abbrev pub AreRoutines : List Row → List (Bor (List ℕ)) → Type 0
+AreRoutines rows routines = paths_or_list (all_of (codes "ROUTINE") rows) (first_of (codes "files-from") rows) ≡ Some (bytes_of routines)
+
+abbrev pub GivesRoutines : List Row → Option (Vec (Bor (List ℕ)) Global) → Type 0
+GivesRoutines rows None = (routines : Vec (Bor (List ℕ)) Global) → AreRoutines rows routines.items → ⊥
+GivesRoutines rows (Some routines) = AreRoutines rows routines.items
+
 -- the request has the paths, and what else the command of a name was given
 pub record IsProgramGiven (name : Text) (rows : List Row) (program : ProgramRequest) : Type 0 where
   pub asked : IsAsked name rows program.asked
   pub rules : first_of (codes "RULES") rows ≡ Some program.rules.now
-  pub routines : all_of (codes "ROUTINE") rows ≡ Some (bytes_of program.routines.items)
+  pub routines : AreRoutines rows program.routines.items
+  pub baseline : IsPathOf (codes "baseline") rows program.baseline
+  pub new_baseline : IsPathOf (codes "write-baseline") rows program.new_baseline
 
 abbrev pub GivesProgram : Text → List Row → Option ProgramRequest → Type 0
 GivesProgram name rows None = (program : ProgramRequest) → IsProgramGiven name rows program → ⊥
@@ -147,7 +185,7 @@ GivesConversion rows (Some c) = IsConversion rows c.0 c.1
 
 -- the routines to survey, and the form of the survey
 pub record IsSurvey (rows : List Row) (survey : SurveyRequest) : Type 0 where
-  pub routines : all_of (codes "ROUTINE") rows ≡ Some (bytes_of survey.routines.items)
+  pub routines : AreRoutines rows survey.routines.items
   pub output : IsSurveyOutput rows survey.output
 
 abbrev pub GivesSurvey : List Row → Option SurveyRequest → Type 0
@@ -156,9 +194,9 @@ GivesSurvey rows (Some survey) = IsSurvey rows survey
 
 -- the routines for which rules are suggested, not stubs, and the path of the rules that are there already, if it is given
 pub record IsSuggestion (rows : List Row) (suggestion : SuggestRequest) : Type 0 where
-  pub routines : all_of (codes "ROUTINE") rows ≡ Some (bytes_of suggestion.routines.items)
+  pub routines : AreRoutines rows suggestion.routines.items
   pub of_rules : IsFlag (codes "stubs") rows false
-  pub beside : first_of (codes "beside") rows ≡ option_map (λ path. path.now) suggestion.beside
+  pub beside : IsPathOf (codes "beside") rows suggestion.beside
 
 abbrev pub GivesSuggestion : List Row → Option SuggestRequest → Type 0
 GivesSuggestion rows None = (suggestion : SuggestRequest) → IsSuggestion rows suggestion → ⊥
@@ -178,7 +216,7 @@ GivesWanted name rows (Some wanted) = IsWanted name rows wanted
 -- which routines get a stub, and the routines that call them
 pub record IsStubs (name : Text) (rows : List Row) (stubs : StubsRequest) : Type 0 where
   pub wanted : IsWanted name rows stubs.wanted
-  pub routines : all_of (codes "ROUTINE") rows ≡ Some (bytes_of stubs.routines.items)
+  pub routines : AreRoutines rows stubs.routines.items
 
 abbrev pub GivesStubs : Text → List Row → Option StubsRequest → Type 0
 GivesStubs name rows None = (stubs : StubsRequest) → IsStubs name rows stubs → ⊥
@@ -198,29 +236,37 @@ abbrev pub GivesPaths : Text → List Row → Option Request → Type 0
 GivesPaths name rows None = (asked : Request) → IsGiven name rows asked → ⊥
 GivesPaths name rows (Some asked) = IsGiven name rows asked
 
--- the command that was met was given what the request has
-abbrev pub IsMet : Option (Text × List Row) → Request → Type 0
-IsMet met asked = (name : Text) × (rows : List Row) × (met ≡ Some (name, rows)) × IsGiven name rows asked
+-- the command that was met was given what the request has, and the path of the file that lists more routines
+abbrev pub IsMet : Option (Text × List Row) → Invocation → Type 0
+IsMet met line = (name : Text) × (rows : List Row) × (met ≡ Some (name, rows)) × IsGiven name rows line.request × IsPathOf (codes "files-from") rows line.list
 
 -- what the command that was met gives: nothing where it was given what no request has
-abbrev pub GivesRequest : Option (Text × List Row) → Option Request → Type 0
-GivesRequest met None = (asked : Request) → IsMet met asked → ⊥
-GivesRequest met (Some asked) = IsMet met asked
+abbrev pub GivesLine : Option (Text × List Row) → Option Invocation → Type 0
+GivesLine met None = (line : Invocation) → IsMet met line → ⊥
+GivesLine met (Some line) = IsMet met line
 
 abbrev pub texts_of : {A : Type 0} → List (String A) → List Text
 texts_of words = map string_bytes words
 
+-- The word names a file that lists routines, as `--files-from` or `--files-from=FILE`.
+abbrev pub names_list : Text → Bool
+names_list word = starts_with ◌==◌ word (codes "--files-from")
+
+-- Some word does, so that no routine has to be given.
+abbrev pub lists_routines : {A : Type 0} → List (String A) → Bool
+lists_routines words = list_any (λ w. names_list (string_bytes w)) words
+
 -- what the words ask for, if anything
-abbrev pub Asks : {A : Type 0} → List (String A) → Option Request → Type 0
-Asks words asked = GivesRequest (subcommand_of mlock_app (texts_of words)) asked
+abbrev pub Asks : {A : Type 0} → List (String A) → Option Invocation → Type 0
+Asks words line = GivesLine (subcommand_of (mlock_app (lists_routines words)) (texts_of words)) line
 
 -- The words name a command and give it the paths of the request, and what else it has, as `clap` reads them.
-abbrev pub IsRequest : {A : Type 0} → List (String A) → Request → Type 0
-IsRequest words asked = IsMet (subcommand_of mlock_app (texts_of words)) asked
+abbrev pub IsRequest : {A : Type 0} → List (String A) → Invocation → Type 0
+IsRequest words line = IsMet (subcommand_of (mlock_app (lists_routines words)) (texts_of words)) line
 
 -- `clap` does not take the words, or they are those of no request.
 abbrev pub AsksNothing : {A : Type 0} → List (String A) → Type 0
-AsksNothing words = takes mlock_app (texts_of words) ≡ true → (asked : Request) → IsRequest words asked → ⊥
+AsksNothing words = takes (mlock_app (lists_routines words)) (texts_of words) ≡ true → (line : Invocation) → IsRequest words line → ⊥
 
 -- Why there is no request. Want of memory says nothing.
 abbrev pub LacksRequest : {A : Type 0} → List (String A) → UsageError → Type 0

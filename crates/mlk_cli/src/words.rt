@@ -6,16 +6,19 @@ ghost use Rattle.clap.specs.Takes.{takes};
 ghost use Rattle.clap.specs.declared.error.kind.ErrorKind.TheVariants.{OutOfMemory};
 ghost use Rattle.clap.specs.Simple.{subcommand_rows_of};
 ghost use Rattle.mlk_cli_grammar.specs.Grammar.{mlock_app};
-ghost use Rattle.mlk_cli.specs.CommandLine.{GivesNumber, GivesFormat, NamesOutput, GivesOutput, GivesFlag, GivesStyle, GivesWalk, GivesSurveyOutput, GivesAsked, GivesProgram, GivesSurvey, GivesSuggestion, IsWanted, GivesWanted, GivesStubs, GivesConversion, GivesPaths, GivesRequest, texts_of, Asks, IsRequest, LacksRequest};
+ghost use Rattle.mlk_cli.specs.CommandLine.{GivesNumber, GivesFormat, NamesOutput, GivesOutput, GivesFlag, goes_together, GivesStyle, GivesWalk, GivesSurveyOutput, GivesAsked, GivesRoutines, GivesProgram, GivesSurvey, GivesSuggestion, IsWanted, GivesWanted, GivesStubs, GivesConversion, GivesPaths, GivesLine, texts_of, names_list, lists_routines, Asks, IsRequest, LacksRequest};
 
 use clap::error::ErrorKind;
 use clap::{ArgMatches, Error};
 use mlk_cli_grammar::grammar;
 use std::alloc::{AllocError, Global};
 
+// How the option begins that names a file which lists routines.
+const LIST_OPTION: &[u8] = b"--files-from";
+
 // What is said if `clap` takes the words and they are those of no request.
 const NO_REQUEST: &str =
-    "error: these values don't go together, or there is no such value: '--output' of 'check' and 'verify' is text, json or sarif, that of 'survey' is text or json; '--explain' goes with text; '--stubs' goes without '--beside'
+    "error: these values don't go together, or there is no such value: '--output' of 'check' and 'verify' is text, json, sarif or lines, that of 'survey' is text or json; '--explain' and '--quiet' go with text, and not with each other; '--stubs' goes without '--beside'
 
 For more information, try '--help'.
 ";
@@ -33,6 +36,8 @@ pub enum Output {
     Text,
     Json,
     Sarif,
+    /// text with the place of each fault before its line, as editors read it
+    Lines,
 }
 
 /// The form of a survey.
@@ -42,12 +47,15 @@ pub enum SurveyOutput {
     Json,
 }
 
-/// The form of a report, whether hazards are reported with it, and whether it is explained, which only text can be.
+/// The form of a report, whether hazards are reported with it, whether it is explained, or only its answer is printed, which goes
+/// with text alone, and whether the status is 0 for each report.
 #[derive(Clone, Copy, Debug, PartialEq, Eq)]
 pub struct ReportStyle {
     pub output: Output,
     pub is_strict: bool,
     pub is_explained: bool,
+    pub is_quiet: bool,
+    pub exits_zero: bool,
 }
 
 /// What is to be done with routines and rules.
@@ -78,6 +86,10 @@ pub struct ProgramRequest<'a> {
     pub asked: Asked<'a>,
     pub rules: &'a str,
     pub routines: Vec<&'a str>,
+    /// the path of the faults that are known, if it is given
+    pub baseline: Option<&'a str>,
+    /// the path at which the faults of the report are to be listed as known ones, if it is given
+    pub new_baseline: Option<&'a str>,
 }
 
 /// The paths of the routines to survey, and the form of the survey.
@@ -128,6 +140,13 @@ pub enum Request<'a> {
     Explain(&'a str),
 }
 
+/// What the words ask for, and the path of the file that lists more routines, if it is given.
+#[derive(Drop, Debug)]
+pub struct Invocation<'a> {
+    pub request: Request<'a>,
+    pub list: Option<&'a str>,
+}
+
 /// Why the words ask for nothing.
 #[derive(Drop, Debug, thiserror::Error)]
 pub enum UsageError {
@@ -168,6 +187,9 @@ fn output_named(text: &str) -> Option<Output>
     if text == "sarif" {
         return Some(Output::Sarif);
     }
+    if text == "lines" {
+        return Some(Output::Lines);
+    }
     None
 }
 
@@ -197,6 +219,16 @@ fn flag_of(matches: &ArgMatches<'_>, option: &str) -> Option<bool>
     None
 }
 
+// Whether a report of this form may be explained, or be reduced to its answer.
+fn goes_together(output: Output, is_explained: bool, is_quiet: bool) -> bool
+    ensures { result ≡ goes_together output is_explained is_quiet }
+{
+    match output {
+        Output::Text => !(is_explained && is_quiet),
+        Output::Json | Output::Sarif | Output::Lines => !is_explained && !is_quiet,
+    }
+}
+
 fn style_of(matches: &ArgMatches<'_>) -> Option<ReportStyle>
     ensures { GivesStyle (rows_of (found_of matches.now)) result }
 {
@@ -209,13 +241,21 @@ fn style_of(matches: &ArgMatches<'_>) -> Option<ReportStyle>
     let Some(is_explained) = flag_of(matches, "explain") else {
         return None;
     };
-    if is_explained && output != Output::Text {
+    let Some(is_quiet) = flag_of(matches, "quiet") else {
+        return None;
+    };
+    let Some(exits_zero) = flag_of(matches, "exit-zero") else {
+        return None;
+    };
+    if !goes_together(output, is_explained, is_quiet) {
         return None;
     }
     Some(ReportStyle {
         output,
         is_strict,
         is_explained,
+        is_quiet,
+        exits_zero,
     })
 }
 
@@ -239,6 +279,7 @@ fn survey_output_of(matches: &ArgMatches<'_>) -> Option<SurveyOutput>
         Some(Output::Text) => Some(SurveyOutput::Text),
         Some(Output::Json) => Some(SurveyOutput::Json),
         Some(Output::Sarif) => None,
+        Some(Output::Lines) => None,
         None => None,
     }
 }
@@ -281,6 +322,23 @@ fn asked_by<'a>(name: &str, matches: &ArgMatches<'a>) -> Option<Asked<'a>>
     })
 }
 
+// The paths of the routines that a command was given; there may be none if a file lists them.
+fn routines_of<'a>(
+    alloc: Global,
+    matches: &ArgMatches<'a>,
+) -> Result<Option<Vec<&'a str>>, AllocError>
+    ensures { IfOk result (GivesRoutines (rows_of (found_of matches.now))) }
+{
+    if let Some(paths) = matches.get_strs("ROUTINE") {
+        let routines = Vec::from_slice(alloc, paths)?;
+        return Ok(Some(routines));
+    }
+    match matches.get_str("files-from") {
+        Some(_) => Ok(Some(Vec::new(alloc))),
+        None => Ok(None),
+    }
+}
+
 // What the command of this name asks for of a program, by what it was given.
 fn program_of<'a>(
     alloc: Global,
@@ -295,14 +353,17 @@ fn program_of<'a>(
     let Some(rules) = matches.get_str("RULES") else {
         return Ok(None);
     };
-    let Some(paths) = matches.get_strs("ROUTINE") else {
+    let Some(routines) = routines_of(alloc, matches)? else {
         return Ok(None);
     };
-    let routines = Vec::from_slice(alloc, paths)?;
+    let baseline = matches.get_str("baseline");
+    let new_baseline = matches.get_str("write-baseline");
     Ok(Some(ProgramRequest {
         asked,
         rules,
         routines,
+        baseline,
+        new_baseline,
     }))
 }
 
@@ -326,13 +387,12 @@ fn survey_of<'a>(
 ) -> Result<Option<SurveyRequest<'a>>, AllocError>
     ensures { IfOk result (GivesSurvey (rows_of (found_of matches.now))) }
 {
-    let Some(paths) = matches.get_strs("ROUTINE") else {
+    let Some(routines) = routines_of(alloc, matches)? else {
         return Ok(None);
     };
     let Some(output) = survey_output_of(matches) else {
         return Ok(None);
     };
-    let routines = Vec::from_slice(alloc, paths)?;
     Ok(Some(SurveyRequest { routines, output }))
 }
 
@@ -343,14 +403,13 @@ fn suggestion_of<'a>(
 ) -> Result<Option<SuggestRequest<'a>>, AllocError>
     ensures { IfOk result (GivesSuggestion (rows_of (found_of matches.now))) }
 {
-    let Some(paths) = matches.get_strs("ROUTINE") else {
+    let Some(routines) = routines_of(alloc, matches)? else {
         return Ok(None);
     };
     let Some(false) = flag_of(matches, "stubs") else {
         return Ok(None);
     };
     let beside = matches.get_str("beside");
-    let routines = Vec::from_slice(alloc, paths)?;
     Ok(Some(SuggestRequest { beside, routines }))
 }
 
@@ -399,10 +458,9 @@ fn stubs_of<'a>(
     let Some(wanted) = wanted_by(alloc, name, matches)? else {
         return Ok(None);
     };
-    let Some(paths) = matches.get_strs("ROUTINE") else {
+    let Some(routines) = routines_of(alloc, matches)? else {
         return Ok(None);
     };
-    let routines = Vec::from_slice(alloc, paths)?;
     Ok(Some(StubsRequest { wanted, routines }))
 }
 
@@ -463,24 +521,44 @@ fn command_request<'a>(
     routines_request(alloc, name, matches)
 }
 
-fn request_of<'a>(
+// What is asked for by the command that the words name.
+fn line_of<'a>(
     alloc: Global,
     matches: &ArgMatches<'a>,
-) -> Result<Option<Request<'a>>, AllocError>
-    ensures { IfOk result (GivesRequest (subcommand_rows_of matches.now)) }
+) -> Result<Option<Invocation<'a>>, AllocError>
+    ensures { IfOk result (GivesLine (subcommand_rows_of matches.now)) }
 {
-    match matches.subcommand() {
-        None => Ok(None),
-        Some((name, inner)) => command_request(alloc, name, inner),
-    }
+    let Some((name, inner)) = matches.subcommand() else {
+        return Ok(None);
+    };
+    let Some(request) = command_request(alloc, name, inner)? else {
+        return Ok(None);
+    };
+    let list = inner.get_str("files-from");
+    Ok(Some(Invocation { request, list }))
 }
 
-fn read_words<'a>(alloc: Global, words: &'a [String]) -> Result<Option<Request<'a>>, Error>
-    ensures asks { IfOk result (Asks words.now) }
-    ensures passes { IfErr result (λ e. takes mlock_app (texts_of words.now) ≡ true → kind_of e ≡ OutOfMemory) }
+// Whether a word names a file that lists routines.
+fn names_list(word: &str) -> bool
+    ensures { result ≡ names_list word.now }
 {
-    let matches = grammar(alloc)?.try_get_matches_from(words)?;
-    Ok(request_of(alloc, &matches)?)
+    word.as_bytes().starts_with(LIST_OPTION)
+}
+
+// Whether the words name a file that lists routines.
+fn lists_routines(words: &[String]) -> bool
+    ensures { result ≡ lists_routines words.now }
+{
+    words.iter().any(|word| names_list(word.as_str()))
+}
+
+fn read_words<'a>(alloc: Global, words: &'a [String]) -> Result<Option<Invocation<'a>>, Error>
+    ensures asks { IfOk result (Asks words.now) }
+    ensures passes { IfErr result (λ e. takes (mlock_app (lists_routines words.now)) (texts_of words.now) ≡ true → kind_of e ≡ OutOfMemory) }
+{
+    let grammar = grammar(alloc, lists_routines(words))?;
+    let matches = grammar.try_get_matches_from(words)?;
+    Ok(line_of(alloc, &matches)?)
 }
 
 fn no_request(alloc: Global) -> UsageError {
@@ -491,12 +569,12 @@ fn no_request(alloc: Global) -> UsageError {
 }
 
 /// What the words ask for; the first word is the program's name.
-pub fn read_request<'a>(alloc: Global, words: &'a [String]) -> Result<Request<'a>, UsageError>
+pub fn read_request<'a>(alloc: Global, words: &'a [String]) -> Result<Invocation<'a>, UsageError>
     ensures asks { IfOk result (IsRequest words.now) }
     ensures refused { IfErr result (LacksRequest words.now) }
 {
     match read_words(alloc, words) {
-        Ok(Some(request)) => Ok(request),
+        Ok(Some(line)) => Ok(line),
         Ok(None) => Err(no_request(alloc)),
         Err(error) => {
             if error.kind() == ErrorKind::OutOfMemory {

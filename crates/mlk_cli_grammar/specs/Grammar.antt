@@ -1,5 +1,5 @@
 -- The grammar of the command line: the commands, their options and their words, as `clap` is given them. This project's own choice.
-use Rattle.std.specs.Prelude.{[], ◌∷◌, Some, codes, pos, true}
+use Rattle.std.specs.Prelude.{[], ◌∷◌, Some, codes, pos, Bool, true, not}
 use Rattle.clap.specs.Lexer.{usize_max}
 use Rattle.clap.specs.Words.{App, Rule, Text, new_app, new_rule, with_rule, with_subcommand}
 use Rattle.clap.specs.Simple.{on_top}
@@ -10,9 +10,9 @@ use Rattle.clap.specs.declared.builder.value_parser.ValueParser.TheVariants as v
 abbrev pub path_rule : Text → Rule
 path_rule id = record (new_rule id) { required = true; action = Some Set }
 
--- the paths of the routines, one or more
-abbrev pub routines_rule : Rule
-routines_rule = record (new_rule (codes "ROUTINE")) { required = true; action = Some Append; range = Some (record { start_inclusive = 1; end_inclusive = usize_max }) }
+-- the paths of the routines, one or more; none has to be given if a file lists them
+abbrev pub routines_rule : Bool → Rule
+routines_rule listed = record (new_rule (codes "ROUTINE")) { required = not listed; action = Some Append; range = Some (record { start_inclusive = 1; end_inclusive = usize_max }) }
 
 -- `--workers N`, a number of 32 bits, which is 4 where it is left out
 abbrev pub workers_rule : Rule
@@ -30,49 +30,63 @@ output_rule = record (new_rule (codes "output")) { long = Some (codes "output");
 abbrev pub flag_rule : Text → Rule
 flag_rule id = record (new_rule id) { long = Some id; action = Some SetTrue }
 
+-- an option of this name, whose value is a path, which may be left out
+abbrev pub file_rule : Text → Rule
+file_rule id = record (new_rule id) { long = Some id; value_names = 1; action = Some Set }
+
+-- a command with the paths of its routines, and `--files-from FILE`, the file that lists more of them
+abbrev pub with_routines : Bool → App → App
+with_routines listed app = with_rule (with_rule app (routines_rule listed)) (file_rule (codes "files-from"))
+
 -- a command with the options for the style of its report
 abbrev pub with_style : App → App
-with_style app = with_rule (with_rule (with_rule app output_rule) (flag_rule (codes "strict"))) (flag_rule (codes "explain"))
+with_style app =
+    with_rule (with_rule (with_rule (with_rule (with_rule app output_rule) (flag_rule (codes "strict"))) (flag_rule (codes "explain"))) (flag_rule (codes "quiet")))
+    (flag_rule (codes "exit-zero"))
 
--- `check RULES CERT ROUTINE..`, how many workers, and the style of its report
-abbrev pub check_app : App
-check_app = with_style (with_rule (with_rule (with_rule (with_rule (new_app (codes "check")) (path_rule (codes "RULES"))) (path_rule (codes "CERT"))) routines_rule) workers_rule)
+-- a command with the options for faults that are known: the file that lists them, and the file that is to list them
+abbrev pub with_baseline : App → App
+with_baseline app = with_rule (with_rule app (file_rule (codes "baseline"))) (file_rule (codes "write-baseline"))
+
+-- a command with the number of workers, the style of its report, and faults that are known
+abbrev pub with_report : App → App
+with_report app = with_baseline (with_style (with_rule app workers_rule))
+
+-- `check RULES CERT ROUTINE..`, how many workers, and how its report is printed
+abbrev pub check_app : Bool → App
+check_app listed = with_report (with_routines listed (with_rule (with_rule (new_app (codes "check")) (path_rule (codes "RULES"))) (path_rule (codes "CERT"))))
 
 -- `make RULES ROUTINE..`, and the format of the certificate, the first where it is left out
-abbrev pub make_app : App
-make_app = with_rule (with_rule (with_rule (new_app (codes "make")) (path_rule (codes "RULES"))) routines_rule) (format_rule (codes "1"))
+abbrev pub make_app : Bool → App
+make_app listed = with_rule (with_routines listed (with_rule (new_app (codes "make")) (path_rule (codes "RULES")))) (format_rule (codes "1"))
 
--- `verify RULES ROUTINE..`, how many workers, and the style of its report
-abbrev pub verify_app : App
-verify_app = with_style (with_rule (with_rule (with_rule (new_app (codes "verify")) (path_rule (codes "RULES"))) routines_rule) workers_rule)
+-- `verify RULES ROUTINE..`, how many workers, and how its report is printed
+abbrev pub verify_app : Bool → App
+verify_app listed = with_report (with_routines listed (with_rule (new_app (codes "verify")) (path_rule (codes "RULES"))))
 
 -- `replay RULES EVENTS ROUTINE..`
-abbrev pub replay_app : App
-replay_app = with_rule (with_rule (with_rule (new_app (codes "replay")) (path_rule (codes "RULES"))) (path_rule (codes "EVENTS"))) routines_rule
+abbrev pub replay_app : Bool → App
+replay_app listed = with_routines listed (with_rule (with_rule (new_app (codes "replay")) (path_rule (codes "RULES"))) (path_rule (codes "EVENTS")))
 
 -- `convert CERT`, and the format that it is to have, the second where it is left out
 abbrev pub convert_app : App
 convert_app = with_rule (with_rule (new_app (codes "convert")) (path_rule (codes "CERT"))) (format_rule (codes "2"))
 
 -- `survey ROUTINE..`, and its form
-abbrev pub survey_app : App
-survey_app = with_rule (with_rule (new_app (codes "survey")) routines_rule) output_rule
-
--- `--beside RULES`, which may be left out
-abbrev pub beside_rule : Rule
-beside_rule = record (new_rule (codes "beside")) { long = Some (codes "beside"); value_names = 1; action = Some Set }
+abbrev pub survey_app : Bool → App
+survey_app listed = with_rule (with_routines listed (new_app (codes "survey"))) output_rule
 
 -- `suggest ROUTINE..`, the rules that are there already, and whether stubs are wanted
-abbrev pub suggest_app : App
-suggest_app = with_rule (with_rule (with_rule (new_app (codes "suggest")) routines_rule) beside_rule) (flag_rule (codes "stubs"))
+abbrev pub suggest_app : Bool → App
+suggest_app listed = with_rule (with_rule (with_routines listed (new_app (codes "suggest"))) (file_rule (codes "beside"))) (flag_rule (codes "stubs"))
 
 -- `--for NAME`, any number of times
 abbrev pub for_rule : Rule
 for_rule = record (new_rule (codes "for")) { long = Some (codes "for"); value_names = 1; action = Some Append }
 
 -- `stubs ROUTINE..`, and the names of the routines that get a stub
-abbrev pub stubs_app : App
-stubs_app = with_rule (with_rule (new_app (codes "stubs")) routines_rule) for_rule
+abbrev pub stubs_app : Bool → App
+stubs_app listed = with_rule (with_routines listed (new_app (codes "stubs"))) for_rule
 
 -- `explain CODE`
 abbrev pub explain_app : App
@@ -82,8 +96,8 @@ explain_app = with_rule (new_app (codes "explain")) (path_rule (codes "CODE"))
 abbrev pub no_command_app : App
 no_command_app = on_top (λ s. record s { subcommand_required = true; has_version = true }) (new_app (codes "mlock"))
 
--- `mlock` and one of its commands
-abbrev pub mlock_app : App
-mlock_app =
-    with_subcommand (with_subcommand (with_subcommand (with_subcommand (with_subcommand (with_subcommand (with_subcommand (with_subcommand (with_subcommand no_command_app check_app.top) make_app.top) verify_app.top) replay_app.top)
-    convert_app.top) survey_app.top) suggest_app.top) stubs_app.top) explain_app.top
+-- `mlock` and one of its commands; no routine has to be given if a file lists them
+abbrev pub mlock_app : Bool → App
+mlock_app listed =
+    with_subcommand (with_subcommand (with_subcommand (with_subcommand (with_subcommand (with_subcommand (with_subcommand (with_subcommand (with_subcommand no_command_app (check_app listed).top) (make_app listed).top) (verify_app listed).top) (replay_app listed).top)
+    convert_app.top) (survey_app listed).top) (suggest_app listed).top) (stubs_app listed).top) explain_app.top

@@ -5,7 +5,10 @@ pub(crate) const RULES_HELP: &str = "The rule file: which lock covers which glob
 pub(crate) const CERT_HELP: &str = "The certificate: for each line, the locks that are held there";
 
 pub(crate) const ROUTINE_HELP: &str =
-    "Files of routines, one routine each; a file's name up to its last dot is the routine's name";
+    "Files of routines, one routine each; a file's name up to its last dot is the routine's name. Of a folder, each `*.m` below it";
+
+pub(crate) const FILES_HELP: &str =
+    "A file that lists more routines, a path a line, read after the others; with it, ROUTINE may be left out";
 
 pub(crate) const WORKERS_HELP: &str = "How many workers walk entries side by side, 1 to 64";
 
@@ -13,13 +16,25 @@ pub(crate) const FORMAT_HELP: &str =
     "The format of the text: 1, which has the cases of each point in full, or 2, which has their numbers";
 
 pub(crate) const OUTPUT_HELP: &str =
-    "The form of the report: text, json, or sarif, which build servers read";
+    "The form of the report: text, json, sarif, which build servers read, or lines, which is text with `FILE:LINE:COLUMN: ` before each fault";
 
 pub(crate) const STRICT_HELP: &str =
     "Lists also the places where a real system may differ from the standard, and ends with status 1 if there are any";
 
 pub(crate) const EXPLAIN_HELP: &str =
     "Shows below each fault its line, what is held there, the rules and what mends it, and below a refusal its line and what helps; only for text";
+
+pub(crate) const QUIET_HELP: &str =
+    "Prints only the answer, `yes`, `known N` or `no N`; only for text";
+
+pub(crate) const EXIT_ZERO_HELP: &str =
+    "Ends with status 0 also if the answer is no, or for a hazard: for a first trial in a build";
+
+pub(crate) const BASELINE_HELP: &str =
+    "A file that lists faults which are known: only others are reported, and `known N` is printed if there are none";
+
+pub(crate) const WRITE_BASELINE_HELP: &str =
+    "Writes the file for --baseline in which all faults of this report are known";
 
 pub(crate) const SURVEY_OUTPUT_HELP: &str = "The form of the survey: text or json";
 
@@ -33,9 +48,13 @@ fault, as `LABEL^ROUTINE line:column CODE NAME`, and `no N`. With --explain each
 With --strict a line for each hazard follows, as `hazard ROUTINE line:column NAME`: a place where a real system may
 differ from the standard.
 
+With --baseline only faults are reported that its file doesn't list, and `known N` if there are none but those; each known
+fault that is gone follows, as `gone N FAULT`.
+
 Example: mlock check rules.toml bank.cert BANK.m
 
-Status: 0 yes, 1 no, or a hazard with --strict, 2 refused input, 3 out of memory or a file that can't be read or written.";
+Status: 0 yes or known, 1 no, or a hazard with --strict, 2 refused input, 3 out of memory or a file that can't be read or
+written.";
 
 pub(crate) const MAKE_HELP: &str = "Makes a certificate of routines";
 
@@ -59,10 +78,13 @@ With --explain each fault is explained below its line.
 With --strict a line for each hazard follows, as `hazard ROUTINE line:column NAME`: a place where a real system may
 differ from the standard.
 
+With --baseline only faults are reported that its file doesn't list, and `known N` if there are none but those; each known
+fault that is gone follows, as `gone N FAULT`.
+
 Example: mlock verify --explain rules.toml BANK.m
 
-Status: 0 yes, 1 no, or a hazard with --strict, 2 refused input or given up, 3 out of memory or a file that can't be read
-or written.";
+Status: 0 yes or known, 1 no, or a hazard with --strict, 2 refused input or given up, 3 out of memory or a file that can't
+be read or written.";
 
 pub(crate) const EVENTS_HELP: &str =
     "The events, a line each: which job begins, takes steps or is aborted";

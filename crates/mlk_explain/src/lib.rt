@@ -11,5 +11,5 @@ mod trail;
 pub use behind::{ExplainedAs, FaultsBehind};
 pub use mlk_explain_origins::Grounds;
 pub use mlk_explain_rules::free_reads;
-pub use report::{explained_rows, notes_below, stories_of};
+pub use report::{explained_rows, explained_rows_at, notes_below, stories_at, stories_of};
 pub use story::{OriginStory, Story, WayPoint};

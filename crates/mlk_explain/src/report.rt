@@ -47,11 +47,31 @@ pub fn notes_below(
     Ok(text)
 }
 
+// The numbers of all rows of a report.
+fn all_numbers(alloc: Global, report: &Report) -> Result<Vec<usize>, AllocError> {
+    let mut numbers = Vec::with_capacity(alloc, report.rows().len())?;
+    for (number, _) in report.rows().iter().enumerate() {
+        numbers.push(number)?;
+    }
+    Ok(numbers)
+}
+
 /// The story of each row of a report, in their order: what its explanation says, in pieces.
 pub fn stories_of(
     alloc: Global,
     grounds: &Grounds<'_>,
     report: &Report,
+) -> Result<Vec<Option<Story>>, AllocError> {
+    let numbers = all_numbers(alloc, report)?;
+    stories_at(alloc, grounds, report, numbers.as_slice())
+}
+
+/// The stories of the rows with these numbers.
+pub fn stories_at(
+    alloc: Global,
+    grounds: &Grounds<'_>,
+    report: &Report,
+    numbers: &[usize],
 ) -> Result<Vec<Option<Story>>, AllocError> {
     let blocks = grounds.certificate.blocks();
     let entries = Entries::of(alloc, grounds.program, grounds.rules, blocks)?;
@@ -62,9 +82,12 @@ pub fn stories_of(
     };
     let rule_file = RuleFile::of(alloc, grounds.rule_text)?;
     let mut explainer = Explainer::new(alloc, grounds, &checks, &rule_file);
-    let mut stories = Vec::with_capacity(alloc, report.rows().len())?;
-    for (row, note) in report.rows().iter().zip(report.notes()) {
-        stories.push(explainer.story(row, note)?)?;
+    let mut stories = Vec::with_capacity(alloc, numbers.len())?;
+    let (rows, notes) = (report.rows(), report.notes());
+    for number in numbers {
+        if let (Some(row), Some(note)) = (rows.get(*number), notes.get(*number)) {
+            stories.push(explainer.story(row, note)?)?;
+        }
     }
     Ok(stories)
 }
@@ -83,6 +106,17 @@ pub fn explained_rows(
     grounds: &Grounds<'_>,
     report: &Report,
 ) -> Result<Vec<u8>, AllocError> {
+    let numbers = all_numbers(alloc, report)?;
+    explained_rows_at(alloc, grounds, report, numbers.as_slice())
+}
+
+/// The text of the rows with these numbers, with an explanation below each.
+pub fn explained_rows_at(
+    alloc: Global,
+    grounds: &Grounds<'_>,
+    report: &Report,
+    numbers: &[usize],
+) -> Result<Vec<u8>, AllocError> {
     let blocks = grounds.certificate.blocks();
     let entries = Entries::of(alloc, grounds.program, grounds.rules, blocks)?;
     let checks = Checks {
@@ -93,8 +127,11 @@ pub fn explained_rows(
     let rule_file = RuleFile::of(alloc, grounds.rule_text)?;
     let mut explainer = Explainer::new(alloc, grounds, &checks, &rule_file);
     let mut text = Vec::new(alloc);
-    for (row, note) in report.rows().iter().zip(report.notes()) {
-        explainer.push_row(&mut text, row, note)?;
+    let (rows, notes) = (report.rows(), report.notes());
+    for number in numbers {
+        if let (Some(row), Some(note)) = (rows.get(*number), notes.get(*number)) {
+            explainer.push_row(&mut text, row, note)?;
+        }
     }
     Ok(text)
 }

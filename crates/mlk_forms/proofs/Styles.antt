@@ -1,8 +1,9 @@
 -- What it is worth that a report passes, and what is printed where nothing is asked for.
-use Rattle.std.proofs.Common.{◌≡◌, ◌∙◌, ◌++◌, ℕ, length, List, [], ◌∷◌, Bool, true, false, refl, sym, ap, subst, arith}
+use Rattle.std.proofs.Common.{◌≡◌, ◌∙◌, ◌++◌, ℕ, length, List, [], ◌∷◌, Option, None, Bor, Bool, true, false, refl, sym, ap, subst, arith}
 use Rattle.std.specs.Prelude.{◌==◌, ◌&&◌}
 use Rattle.std.proofs.lemmas.Bool.{and_parts, eqb-true}
 use Rattle.std.proofs.lemmas.List.{append-nil}
+use Rattle.mlk_baseline.specs.declared.baseline.Comparison.{Comparison}
 use Rattle.mlk_syntax.specs.Trees.{RoutineTree}
 use Rattle.mlk_walk.specs.declared.report.Row.{Row}
 use Rattle.mlk_hazards.specs.declared.hazard.HazardAt.{HazardAt}
@@ -10,7 +11,7 @@ use Rattle.mlk_cli.specs.declared.words.Output.TheVariants.{Text}
 use Rattle.mlk_cli.specs.declared.words.ReportStyle.{ReportStyle}
 use Rattle.mlk_pool.specs.Texts.{report_text}
 use Rattle.mlk_coverage.specs.declared.gap.Gap.{Gap}
-use Rattle.mlk_forms.specs.Rendering.{IsRendered, hazard_lines, gap_lines, warning_lines, passes}
+use Rattle.mlk_forms.specs.Rendering.{IsRendered, gap_lines, passes, printed_rows, warning_lines}
 
 passes-no-row : (rows : List Row) (hazards : List HazardAt) (gaps : List Gap) → passes rows hazards gaps ≡ true → rows ≡ []
 passes-no-row [] hazards gaps is = refl
@@ -18,14 +19,15 @@ passes-no-row (r ∷ rows) hazards gaps is =
     let none = eqb-true (length (r ∷ rows)) 0 (and_parts (length (r ∷ rows) == 0) ((length hazards == 0) && (length gaps == 0)) is).0 in
     absurd (omega (arith, none))
 
--- In whatever form a report is told, it has no fault where it passes.
-pub passed-no-row : (style : ReportStyle) (trees : List RoutineTree) (rows : List Row) (text : List ℕ) → IsRendered style trees rows text true → rows ≡ []
-passed-no-row style trees rows text told = passes-no-row rows told.hazards told.gaps (sym told.ended)
+-- In whatever form a report is printed, it has no fault that is new where it passes.
+pub passed-no-row : (style : ReportStyle) (comparison : Option (Bor Comparison)) (trees : List RoutineTree) (rows : List Row) (text : List ℕ) → IsRendered style comparison trees rows text true → printed_rows comparison rows ≡ []
+passed-no-row style comparison trees rows text printed = passes-no-row (printed_rows comparison rows) printed.hazards printed.gaps (sym printed.ended)
 
--- Where the words ask for nothing else, the text is that of the report and no byte more.
+-- Where the words ask for nothing else, and no faults are known, the text is that of the report and no byte more.
 pub plain-text : (style : ReportStyle) (trees : List RoutineTree) (rows : List Row) (text : List ℕ) (passed : Bool)
-    → style ≡ record { output = Text; is_strict = false; is_explained = false } → IsRendered style trees rows text passed → text ≡ report_text trees rows
-plain-text style trees rows text passed plain told =
-    let usual = subst (λ s. IsRendered s trees rows text passed) plain told in
-    usual.printed ∙ ap (λ hazards. report_text trees rows ++ warning_lines hazards usual.gaps) usual.reported
-    ∙ ap (λ gaps. report_text trees rows ++ gap_lines gaps) usual.found ∙ append-nil (report_text trees rows)
+    → style ≡ record { output = Text; is_strict = false; is_explained = false; is_quiet = false; exits_zero = false } → IsRendered style None trees rows text passed → text ≡ report_text trees rows
+plain-text style trees rows text passed plain printed =
+    let usual = subst (λ s. IsRendered s None trees rows text passed) plain printed in
+    usual.printed ∙ ap (λ gone. (report_text trees rows ++ gone) ++ warning_lines usual.hazards usual.gaps) usual.below
+    ∙ ap (λ hazards. (report_text trees rows ++ []) ++ warning_lines hazards usual.gaps) usual.reported
+    ∙ ap (λ gaps. (report_text trees rows ++ []) ++ gap_lines gaps) usual.found ∙ append-nil (report_text trees rows ++ []) ∙ append-nil (report_text trees rows)

@@ -1,5 +1,7 @@
 -- How reports and refusals are printed. This project's own choice.
-use Rattle.std.specs.Prelude.{ℕ, ◌≡◌, ◌+◌, ◌++◌, ◌==◌, ◌&&◌, length, List, [], ◌∷◌, Bool, true, false, Option, None, codes}
+use Rattle.std.specs.Borrow.{Bor}
+use Rattle.std.specs.Prelude.{ℕ, zero, suc, ◌≡◌, ◌+◌, ◌++◌, ◌==◌, ◌&&◌, length, List, [], ◌∷◌, Bool, true, false, Option, None, Some, codes, slice_get}
+use Rattle.mlk_baseline.specs.declared.baseline.Comparison.{Comparison}
 use Rattle.mlk_syntax.specs.Trees.{RoutineTree}
 use Rattle.mlk_walk.specs.declared.report.Row.{Row}
 use Rattle.mlk_hazards.specs.declared.hazard.HazardAt.{HazardAt}
@@ -10,10 +12,54 @@ use Rattle.mlk_coverage.specs.declared.gap.GapPlace.{GapPlace}
 use Rattle.mlk_coverage.specs.declared.gap.GapPlace.TheVariants as place
 use Rattle.mlk_coverage.specs.Words.{gap_word, kind_word}
 use Rattle.mlk_cli.specs.declared.words.Output.{Output}
-use Rattle.mlk_cli.specs.declared.words.Output.TheVariants.{Text, Json, Sarif}
+use Rattle.mlk_cli.specs.declared.words.Output.TheVariants.{Text, Json, Sarif, Lines}
 use Rattle.mlk_cli.specs.declared.words.ReportStyle.{ReportStyle}
-use Rattle.mlk_pool.specs.Texts.{report_text, last_line, place_text, space, line_end}
-use Rattle.mlk_output.specs.Documents.{IsJsonReport, IsSarifReport}
+use Rattle.mlk_pool.specs.Texts.{row_line, row_lines, last_line, place_text, space, line_end}
+use Rattle.mlk_output.specs.Documents.{IsJsonReport, IsSarifReport, known_in}
+
+-- the rows with these numbers, counted from 0
+abbrev pub row_if_there : Option Row → List Row
+row_if_there None = []
+row_if_there (Some r) = r ∷ []
+
+abbrev pub rows_at : List Row → List ℕ → List Row
+rows_at rows [] = []
+rows_at rows (n ∷ ns) = row_if_there (slice_get rows n) ++ rows_at rows ns
+
+-- The rows of a report that are printed: all, or, if they are compared with known faults, those that are not known.
+abbrev pub printed_rows : Option (Bor Comparison) → List Row → List Row
+printed_rows None rows = rows
+printed_rows (Some comparison) rows = rows_at rows comparison.now.news.items
+
+-- `known N`
+abbrev pub known_line : ℕ → List ℕ
+known_line known = codes "known " ++ decimal known ++ line_end
+
+-- The answer of a report with these rows, besides which a number of faults is known: `known N` if there is no row and some are
+-- known; else as ever, `yes` or `no N`.
+abbrev pub answer_line : ℕ → List Row → List ℕ
+answer_line zero rows = last_line rows
+answer_line (suc known) [] = known_line (suc known)
+answer_line (suc known) (r ∷ rows) = last_line (r ∷ rows)
+
+-- The lines below the answer on known faults that do not occur. What they say is not said; there are none unless faults are
+-- compared with known ones.
+abbrev pub AreGone : Option (Bor Comparison) → List ℕ → Type 0
+AreGone None gone = gone ≡ []
+AreGone (Some comparison) gone = Unit {0}
+
+-- a line for each row, the answer, and what is below it
+abbrev pub answered_text : List RoutineTree → List Row → ℕ → List ℕ → List ℕ
+answered_text trees rows known gone = (row_lines trees rows ++ answer_line known rows) ++ gone
+
+-- The place of a row before its line, `PATH:line:column: `. Which path it is, is not said.
+abbrev pub IsPlace : Row → List ℕ → Type 0
+IsPlace r text = (path : List ℕ) × (text ≡ path ++ codes ":" ++ place_text r.fault.line r.fault.column ++ codes ": ")
+
+-- lines of rows, each after its place, are added to a text
+abbrev pub ArePlaced : List RoutineTree → List Row → List ℕ → List ℕ → Type 0
+ArePlaced trees [] old new = new ≡ old
+ArePlaced trees (r ∷ rows) old new = (place : List ℕ) × IsPlace r place × ArePlaced trees rows ((old ++ place) ++ row_line trees r) new
 
 -- `hazard ROUTINE line:column NAME`
 abbrev pub hazard_line : HazardAt → List ℕ
@@ -56,40 +102,54 @@ abbrev pub passes : List Row → List HazardAt → List Gap → Bool
 passes rows hazards gaps = (length rows == 0) && ((length hazards == 0) && (length gaps == 0))
 
 -- The text is one JSON object on lines: its answer says whether there is a fault, and it lists as many as there are.
-abbrev pub IsJson : List Row → List ℕ → Type 0
-IsJson rows text = (document : List ℕ) × IsJsonReport (length rows) document × (text ≡ document ++ line_end)
+abbrev pub IsJson : List Row → ℕ → List ℕ → Type 0
+IsJson rows known text = (document : List ℕ) × IsJsonReport (length rows) known document × (text ≡ document ++ line_end)
 
 -- The text is one SARIF document on lines, with a result for each fault, each hazard and each gap.
 abbrev pub IsSarif : List Row → List HazardAt → List Gap → List ℕ → Type 0
 IsSarif rows hazards gaps text = (document : List ℕ) × IsSarifReport ((length rows + length hazards) + length gaps) document × (text ≡ document ++ line_end)
 
--- The text of a report, with a line for each hazard and each gap; or it as JSON or SARIF.
-abbrev pub IsReportIn : Output → List RoutineTree → List Row → List HazardAt → List Gap → List ℕ → Type 0
-IsReportIn Text trees rows hazards gaps text = text ≡ report_text trees rows ++ warning_lines hazards gaps
-IsReportIn Json trees rows hazards gaps text = IsJson rows text
-IsReportIn Sarif trees rows hazards gaps text = IsSarif rows hazards gaps text
+-- the text of a report with the place of each fault before its line
+abbrev pub IsPlacedText : List RoutineTree → List Row → ℕ → List ℕ → List HazardAt → List Gap → List ℕ → Type 0
+IsPlacedText trees rows known gone hazards gaps text = (faults : List ℕ) × ArePlaced trees rows [] faults × (text ≡ ((faults ++ answer_line known rows) ++ gone) ++ warning_lines hazards gaps)
+
+-- The text of a report, with a line for each hazard and each gap, and with places or without; or it as JSON or SARIF.
+abbrev pub IsReportIn : Output → List RoutineTree → List Row → ℕ → List ℕ → List HazardAt → List Gap → List ℕ → Type 0
+IsReportIn Text trees rows known gone hazards gaps text = text ≡ answered_text trees rows known gone ++ warning_lines hazards gaps
+IsReportIn Json trees rows known gone hazards gaps text = IsJson rows known text
+IsReportIn Sarif trees rows known gone hazards gaps text = IsSarif rows hazards gaps text
+IsReportIn Lines trees rows known gone hazards gaps text = IsPlacedText trees rows known gone hazards gaps text
 
 -- The text of a report whose faults are explained. What it says of each fault is not said; then come the answer, perhaps notes, which
--- may list faults behind these and say how much was checked, and a line for each hazard and each gap.
-abbrev pub IsExplained : List Row → List HazardAt → List Gap → List ℕ → Type 0
-IsExplained rows hazards gaps text = (faults note : List ℕ) × (text ≡ ((faults ++ last_line rows) ++ note) ++ warning_lines hazards gaps)
+-- may list known faults that do not occur, and faults behind these, and say how much was checked, and a line for each hazard and each
+-- gap.
+abbrev pub IsExplained : List Row → ℕ → List HazardAt → List Gap → List ℕ → Type 0
+IsExplained rows known hazards gaps text = (faults note : List ℕ) × (text ≡ ((faults ++ answer_line known rows) ++ note) ++ warning_lines hazards gaps)
 
--- The text where faults are explained or not.
-abbrev pub IsReportAs : Bool → Output → List RoutineTree → List Row → List HazardAt → List Gap → List ℕ → Type 0
-IsReportAs true output trees rows hazards gaps text = IsExplained rows hazards gaps text
-IsReportAs false output trees rows hazards gaps text = IsReportIn output trees rows hazards gaps text
+-- The text where faults are explained or not, and that of which only the answer is printed.
+abbrev pub IsReportWith : Bool → Bool → Output → List RoutineTree → List Row → ℕ → List ℕ → List HazardAt → List Gap → List ℕ → Type 0
+IsReportWith true explained output trees rows known gone hazards gaps text = text ≡ answer_line known rows
+IsReportWith false true output trees rows known gone hazards gaps text = IsExplained rows known hazards gaps text
+IsReportWith false false output trees rows known gone hazards gaps text = IsReportIn output trees rows known gone hazards gaps text
 
--- A report as it is printed in a style, and whether it passes.
-pub record IsRendered (style : ReportStyle) (trees : List RoutineTree) (rows : List Row) (text : List ℕ) (passed : Bool) : Type 0 where
+abbrev pub IsReportAs : ReportStyle → List RoutineTree → List Row → ℕ → List ℕ → List HazardAt → List Gap → List ℕ → Type 0
+IsReportAs style trees rows known gone hazards gaps text = IsReportWith style.is_quiet style.is_explained style.output trees rows known gone hazards gaps text
+
+-- A report as it is printed in a style, beside known faults if it is compared with these, and whether it passes: it does if each of its
+-- faults is known.
+pub record IsRendered (style : ReportStyle) (comparison : Option (Bor Comparison)) (trees : List RoutineTree) (rows : List Row) (text : List ℕ) (passed : Bool) : Type 0 where
   pub hazards : List HazardAt
   pub gaps : List Gap
+  pub gone : List ℕ
   pub reported : AreReported style.is_strict hazards
   pub found : AreGaps style.is_strict gaps
-  pub printed : IsReportAs style.is_explained style.output trees rows hazards gaps text
-  pub ended : passed ≡ passes rows hazards gaps
+  pub below : AreGone comparison gone
+  pub printed : IsReportAs style trees (printed_rows comparison rows) (known_in comparison) gone hazards gaps text
+  pub ended : passed ≡ passes (printed_rows comparison rows) hazards gaps
 
 -- what is printed of a refusal beside the line on the error stream: nothing if text is asked for
 abbrev pub IsNoticed : Output → Option (List ℕ) → Type 0
 IsNoticed Text notice = notice ≡ None
+IsNoticed Lines notice = notice ≡ None
 IsNoticed Json notice = Unit {0}
 IsNoticed Sarif notice = Unit {0}

@@ -1,13 +1,13 @@
 // How much a report is about, as notes below its answer.
 
-use mlk_coverage::{Coverage, RuleId, RuleKind, RuleUse};
+use mlk_coverage::{Coverage, RuleId, RuleKind, RuleUse, UnreachedLabel};
 use mlk_explain_rules::RuleFile;
 use mlk_report_text::Piece::{Bytes, Number, Words};
 use mlk_report_text::push_all;
 use std::alloc::{AllocError, Global};
 
-// How many labels that are not reached are named at most.
-const MOST_LABELS: usize = 20;
+// How many labels are listed at most behind the first.
+const MOST_OTHERS: usize = 19;
 
 // `note: 2 entries reach 14 of 16 labels, 120 of 131 lines`
 fn push_shares(text: &mut Vec<u8>, coverage: &Coverage<'_>) -> Result<(), AllocError> {
@@ -71,27 +71,33 @@ fn push_unclaimed(
     )
 }
 
-// `note: not reached: A^R, B^R and 3 more`
+fn push_label<'a>(
+    text: &mut Vec<u8>,
+    before: &'a str,
+    label: &UnreachedLabel<'a>,
+) -> Result<(), AllocError> {
+    push_all(
+        text,
+        &[
+            Words(before),
+            Bytes(label.label),
+            Words("^"),
+            Bytes(label.routine),
+        ],
+    )
+}
+
+// `note: touch or claim, but are not reached: A^R, B^R and 3 more`
 fn push_unreached(text: &mut Vec<u8>, coverage: &Coverage<'_>) -> Result<(), AllocError> {
-    let unreached = coverage.unreached.as_slice();
-    if unreached.is_empty() {
+    let Some((first, others)) = coverage.unreached.as_slice().split_first() else {
         return Ok(());
+    };
+    push_label(text, "note: touch or claim, but are not reached: ", first)?;
+    for label in others.iter().take(MOST_OTHERS) {
+        push_label(text, ", ", label)?;
     }
-    let mut before = "note: touch or claim, but are not reached: ";
-    for label in unreached.iter().take(MOST_LABELS) {
-        push_all(
-            text,
-            &[
-                Words(before),
-                Bytes(label.label),
-                Words("^"),
-                Bytes(label.routine),
-            ],
-        )?;
-        before = ", ";
-    }
-    if unreached.len() > MOST_LABELS {
-        let more = unreached.len().saturating_sub(MOST_LABELS);
+    if others.len() > MOST_OTHERS {
+        let more = others.len().saturating_sub(MOST_OTHERS);
         push_all(text, &[Words(" and "), Number(more), Words(" more")])?;
     }
     push_all(text, &[Words("\n")])

@@ -1,10 +1,13 @@
 //! Reports, refusals and surveys in the form that the command line asks for: as text, as JSON, or as SARIF; and pages of codes.
 #![tactic(auto)]
 
+mod answer;
 mod coverage;
 mod notice;
 mod page;
 mod report;
+mod row;
+mod shown;
 mod survey;
 mod warning;
 

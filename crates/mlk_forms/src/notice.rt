@@ -18,7 +18,7 @@ pub fn render_notice(
     ensures { IfOk result (IsNoticed output) }
 {
     match output {
-        Output::Text => Ok(None),
+        Output::Text | Output::Lines => Ok(None),
         Output::Json => Ok(Some(with_end(notice_json(alloc, notice)?)?)),
         Output::Sarif => Ok(Some(with_end(notice_sarif(alloc, notice)?)?)),
     }

@@ -1,27 +1,34 @@
 // Reports in the form that is asked for.
 
-ghost use Rattle.std.specs.Prelude.{◌≡◌, ◌++◌, IfOk, OnOk, map};
+ghost use Rattle.std.specs.Prelude.{◌≡◌, ◌++◌, IfOk, map};
 ghost use Rattle.mlk_syntax.specs.Views.{routine_of};
-ghost use Rattle.mlk_pool.specs.Texts.{last_line, report_text};
-ghost use Rattle.mlk_forms.specs.Rendering.{IsExplained, IsJson, IsSarif, IsReportIn, IsReportAs, IsRendered, warning_lines, passes};
+ghost use Rattle.mlk_output.specs.Documents.{known_in};
+ghost use Rattle.mlk_forms.specs.Rendering.{IsExplained, IsJson, IsPlacedText, IsSarif, IsReportIn, IsReportAs, IsRendered, answer_line, answered_text, warning_lines, passes};
 
+use crate::answer::{gone_lines, push_verdict};
 use crate::coverage::push_coverage;
 use crate::notice::with_end;
+use crate::row::{push_placed_rows, push_rows};
+use crate::shown::{Shown, printed_rows};
 use crate::warning::{Warnings, push_warnings, reported_gaps, reported_hazards};
+use mlk_baseline::Comparison;
 use mlk_cli::{Output, ReportStyle};
 use mlk_coverage::Coverage;
-use mlk_explain::{FaultsBehind, Grounds, Story, explained_rows, notes_below, stories_of};
-use mlk_output::{Findings, ReportSources, report_json, report_sarif};
-use mlk_pool::{ReportText, push_answer, report_text};
-use mlk_syntax::Routine;
-use mlk_walk::Report;
+use mlk_explain::{
+    FaultsBehind, Grounds, Story, explained_rows, explained_rows_at, notes_below, stories_at,
+    stories_of,
+};
+use mlk_output::{Findings, ReportSources, known_in, report_json, report_sarif};
+use mlk_pool::ReportText;
+use mlk_program::Program;
+use mlk_walk::{Report, Row};
 use std::alloc::{AllocError, Global};
 
 /// A report as it is printed.
 #[derive(Drop)]
 pub struct PrintedReport {
     pub text: ReportText,
-    /// whether there is no fault, and no hazard and no gap if these are reported
+    /// whether there is no fault but known ones, and no hazard and no gap if these are reported
     pub passes: bool,
 }
 
@@ -33,43 +40,84 @@ pub struct Explanations<'a> {
     pub behind: &'a FaultsBehind,
     /// how much the report is about, if that is reported
     pub coverage: Option<&'a Coverage<'a>>,
+    /// which faults are known, if they are compared with known ones
+    pub comparison: Option<&'a Comparison<'a>>,
 }
 
+// The text of a report, with a line for each hazard and gap below it.
 fn plain_text(
     alloc: Global,
-    routines: &[Routine],
-    report: &Report,
+    program: &Program<'_>,
+    shown: &Shown<'_>,
     warnings: &Warnings<'_>,
 ) -> Result<ReportText, AllocError>
-    ensures { IfOk result (λ text. text ≡ report_text (map routine_of routines.now) report.now ++ warning_lines warnings.now.hazards.now warnings.now.gaps.now) }
+    ensures { IfOk result (λ text. text ≡ answered_text (map routine_of program.now) shown.now.rows.now shown.now.known shown.now.gone.now ++ warning_lines warnings.now.hazards.now warnings.now.gaps.now) }
 {
-    let mut text = report_text(alloc, routines, report)?;
+    let mut text = ReportText::new(alloc);
+    push_rows(alloc, &mut text, program, shown.rows)?;
+    push_verdict(&mut text, shown.rows, shown.known)?;
+    text.push(shown.gone)?;
     push_warnings(alloc, &mut text, warnings)?;
     Ok(text)
 }
 
-// The faults with what explains them; nothing is looked up if there is none.
-fn explained_faults(
+// The same text, with its place before each fault.
+fn placed_text(
     alloc: Global,
-    grounds: &Grounds<'_>,
-    report: &Report,
-) -> Result<Vec<u8>, AllocError> {
-    if report.rows().is_empty() {
-        return Ok(Vec::new(alloc));
-    }
-    explained_rows(alloc, grounds, report)
+    program: &Program<'_>,
+    inputs: &ReportSources<'_>,
+    shown: &Shown<'_>,
+    warnings: &Warnings<'_>,
+) -> Result<ReportText, AllocError>
+    ensures { IfOk result (IsPlacedText (map routine_of program.now) shown.now.rows.now shown.now.known shown.now.gone.now warnings.now.hazards.now warnings.now.gaps.now) }
+{
+    let mut text = ReportText::new(alloc);
+    push_placed_rows(alloc, &mut text, program, inputs, shown.rows)?;
+    push_verdict(&mut text, shown.rows, shown.known)?;
+    text.push(shown.gone)?;
+    push_warnings(alloc, &mut text, warnings)?;
+    Ok(text)
 }
 
-// What is known of each fault.
-fn stories_in(
+// The answer alone.
+fn quiet_text(alloc: Global, shown: &Shown<'_>) -> Result<ReportText, AllocError>
+    ensures { IfOk result (λ text. text ≡ answer_line shown.now.known shown.now.rows.now) }
+{
+    let mut text = ReportText::new(alloc);
+    push_verdict(&mut text, shown.rows, shown.known)?;
+    Ok(text)
+}
+
+// The printed faults with what explains them; nothing is looked up if there is none.
+fn explained_faults(
     alloc: Global,
-    grounds: &Grounds<'_>,
-    report: &Report,
-) -> Result<Vec<Option<Story>>, AllocError> {
-    if report.rows().is_empty() {
+    explanations: &Explanations<'_>,
+    shown: &Shown<'_>,
+) -> Result<Vec<u8>, AllocError> {
+    if shown.rows.is_empty() {
         return Ok(Vec::new(alloc));
     }
-    stories_of(alloc, grounds, report)
+    let (grounds, report) = (explanations.grounds, shown.report);
+    match explanations.comparison {
+        Some(comparison) => explained_rows_at(alloc, grounds, report, comparison.news.as_slice()),
+        None => explained_rows(alloc, grounds, report),
+    }
+}
+
+// What is known of each printed fault.
+fn stories_in(
+    alloc: Global,
+    explanations: &Explanations<'_>,
+    shown: &Shown<'_>,
+) -> Result<Vec<Option<Story>>, AllocError> {
+    if shown.rows.is_empty() {
+        return Ok(Vec::new(alloc));
+    }
+    let (grounds, report) = (explanations.grounds, shown.report);
+    match explanations.comparison {
+        Some(comparison) => stories_at(alloc, grounds, report, comparison.news.as_slice()),
+        None => stories_of(alloc, grounds, report),
+    }
 }
 
 // The text of explained faults, with the answer, `notes` and a line for each hazard and gap below it.
@@ -77,26 +125,28 @@ fn text_below(
     alloc: Global,
     faults: Vec<u8>,
     notes: &[u8],
-    report: &Report,
+    shown: &Shown<'_>,
     warnings: &Warnings<'_>,
 ) -> Result<ReportText, AllocError>
-    ensures { IfOk result (λ text. text ≡ ((faults.items ++ last_line report.now) ++ notes.now) ++ warning_lines warnings.now.hazards.now warnings.now.gaps.now) }
+    ensures { IfOk result (λ text. text ≡ ((faults.items ++ answer_line shown.now.known shown.now.rows.now) ++ notes.now) ++ warning_lines warnings.now.hazards.now warnings.now.gaps.now) }
 {
     let mut text = ReportText::of(faults);
-    push_answer(&mut text, report.rows())?;
+    push_verdict(&mut text, shown.rows, shown.known)?;
     text.push(notes)?;
     push_warnings(alloc, &mut text, warnings)?;
     Ok(text)
 }
 
-// The notes below the answer: what is behind the faults, and how much the report is about.
+// The notes below the answer: known faults that do not occur, what is behind the faults, and how much the report is about.
 fn notes_of(
     alloc: Global,
     explanations: &Explanations<'_>,
-    report: &Report,
+    shown: &Shown<'_>,
 ) -> Result<Vec<u8>, AllocError> {
     let grounds = explanations.grounds;
-    let mut notes = notes_below(alloc, grounds, report, explanations.behind)?;
+    let mut notes = Vec::from_slice(alloc, shown.gone)?;
+    let behind = notes_below(alloc, grounds, shown.report, explanations.behind)?;
+    notes.extend_from_slice(behind.as_slice())?;
     if let Some(coverage) = explanations.coverage {
         push_coverage(alloc, &mut notes, coverage, grounds.rule_text)?;
     }
@@ -107,37 +157,39 @@ fn notes_of(
 fn explained_text(
     alloc: Global,
     explanations: &Explanations<'_>,
-    report: &Report,
+    shown: &Shown<'_>,
     warnings: &Warnings<'_>,
 ) -> Result<ReportText, AllocError>
-    ensures { IfOk result (IsExplained report.now warnings.now.hazards.now warnings.now.gaps.now) }
+    ensures { IfOk result (IsExplained shown.now.rows.now shown.now.known warnings.now.hazards.now warnings.now.gaps.now) }
 {
-    let faults = explained_faults(alloc, explanations.grounds, report)?;
-    let notes = notes_of(alloc, explanations, report)?;
+    let faults = explained_faults(alloc, explanations, shown)?;
+    let notes = notes_of(alloc, explanations, shown)?;
     let below = notes.as_slice();
-    let text = text_below(alloc, faults, below, report, warnings)?;
+    let text = text_below(alloc, faults, below, shown, warnings)?;
     Ok(text)
 }
 
-// The faults, each with what is known of it, those behind them, hazards and gaps, and how much the report is about.
+// The printed faults, each with what is known of it, those behind them, hazards and gaps, and how much the report is about.
 fn findings_of<'a>(
     alloc: Global,
     explanations: &Explanations<'a>,
-    report: &'a Report,
+    shown: &Shown<'a>,
     warnings: &Warnings<'a>,
-    is_strict: bool,
+    style: ReportStyle,
 ) -> Result<Findings<'a>, AllocError>
-    ensures { IfOk result (λ findings. (findings.report.now ≡ report.now) × (findings.hazards.now ≡ warnings.now.hazards.now) × (findings.gaps.now ≡ warnings.now.gaps.now)) }
+    ensures { IfOk result (λ findings. (findings.rows.now ≡ shown.now.rows.now) × (findings.comparison ≡ explanations.now.comparison) × (findings.hazards.now ≡ warnings.now.hazards.now) × (findings.gaps.now ≡ warnings.now.gaps.now)) }
 {
-    let stories = stories_in(alloc, explanations.grounds, report)?;
+    let stories = stories_in(alloc, explanations, shown)?;
     Ok(Findings {
-        report,
+        rows: shown.rows,
+        comparison: explanations.comparison,
         stories,
         behind: explanations.behind,
         coverage: explanations.coverage,
         hazards: warnings.hazards,
         gaps: warnings.gaps,
-        is_strict,
+        is_strict: style.is_strict,
+        exits_zero: style.exits_zero,
     })
 }
 
@@ -146,7 +198,7 @@ fn json_text(
     inputs: &ReportSources<'_>,
     findings: &Findings<'_>,
 ) -> Result<ReportText, AllocError>
-    ensures { IfOk result (IsJson findings.now.report.now) }
+    ensures { IfOk result (IsJson findings.now.rows.now (known_in findings.now.comparison)) }
 {
     let text = report_json(alloc, inputs, findings)?;
     with_end(text)
@@ -157,7 +209,7 @@ fn sarif_text(
     inputs: &ReportSources<'_>,
     findings: &Findings<'_>,
 ) -> Result<ReportText, AllocError>
-    ensures { IfOk result (IsSarif findings.now.report.now findings.now.hazards.now findings.now.gaps.now) }
+    ensures { IfOk result (IsSarif findings.now.rows.now findings.now.hazards.now findings.now.gaps.now) }
 {
     let text = report_sarif(alloc, inputs, findings)?;
     with_end(text)
@@ -167,21 +219,24 @@ fn sarif_text(
 fn text_in(
     alloc: Global,
     inputs: &ReportSources<'_>,
-    report: &Report,
+    shown: &Shown<'_>,
     style: ReportStyle,
     warnings: &Warnings<'_>,
     explanations: &Explanations<'_>,
 ) -> Result<ReportText, AllocError>
-    ensures { IfOk result (IsReportIn style.output (map routine_of inputs.now.routines.now) report.now warnings.now.hazards.now warnings.now.gaps.now) }
+    requires { shown.now.known ≡ known_in explanations.now.comparison }
+    ensures { IfOk result (IsReportIn style.output (map routine_of explanations.now.grounds.now.program.now) shown.now.rows.now shown.now.known shown.now.gone.now warnings.now.hazards.now warnings.now.gaps.now) }
 {
+    let program = explanations.grounds.program;
     match style.output {
-        Output::Text => plain_text(alloc, inputs.routines, report, warnings),
+        Output::Text => plain_text(alloc, program, shown, warnings),
+        Output::Lines => placed_text(alloc, program, inputs, shown, warnings),
         Output::Json => {
-            let findings = findings_of(alloc, explanations, report, warnings, style.is_strict)?;
+            let findings = findings_of(alloc, explanations, shown, warnings, style)?;
             json_text(alloc, inputs, &findings)
         }
         Output::Sarif => {
-            let findings = findings_of(alloc, explanations, report, warnings, style.is_strict)?;
+            let findings = findings_of(alloc, explanations, shown, warnings, style)?;
             sarif_text(alloc, inputs, &findings)
         }
     }
@@ -191,26 +246,31 @@ fn text_in(
 fn styled_text(
     alloc: Global,
     inputs: &ReportSources<'_>,
-    report: &Report,
+    shown: &Shown<'_>,
     style: ReportStyle,
     warnings: &Warnings<'_>,
     explanations: &Explanations<'_>,
 ) -> Result<ReportText, AllocError>
-    ensures { IfOk result (IsReportAs style.is_explained style.output (map routine_of inputs.now.routines.now) report.now warnings.now.hazards.now warnings.now.gaps.now) }
+    requires { shown.now.known ≡ known_in explanations.now.comparison }
+    ensures { IfOk result (IsReportAs style (map routine_of explanations.now.grounds.now.program.now) shown.now.rows.now shown.now.known shown.now.gone.now warnings.now.hazards.now warnings.now.gaps.now) }
 {
-    if style.is_explained {
-        return explained_text(alloc, explanations, report, warnings);
+    if style.is_quiet {
+        return quiet_text(alloc, shown);
     }
-    text_in(alloc, inputs, report, style, warnings, explanations)
+    if style.is_explained {
+        return explained_text(alloc, explanations, shown, warnings);
+    }
+    text_in(alloc, inputs, shown, style, warnings, explanations)
 }
 
-fn passes(report: &Report, warnings: &Warnings<'_>) -> bool
-    ensures { result ≡ passes report.now warnings.now.hazards.now warnings.now.gaps.now }
+fn passes(rows: &[Row], warnings: &Warnings<'_>) -> bool
+    ensures { result ≡ passes rows.now warnings.now.hazards.now warnings.now.gaps.now }
 {
-    report.rows().is_empty() && warnings.hazards.is_empty() && warnings.gaps.is_empty()
+    rows.is_empty() && warnings.hazards.is_empty() && warnings.gaps.is_empty()
 }
 
-/// Writes `report` in the `style` that is asked for, and says whether it passes. `explanations` explain it, if that is asked for.
+/// Writes `report` in the `style` that is asked for, and says whether it passes. `explanations` explain it, if that is asked for. If
+/// its faults are compared with known ones, those that are not known are its faults, and it passes if there are none.
 pub fn render_report(
     alloc: Global,
     inputs: &ReportSources<'_>,
@@ -218,7 +278,7 @@ pub fn render_report(
     style: ReportStyle,
     explanations: &Explanations<'_>,
 ) -> Result<PrintedReport, AllocError>
-    ensures { IfOk result (λ printed. IsRendered style (map routine_of inputs.now.routines.now) report.now printed.text printed.passes) }
+    ensures { IfOk result (λ printed. IsRendered style explanations.now.comparison (map routine_of explanations.now.grounds.now.program.now) report.now printed.text printed.passes) }
 {
     let hazards = reported_hazards(alloc, inputs.routines, style.is_strict)?;
     let gaps = reported_gaps(alloc, explanations.coverage, style.is_strict)?;
@@ -228,7 +288,17 @@ pub fn render_report(
         hazards: reported,
         gaps: found,
     };
-    let text = styled_text(alloc, inputs, report, style, &warnings, explanations)?;
-    let passes = passes(report, &warnings);
+    let rows = printed_rows(alloc, report, explanations.comparison)?;
+    let printed = rows.as_slice();
+    let gone = gone_lines(alloc, explanations.comparison)?;
+    let below = gone.as_slice();
+    let shown = Shown {
+        report,
+        rows: printed,
+        known: known_in(explanations.comparison),
+        gone: below,
+    };
+    let text = styled_text(alloc, inputs, &shown, style, &warnings, explanations)?;
+    let passes = passes(printed, &warnings);
     Ok(PrintedReport { text, passes })
 }

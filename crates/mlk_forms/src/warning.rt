@@ -6,7 +6,7 @@ ghost use Rattle.mlk_forms.specs.Rendering.{AreGaps, AreReported, gap_line, gap_
 use mlk_coverage::{Coverage, Gap, GapPlace, gaps_of};
 use mlk_hazards::{HazardAt, hazards_of};
 use mlk_pool::ReportText;
-use mlk_report_text::Piece::{At, Bytes, Number, Words};
+use mlk_report_text::Piece::{At, Bytes, Made, Number, Words};
 use mlk_report_text::text_of;
 use mlk_syntax::Routine;
 use mlk_text::Column;
@@ -108,14 +108,13 @@ fn push_gap(alloc: Global, text: &mut ReportText, gap: &Gap<'_>) -> Result<(), A
     ensures { OnOk result (text.new ≡ text.old ++ gap_line gap.now) }
 {
     let place = place_text(alloc, &gap.place)?;
-    let word = gap.kind.word();
     let line = text_of(
         alloc,
         &[
             Words("hazard "),
-            Bytes(place.as_slice()),
+            Made(place),
             Words(" "),
-            Words(word),
+            Words(gap.kind.word()),
             Words("\n"),
         ],
     )?;

@@ -26,23 +26,31 @@ pub(crate) fn put_text(
     put(members, alloc, name, Value::String(text))
 }
 
-// `yes` if there is no fault, else `no`.
-fn answer_word(faults: usize) -> &'static str
-    ensures { result.now ≡ answer_word faults }
+// `no` if there is a fault, `known` if there is none but some are known, else `yes`.
+fn answer_word(faults: usize, known: usize) -> &'static str
+    ensures { result.now ≡ answer_word faults known }
 {
-    if faults == 0 { "yes" } else { "no" }
+    if faults != 0 {
+        "no"
+    } else if known != 0 {
+        "known"
+    } else {
+        "yes"
+    }
 }
 
-/// The JSON document of a report with these faults, and with `others` as further members.
+/// The JSON document of a report with these faults, besides which this number is known, and with `others` as further members.
 pub(crate) fn json_document(
     alloc: Global,
     faults: Vec<Value>,
+    known: usize,
     others: Members,
 ) -> Result<String, AllocError>
-    ensures { IfOk result (λ text. IsJsonReport (length faults.items) (string_bytes text)) }
+    ensures { IfOk result (λ text. IsJsonReport (length faults.items) known (string_bytes text)) }
 {
     let mut members = others;
-    put_text(alloc, &mut members, "answer", answer_word(faults.len()))?;
+    let answer = answer_word(faults.len(), known);
+    put_text(alloc, &mut members, "answer", answer)?;
     put(&mut members, alloc, "faults", Value::Array(faults))?;
     Value::Object(members).to_string_pretty(alloc)
 }

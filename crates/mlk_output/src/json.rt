@@ -1,8 +1,9 @@
 // Reports and refusals as JSON.
 
 ghost use Rattle.std.specs.Prelude.{◌≡◌, IfOk, length, string_bytes};
-ghost use Rattle.mlk_output.specs.Documents.{IsJsonReport};
+ghost use Rattle.mlk_output.specs.Documents.{IsJsonReport, known_in};
 
+use crate::comparison::{add_comparison, known_in};
 use crate::coverage::coverage_value;
 use crate::document::{Members, json_document};
 use crate::gap::gap_value;
@@ -46,9 +47,9 @@ fn row_values(
     inputs: &ReportSources<'_>,
     findings: &Findings<'_>,
 ) -> Result<Vec<Value>, AllocError>
-    ensures { IfOk result (λ values. length values.items ≡ length findings.now.report.now) }
+    ensures { IfOk result (λ values. length values.items ≡ length findings.now.rows.now) }
 {
-    let rows = findings.report.rows();
+    let rows = findings.rows;
     let mut values = Vec::with_capacity(alloc, rows.len())?;
     for row in rows {
         let story = findings.story(values.len());
@@ -114,6 +115,9 @@ fn other_members(
     findings: &Findings<'_>,
 ) -> Result<Members, AllocError> {
     let mut members = Map::new(alloc);
+    if let Some(comparison) = findings.comparison {
+        add_comparison(alloc, comparison, &mut members)?;
+    }
     if !findings.behind.rows().is_empty() {
         let behind = behind_value(alloc, inputs, findings.behind)?;
         put(&mut members, alloc, "behind", behind)?;
@@ -133,19 +137,19 @@ fn other_members(
     Ok(members)
 }
 
-/// Writes `findings` as one JSON object, on lines with indents: `answer`, which is `yes` or `no`, `faults`, in their order, each
-/// with what is known of it, `behind`, if there are faults behind these, `coverage`, `hazards`, if these are reported, with the gaps, and
+/// Writes `findings` as one JSON object, on lines with indents: `answer`, which is `yes`, `known` or `no`, `faults`, in their order,
+/// each with what is known of it, `known` and `gone`, if they are those of a report that is compared with known faults, `behind`, if there are faults behind these, `coverage`, `hazards`, if these are reported, with the gaps, and
 /// `free_reads`, if rules free reads.
 pub fn report_json(
     alloc: Global,
     inputs: &ReportSources<'_>,
     findings: &Findings<'_>,
 ) -> Result<String, AllocError>
-    ensures { IfOk result (λ text. IsJsonReport (length findings.now.report.now) (string_bytes text)) }
+    ensures { IfOk result (λ text. IsJsonReport (length findings.now.rows.now) (known_in findings.now.comparison) (string_bytes text)) }
 {
     let faults = row_values(alloc, inputs, findings)?;
     let others = other_members(alloc, inputs, findings)?;
-    json_document(alloc, faults, others)
+    json_document(alloc, faults, known_in(findings.comparison), others)
 }
 
 fn place_value(alloc: Global, place: &NoticePlace<'_>) -> Result<Value, AllocError> {

@@ -1,6 +1,7 @@
 //! Reports and refusals for other programs: as one JSON object, and as SARIF 2.1.0, which build servers read.
 #![tactic(auto)]
 
+mod comparison;
 mod coverage;
 mod document;
 mod finding;
@@ -16,6 +17,7 @@ mod rule;
 mod sarif;
 mod story;
 
+pub use comparison::known_in;
 pub use json::{notice_json, report_json};
 pub use notice::{Notice, NoticePlace};
 pub use row::ReportSources;

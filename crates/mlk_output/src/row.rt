@@ -54,7 +54,7 @@ impl<'a> ReportSources<'a> {
     }
 
     /// The path of the file that an entry is in.
-    pub(crate) fn path(&self, entry: EntryId) -> &'a str {
+    pub fn path(&self, entry: EntryId) -> &'a str {
         self.path_at(entry.routine())
     }
 

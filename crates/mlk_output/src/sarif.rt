@@ -116,9 +116,9 @@ fn fault_values<'a>(
     findings: &Findings<'_>,
     lines: &mut ProgramLines<'a>,
 ) -> Result<Vec<Value>, AllocError>
-    ensures { IfOk result (λ values. length values.items ≡ length findings.now.report.now) }
+    ensures { IfOk result (λ values. length values.items ≡ length findings.now.rows.now) }
 {
-    let rows = findings.report.rows();
+    let rows = findings.rows;
     let mut counts = BTreeMap::new(alloc);
     let mut values = Vec::with_capacity(alloc, rows.len())?;
     for row in rows {
@@ -267,8 +267,8 @@ fn run_members(alloc: Global, rules: Vec<Value>, invocation: Value) -> Result<Me
 }
 
 // How a run ended that came to a report with this number of results.
-fn invocation_value(alloc: Global, results: usize) -> Result<Value, AllocError> {
-    let status = if results == 0 { 0 } else { 1 };
+fn invocation_value(alloc: Global, results: usize, exits_zero: bool) -> Result<Value, AllocError> {
+    let status = if results == 0 || exits_zero { 0 } else { 1 };
     let members = vec![in alloc;
         ("executionSuccessful", Field::Flag(true)),
         ("exitCode", Field::Number(status)),
@@ -306,7 +306,7 @@ pub fn report_sarif(
     inputs: &ReportSources<'_>,
     findings: &Findings<'_>,
 ) -> Result<String, AllocError>
-    ensures { IfOk result (λ text. IsSarifReport ((length findings.now.report.now + length findings.now.hazards.now) + length findings.now.gaps.now) (string_bytes text)) }
+    ensures { IfOk result (λ text. IsSarifReport ((length findings.now.rows.now + length findings.now.hazards.now) + length findings.now.gaps.now) (string_bytes text)) }
 {
     let mut lines = ProgramLines::new(alloc, inputs.texts);
     let mut results = fault_values(alloc, inputs, findings, &mut lines)?;
@@ -317,7 +317,7 @@ pub fn report_sarif(
     } else {
         rules_values(alloc)?
     };
-    let invocation = invocation_value(alloc, results.len())?;
+    let invocation = invocation_value(alloc, results.len(), findings.exits_zero)?;
     let mut run = run_members(alloc, rules, invocation)?;
     add_properties(alloc, inputs, findings, &mut run)?;
     sarif_document(alloc, results, run)

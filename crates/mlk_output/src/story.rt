@@ -1,12 +1,13 @@
 // What is known of a fault, beside its code and its place.
 
 use crate::row::ReportSources;
+use mlk_baseline::Comparison;
 use mlk_coverage::{Coverage, Gap};
 use mlk_explain::{FaultsBehind, OriginStory, Story, WayPoint};
 use mlk_hazards::HazardAt;
 use mlk_report_text::Piece::{Bytes, Listed, Words};
 use mlk_report_text::{Field, escape_bytes, object, text_of};
-use mlk_walk::Report;
+use mlk_walk::Row;
 use serde_json::Value;
 use std::alloc::{AllocError, Global};
 
@@ -14,7 +15,9 @@ use std::alloc::{AllocError, Global};
 /// gaps, and how much the report is about.
 #[derive(Drop)]
 pub struct Findings<'a> {
-    pub report: &'a Report,
+    pub rows: &'a [Row],
+    /// what is known besides, if faults are compared with known ones
+    pub comparison: Option<&'a Comparison<'a>>,
     pub stories: Vec<Option<Story>>,
     pub behind: &'a FaultsBehind,
     /// how much the report is about, if that is reported
@@ -25,6 +28,8 @@ pub struct Findings<'a> {
     pub gaps: &'a [Gap<'a>],
     /// whether hazards are reported, even if there is none
     pub is_strict: bool,
+    /// whether the status is 0, whatever is found
+    pub exits_zero: bool,
 }
 
 impl<'a> Findings<'a> {

@@ -74,19 +74,24 @@ fn push_stubs(
     }
 }
 
+// Which stubs the case with this heading wants, if it names these routines.
+fn wanted_by<'n>(heading: &[u8], stems: &'n [&'n str]) -> Wanted<'n> {
+    if heading.ends_with(b"\nunread") {
+        Wanted::MissingAndUnread
+    } else if stems.is_empty() {
+        Wanted::Missing
+    } else {
+        Wanted::Named(stems)
+    }
+}
+
 // Adds the stubs of a case.
 fn push_case(alloc: Global, out: &mut Vec<u8>, case: &[u8]) -> Result<(), AllocError> {
     let heading = front_of(case, ROUTINE);
     let routines = routines_of(alloc, case)?;
     let names = names_in(alloc, heading)?;
     let stems: Vec<&str> = names.iter().map(|name| name.as_str()).collect(alloc)?;
-    let wanted = if heading.ends_with(b"\nunread") {
-        Wanted::MissingAndUnread
-    } else if stems.is_empty() {
-        Wanted::Missing
-    } else {
-        Wanted::Named(stems.as_slice())
-    };
+    let wanted = wanted_by(heading, stems.as_slice());
     out.extend_from_slice(b"== ")?;
     out.extend_from_slice(front_of(heading, b"\n"))?;
     out.extend_from_slice(b"\n")?;

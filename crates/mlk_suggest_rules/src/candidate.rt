@@ -5,6 +5,7 @@ use crate::score::{Score, WHOLE, score_of};
 use indexmap::IndexMap;
 use mlk_names::Access;
 use mlk_suggest::{Evidence, TouchAt};
+use mlk_suggest_ranks::is_plain;
 use mlk_suggest_steps::{LockRoot, Program, Word};
 use mlk_text::push_sparing;
 use std::alloc::{AllocError, Global};
@@ -27,11 +28,6 @@ const CONSTANT_WRITES: usize = 3;
 pub(crate) struct Candidate {
     pub(crate) lock: LockPattern,
     pub(crate) score: Score,
-}
-
-/// Whether `text` has only printable ASCII characters, so that it can be used in a rule unchanged.
-pub(crate) fn is_plain(text: &[u8]) -> bool {
-    text.iter().all(|byte| matches!(*byte, b' '..=b'~'))
 }
 
 // Whether a lock can be part of a rule.

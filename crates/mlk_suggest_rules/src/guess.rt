@@ -2,14 +2,14 @@
 
 use crate::cover::CoverGuess;
 use crate::entry::{EntryGuess, entries_of};
-use crate::family::{FamilyGuess, FamilyName, families_of};
 use crate::global::{GlobalGuess, GlobalGuesses, Judge, Undecided};
 use crate::known::KnownRules;
-use crate::order::{Against, Nesting, nestings_of};
-use crate::rank::order_of;
 use crate::suspect::Suspect;
 use indexmap::IndexMap;
 use mlk_suggest::{Evidence, ReleaseAt};
+use mlk_suggest_ranks::{
+    Against, FamilyGuess, FamilyName, Nesting, families_of, nestings_of, order_of,
+};
 use mlk_suggest_steps::{Program, UnitId, Word};
 use mlk_text::limit::GREATEST_RANK;
 use mlk_text::push_sparing;

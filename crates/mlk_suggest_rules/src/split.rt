@@ -1,9 +1,10 @@
 // The parts of a global, by the constants at one of its subscripts.
 
-use crate::candidate::{candidates_of, is_plain};
+use crate::candidate::candidates_of;
 use crate::score::{WHOLE, count_writes};
 use indexmap::IndexMap;
 use mlk_suggest::Evidence;
+use mlk_suggest_ranks::is_plain;
 use mlk_suggest_steps::{Program, Symbol, Word};
 use mlk_text::push_sparing;
 use std::alloc::{AllocError, Global};

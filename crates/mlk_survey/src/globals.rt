@@ -83,7 +83,7 @@ pub(crate) fn globals_in<'a>(
     mentions: &[MentionAt<'a>],
 ) -> Result<Vec<GlobalUse<'a>>, AllocError> {
     let mut globals = Globals::new(alloc);
-    for at in mentions {
+    for at in mentions.iter().copied() {
         if let Mention::Touch(touch) = at.mention {
             globals.add(touch.global.as_bytes(), touch.usage)?;
         }

@@ -1,12 +1,14 @@
 //! `mlock`: checks that M routines touch shared data only under their locks.
 #![tactic(auto)]
 
+mod folder;
 mod progress;
 
+use crate::folder::{is_folder, routines_below};
 use crate::progress::Progress;
 use mlk_app::{Explaining, Files, Runner, read_whole, run, wrong_words};
 use std::alloc::Global;
-use std::fs::File;
+use std::fs::{self, File};
 use std::io::{self, IsTerminal};
 use std::process::ExitCode;
 
@@ -19,6 +21,17 @@ struct Disk<'a> {
 impl Files for Disk<'_> {
     fn read(&self, alloc: Global, path: &str) -> io::Result<Vec<u8>> {
         read_whole(alloc, File::open(self.rt, path)?)
+    }
+
+    fn routines_below(&self, _alloc: Global, path: &str) -> io::Result<Option<Vec<String>>> {
+        if !is_folder(self.rt, path) {
+            return Ok(None);
+        }
+        Ok(Some(routines_below(self.rt, path)?))
+    }
+
+    fn write(&self, path: &str, text: &[u8]) -> io::Result<()> {
+        fs::write(self.rt, path, text)
     }
 }
 

@@ -1,25 +1,62 @@
 //! Runs command lines of `mlock` over files given beside them in one text, and prints what each answers.
 //!
 //! The text comes on standard input, as `mlk_case_text` reads it. For each command line its words are printed and what it shows,
-//! then what it prints, then what it writes to the error stream, then `= ` and its status.
+//! then what it prints, then what it writes to the error stream, then the files that it writes, each after `-- ` and its path, then
+//! `= ` and its status. A path that ends with a slash is that of a folder.
 #![tactic(auto)]
 
 use mlk_app::{Explaining, Files, Runner, Unwatched, run};
 use mlk_case_text::{Case, cases_of};
-use std::alloc::Global;
+use std::alloc::{AllocError, Global};
+use std::cell::RefCell;
 use std::io::{self, Read, Write};
 use std::sync::Wait;
 use std::thread::Threads;
 
-// The files given with a command line.
+// The files given with a command line, and what is written.
 #[derive(Drop)]
 struct CaseFiles<'a> {
     case: &'a Case<'a>,
+    written: RefCell<Vec<u8>>,
+}
+
+// Adds the paths of the routines below a folder.
+fn push_routines(
+    alloc: Global,
+    case: &Case<'_>,
+    folder: &str,
+    routines: &mut Vec<String>,
+) -> Result<(), AllocError> {
+    for name in case.names(alloc)? {
+        if name.starts_with(folder.as_bytes()) && name.ends_with(b".m") {
+            routines.push(String::from_utf8_lossy(alloc, name)?)?;
+        }
+    }
+    Ok(())
 }
 
 impl Files for CaseFiles<'_> {
     fn read(&self, alloc: Global, path: &str) -> io::Result<Vec<u8>> {
         self.case.read(alloc, path)
+    }
+
+    fn routines_below(&self, alloc: Global, path: &str) -> io::Result<Option<Vec<String>>> {
+        if !path.ends_with('/') {
+            return Ok(None);
+        }
+        let mut routines = Vec::new(alloc);
+        push_routines(alloc, self.case, path, &mut routines)?;
+        routines.sort()?;
+        Ok(Some(routines))
+    }
+
+    fn write(&self, path: &str, text: &[u8]) -> io::Result<()> {
+        let mut written = self.written.try_borrow_mut()?;
+        written.extend_from_slice(b"-- ")?;
+        written.extend_from_slice(path.as_bytes())?;
+        written.extend_from_slice(b"\n")?;
+        written.extend_from_slice(text)?;
+        Ok(())
     }
 }
 
@@ -33,7 +70,10 @@ fn push_answer<R: Threads + Wait + Sync>(
     let words = case.words(alloc, "mlock")?;
     let mut errors: Vec<u8> = Vec::new(alloc);
     case.push_heading(out)?;
-    let files = CaseFiles { case };
+    let files = CaseFiles {
+        case,
+        written: RefCell::new(Vec::new(alloc)),
+    };
     let runner = Runner {
         rt,
         alloc,
@@ -48,6 +88,8 @@ fn push_answer<R: Threads + Wait + Sync>(
         &mut errors,
     );
     out.extend_from_slice(errors.as_slice())?;
+    let written = files.written.into_inner();
+    out.extend_from_slice(written.as_slice())?;
     writeln!(out, "= {status}")
 }
 

@@ -47,6 +47,14 @@ impl Files for Memory<'_> {
         }
         Err(io::Error::from(io::ErrorKind::NotFound))
     }
+
+    fn routines_below(&self, _alloc: Global, _path: &str) -> io::Result<Option<Vec<String>>> {
+        Ok(None)
+    }
+
+    fn write(&self, _path: &str, _text: &[u8]) -> io::Result<()> {
+        Err(io::Error::from(io::ErrorKind::ReadOnlyFilesystem))
+    }
 }
 
 pub(crate) fn texts(alloc: Global, words: &[&str]) -> Result<Vec<String>, AllocError> {

@@ -5,5 +5,5 @@ use Rattle.mlk_app.proofs.program.answer_conversion.Goals as goal
 
 pub returns : goal.returns
 returns g c =
-    unread-answers (g.F.Files.holds c.args.files.now) (g.F.Files.lacks c.args.files.now) c.args.certificate c.args.format c.in-Err-Unread.path c.unread_answer.result (grind rules)
+    unread-answers (g.F.Files.holds c.args.files.now) (g.F.Files.unreadable c.args.files.now) c.args.certificate c.args.format c.in-Err-Unread.path c.unread_answer.result (grind rules)
     (subst (λ (text : List ℕ). TellsUnread text c.unread_answer.result) (ap (λ (p : Bor (List ℕ)). p.now) c.in-Err-Unread.path-is) c.unread_answer.ensures)

@@ -15,5 +15,5 @@ returns-in-Ok-render_survey g c = (
 
 pub returns : goal.returns
 returns g c =
-    unsurveyed-answers (g.F.Files.holds c.args.files.now) (g.F.Files.lacks c.args.files.now) c.args.survey.now c.in-Err-Unread.path c.unread_answer.result (grind rules)
+    unsurveyed-answers (g.F.Files.holds c.args.files.now) (g.F.Files.unreadable c.args.files.now) c.args.survey.now c.in-Err-Unread.path c.unread_answer.result (grind rules)
     (subst (λ (text : List ℕ). TellsUnread text c.unread_answer.result) (ap (λ (p : Bor (List ℕ)). p.now) c.in-Err-Unread.path-is) c.unread_answer.ensures)

@@ -4,7 +4,7 @@ use Rattle.mlk_app.proofs.source.read_sources.Goals as goal
 
 pub returns-in_err-source-clause-lost : goal.returns-in_err-source-clause-lost
 returns-in_err-source-clause-lost g c =
-    let lost = loses-first (g.F.Files.holds c.args.files.now) (g.F.Files.lacks c.args.files.now) c.args.paths.now c.loop-path.path-index _ c.in_err-source.field-0.0 c.loop-path-test.true c.loop-path.invariant.held c.in_err-source.ensures.lost in
+    let lost = loses-first (g.F.Files.holds c.args.files.now) (g.F.Files.unreadable c.args.files.now) c.args.paths.now c.loop-path.path-index _ c.in_err-source.field-0.0 c.loop-path-test.true c.loop-path.invariant.held c.in_err-source.ensures.lost in
     grind rules
 
 pub loop-path-preserved : goal.loop-path-preserved

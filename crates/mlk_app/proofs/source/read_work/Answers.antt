@@ -4,10 +4,10 @@ use Rattle.mlk_app.proofs.source.read_work.Goals as goal
 
 pub returns-in_err-read_file-in-Check-clause-lost : goal.returns-in_err-read_file-in-Check-clause-lost
 returns-in_err-read_file-in-Check-clause-lost g c =
-    let lost = loses-front (g.F.Files.holds c.args.files.now) (g.F.Files.lacks c.args.files.now) c.in-Check.certificate.now [] c.in_err-read_file-in-Check.field-0.0 c.in_err-read_file-in-Check.ensures.lost in
+    let lost = loses-front (g.F.Files.holds c.args.files.now) (g.F.Files.unreadable c.args.files.now) c.in-Check.certificate.now [] c.in_err-read_file-in-Check.field-0.0 c.in_err-read_file-in-Check.ensures.lost in
     grind rules
 
 pub returns-in_err-read_file-in-Replay-clause-lost : goal.returns-in_err-read_file-in-Replay-clause-lost
 returns-in_err-read_file-in-Replay-clause-lost g c =
-    let lost = loses-front (g.F.Files.holds c.args.files.now) (g.F.Files.lacks c.args.files.now) c.in-Replay.path.now [] c.in_err-read_file-in-Replay.field-0.0 c.in_err-read_file-in-Replay.ensures.lost in
+    let lost = loses-front (g.F.Files.holds c.args.files.now) (g.F.Files.unreadable c.args.files.now) c.in-Replay.path.now [] c.in_err-read_file-in-Replay.field-0.0 c.in_err-read_file-in-Replay.ensures.lost in
     grind rules

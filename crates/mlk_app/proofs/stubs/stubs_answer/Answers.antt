@@ -3,8 +3,8 @@ use Rattle.mlk_stubs.specs.StubTexts.{AreStubs}
 use Rattle.mlk_app.proofs.Stubbing.{fault-printed}
 use Rattle.mlk_app.proofs.stubs.stubs_answer.Goals as goal
 
-pub returns-in-Ok : goal.returns-in-Ok
-returns-in-Ok c = (subst AreStubs (sym (c.of.ensures ∙ c.into_bytes.ensures)) c.in-Ok.ensures, refl)
+pub returns-in-Ok-stubs_for : goal.returns-in-Ok-stubs_for
+returns-in-Ok-stubs_for c = (subst AreStubs (sym (c.of.ensures ∙ c.into_bytes.ensures)) c.in-Ok-stubs_for.ensures, refl)
 
-pub returns-in-Err-Refused : goal.returns-in-Err-Refused
-returns-in-Err-Refused c = fault-printed c.in-Err-Refused.fault c.refused_stub.result c.refused_stub.ensures
+pub returns : goal.returns
+returns c = fault-printed c.in-Err-Refused.fault c.refused_stub.result c.refused_stub.ensures

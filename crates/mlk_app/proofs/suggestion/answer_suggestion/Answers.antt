@@ -1,15 +1,15 @@
 use Rattle.std.proofs.Common.{subst, ap}
-use Rattle.mlk_app.specs.Files.{beside_path}
+use Rattle.mlk_app.specs.Files.{given_path}
 use Rattle.mlk_app.specs.Ran.{SuggestsFor}
 use Rattle.mlk_app.proofs.Suggesting.{suggestion-answers}
 use Rattle.mlk_app.proofs.suggestion.answer_suggestion.Goals as goal
 
 pub suggest_beside-requires : goal.suggest_beside-requires
-suggest_beside-requires g c = ap beside_path c.in-Some.is
+suggest_beside-requires g c = ap given_path c.in-Some.is
 
 pub returns-in-None : goal.returns-in-None
 returns-in-None g c =
     let holds = g.F.Files.holds c.args.files.now in
-    let lacks = g.F.Files.lacks c.args.files.now in
-    let answered = subst (λ paths. SuggestsFor holds lacks paths c.suggest_for.result) c.as_slice.ensures.value c.suggest_for.ensures in
-    suggestion-answers holds lacks c.args.suggestion.now c.suggest_for.result (ap beside_path c.in-None.is) answered
+    let unreadable = g.F.Files.unreadable c.args.files.now in
+    let answered = subst (λ paths. SuggestsFor holds unreadable paths c.suggest_for.result) c.as_slice.ensures.value c.suggest_for.ensures in
+    suggestion-answers holds unreadable c.args.suggestion.now c.suggest_for.result (ap given_path c.in-None.is) answered

@@ -9,17 +9,17 @@ use Rattle.mlk_app.proofs.suggestion.suggest_beside.Goals as goal
 pub returns-in-Ok-read_rules : goal.returns-in-Ok-read_rules
 returns-in-Ok-read_rules g c =
     let holds = g.F.Files.holds c.args.files.now in
-    let lacks = g.F.Files.lacks c.args.files.now in
-    let answered = subst (λ paths. SuggestsFor holds lacks paths c.suggest_for.result) c.as_slice-routines.ensures.value c.suggest_for.ensures in
-    beside-answers holds lacks c.args.suggestion.now c.args.path.now c.in-Ok.text.items c.suggest_for.result c.requires c.in-Ok.ensures.ok answered
+    let unreadable = g.F.Files.unreadable c.args.files.now in
+    let answered = subst (λ paths. SuggestsFor holds unreadable paths c.suggest_for.result) c.as_slice-routines.ensures.value c.suggest_for.ensures in
+    beside-answers holds unreadable c.args.suggestion.now c.args.path.now c.in-Ok.text.items c.suggest_for.result c.requires c.in-Ok.ensures.ok answered
 
 pub returns-in-Ok : goal.returns-in-Ok
 returns-in-Ok g c =
     let refused = subst (λ (text : List ℕ). RefusesRules text (failure.Refused c.in-Err-Refused.fault)) c.as_slice.ensures.value (grind rules) in
-    let told = subst (λ (fault : RulesFault). TellsRules fault c.refused_rules.result) c.in-Err-Refused.fault-is c.refused_rules.ensures in
-    unsuggested-answers (g.F.Files.holds c.args.files.now) (g.F.Files.lacks c.args.files.now) c.args.suggestion.now c.args.path.now c.in-Ok.text.items c.in-Err-Refused.fault c.refused_rules.result c.requires c.in-Ok.ensures.ok refused told
+    let printed = subst (λ (fault : RulesFault). TellsRules fault c.refused_rules.result) c.in-Err-Refused.fault-is c.refused_rules.ensures in
+    unsuggested-answers (g.F.Files.holds c.args.files.now) (g.F.Files.unreadable c.args.files.now) c.args.suggestion.now c.args.path.now c.in-Ok.text.items c.in-Err-Refused.fault c.refused_rules.result c.requires c.in-Ok.ensures.ok refused printed
 
 pub returns : goal.returns
 returns g c =
-    lost-beside-answers (g.F.Files.holds c.args.files.now) (g.F.Files.lacks c.args.files.now) c.args.suggestion.now c.args.path.now c.in-Err-Unread.path c.unread_answer.result c.requires (grind rules)
+    lost-beside-answers (g.F.Files.holds c.args.files.now) (g.F.Files.unreadable c.args.files.now) c.args.suggestion.now c.args.path.now c.in-Err-Unread.path c.unread_answer.result c.requires (grind rules)
     (subst (λ (text : List ℕ). TellsUnread text c.unread_answer.result) (ap (λ (p : Bor (List ℕ)). p.now) c.in-Err-Unread.path-is) c.unread_answer.ensures)

@@ -5,9 +5,9 @@ use Rattle.mlk_app.proofs.suggestion.suggest_for.Goals as goal
 
 pub returns-in-Ok : goal.returns-in-Ok
 returns-in-Ok g c =
-    rules-suggested (g.F.Files.holds c.args.files.now) (g.F.Files.lacks c.args.files.now) c.args.routines.now c.in-Ok.sources.items c.suggestion_answer.result c.in-Ok.ensures.ok c.suggestion_answer.ensures
+    rules-suggested (g.F.Files.holds c.args.files.now) (g.F.Files.unreadable c.args.files.now) c.args.routines.now c.in-Ok.sources.items c.suggestion_answer.result c.in-Ok.ensures.ok c.suggestion_answer.ensures
 
 pub returns-in-Err-Unread : goal.returns-in-Err-Unread
 returns-in-Err-Unread g c =
-    none-suggested (g.F.Files.holds c.args.files.now) (g.F.Files.lacks c.args.files.now) c.args.routines.now c.in-Err-Unread.path c.unread_answer.result (grind rules)
+    none-suggested (g.F.Files.holds c.args.files.now) (g.F.Files.unreadable c.args.files.now) c.args.routines.now c.in-Err-Unread.path c.unread_answer.result (grind rules)
     (subst (λ (text : List ℕ). TellsUnread text c.unread_answer.result) (ap (λ (p : Bor (List ℕ)). p.now) c.in-Err-Unread.path-is) c.unread_answer.ensures)

@@ -12,16 +12,6 @@ returns-in_err-report-clause-refused g c =
     passed-on (RefusesReport refusal.Check (Unit {0}) c.args.workers (map routine_of c.args.subject.now.program.now) c.args.subject.now.rules.now c.args.certificate.now)
     c.from_residual.result c.in_err-report.field-0.0 c.from_residual.ensures.1 c.in_err-report.ensures.refused
 
-pub returns-in_err-texts-clause-refused : goal.returns-in_err-texts-clause-refused
-returns-in_err-texts-clause-refused g c =
-    passed-on (RefusesReport refusal.Check (Unit {0}) c.args.workers (map routine_of c.args.subject.now.program.now) c.args.subject.now.rules.now c.args.certificate.now)
-    c.from_residual-in_err-texts.result no_memory c.from_residual-in_err-texts.ensures.1 (error.OutOfMemory, record {}, refl)
-
-pub returns-in_err-behind-clause-refused : goal.returns-in_err-behind-clause-refused
-returns-in_err-behind-clause-refused g c =
-    passed-on (RefusesReport refusal.Check (Unit {0}) c.args.workers (map routine_of c.args.subject.now.program.now) c.args.subject.now.rules.now c.args.certificate.now)
-    c.from_residual-in_err-behind.result no_memory c.from_residual-in_err-behind.ensures.1 (error.OutOfMemory, record {}, refl)
-
 pub returns-in_err-printed-clause-refused : goal.returns-in_err-printed-clause-refused
 returns-in_err-printed-clause-refused g c =
     passed-on (RefusesReport refusal.Check (Unit {0}) c.args.workers (map routine_of c.args.subject.now.program.now) c.args.subject.now.rules.now c.args.certificate.now)

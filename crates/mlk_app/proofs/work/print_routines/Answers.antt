@@ -7,7 +7,7 @@ use Rattle.mlk_pool.specs.Errors.{error_of_routine, error_of_rules}
 use Rattle.mlk_pool.specs.Headline.{RefusesTrees}
 use Rattle.mlk_pool.proofs.PassedOn.{passed-on}
 use Rattle.mlk_outcome.specs.declared.refusal.NoReport.TheVariants as refusal
-use Rattle.mlk_app.specs.Ran.{style_in, IsPrinted, IsRefusedFor}
+use Rattle.mlk_app.specs.Ran.{IsPrinted, IsRefusedFor}
 use Rattle.mlk_app.proofs.work.print_routines.Goals as goal
 
 pub print_work-printed-requires-after_bounds : goal.print_work-printed-requires-after_bounds
@@ -36,7 +36,7 @@ returns-clause-ok g c =
       c.in_ok-program.ensures.linked,
       rules,
       said,
-      subst (λ l. IsPrinted (style_in c.args.request.now.asked) (map routine_of l) rules c.args.sources.now.work p.text p.status) c.in_ok-program.ensures.same h,
+      subst (λ l. IsPrinted c.args.request.now c.args.known (map routine_of l) rules c.args.sources.now.work p.text p.status) c.in_ok-program.ensures.same h,
     )) c.print_work-printed.ensures.ok
 
 pub returns-clause-refused : goal.returns-clause-refused

@@ -8,7 +8,7 @@ use Rattle.mlk_pool.specs.Reading.{AreRead, RefusesFirst}
 use Rattle.mlk_pool.proofs.Formed.{read_formed}
 use Rattle.mlk_pool.proofs.PassedOn.{passed-on}
 use Rattle.mlk_outcome.specs.declared.refusal.NoReport.TheVariants as refusal
-use Rattle.mlk_app.specs.Ran.{style_in, IsRefusedFor}
+use Rattle.mlk_app.specs.Ran.{IsRefusedFor}
 use Rattle.mlk_app.specs.Printing.{IsPrintedOfTrees, IsRefusedSources}
 use Rattle.mlk_app.proofs.work.print_sources.Goals as goal
 
@@ -31,7 +31,7 @@ returns-clause-ok g c =
     IfOk-weaker c.print_routines-printed.result _ _ (λ p h. (
       trees,
       read,
-      subst (λ l. IsPrintedOfTrees (style_in c.args.request.now.asked) (map routine_of l) c.args.sources.now p.text p.status) c.as_slice-2.ensures.value h,
+      subst (λ l. IsPrintedOfTrees c.args.request.now c.args.known (map routine_of l) c.args.sources.now p.text p.status) c.as_slice-2.ensures.value h,
     )) c.print_routines-printed.ensures.ok
 
 pub returns-clause-refused : goal.returns-clause-refused

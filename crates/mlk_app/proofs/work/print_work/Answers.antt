@@ -4,13 +4,13 @@ use Rattle.mlk_syntax.specs.Views.{routine_of}
 use Rattle.mlk_pool.specs.Headline.{RefusesByText}
 use Rattle.mlk_outcome.specs.declared.refusal.NoReport.TheVariants as refusal
 use Rattle.mlk_outcome.specs.Replaying.{IsReplayed, IsUnreplayed}
-use Rattle.mlk_app.specs.Ran.{style_in, IsReportByText}
+use Rattle.mlk_app.specs.Ran.{IsReportByText}
 use Rattle.mlk_app.proofs.work.print_work.Goals as goal
 
 pub returns-in-Check-clause-ok : goal.returns-in-Check-clause-ok
 returns-in-Check-clause-ok g c =
     let subject = c.args.subject.now in
-    rw c.in-Check.is (subst (λ (text : List ℕ). IfOk c.print_check.result (λ p. IsReportByText (style_in subject.request.now.asked) (map routine_of subject.program.now) subject.rules.now text p.text p.status))
+    rw c.in-Check.is (subst (λ (text : List ℕ). IfOk c.print_check.result (λ p. IsReportByText subject.request.now subject.known (map routine_of subject.program.now) subject.rules.now text p.text p.status))
     c.as_slice.ensures.value c.print_check.ensures.ok)
 
 pub returns-in-Check-clause-refused : goal.returns-in-Check-clause-refused

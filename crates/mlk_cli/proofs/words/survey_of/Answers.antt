@@ -1,18 +1,16 @@
-use Rattle.std.proofs.Common.{◌∙◌, sym, ap, Some, codes}
-use Rattle.std.specs.Prelude.{option_map}
-use Rattle.clap.specs.Words.{found_of}
-use Rattle.clap.proofs.WalkLemmas.{raw_values-rows}
-use Rattle.mlk_cli.specs.CommandLine.{bytes_of}
+use Rattle.std.proofs.Common.{subst}
+use Rattle.clap.specs.Words.{found_of, rows_of}
+use Rattle.mlk_cli.specs.CommandLine.{GivesRoutines}
 use Rattle.mlk_cli.proofs.words.survey_of.Goals as goal
 
 pub returns-in_default : goal.returns-in_default
 returns-in_default c = λ survey given.
-    let bad = c.in_default.ensures ∙ raw_values-rows (found_of c.args.matches.now) (codes "ROUTINE") ∙ given.routines in cc bad
+    let none = subst (GivesRoutines (rows_of (found_of c.args.matches.now))) c.in_default.is c.in_ok-routines.ensures in none survey.routines given.routines
 
 pub returns : goal.returns
 returns c =
     let found = found_of c.args.matches.now in
     record {
-      routines = sym (raw_values-rows found (codes "ROUTINE")) ∙ sym c.get_strs.ensures ∙ ap (option_map (λ s. bytes_of s.now)) c.in-Some.is ∙ ap (λ l. Some (bytes_of l)) (sym c.in_ok-routines.ensures.items);
+      routines = subst (GivesRoutines (rows_of found)) c.in-Some.is c.in_ok-routines.ensures;
       output = c.in-Some-survey_output_of.ensures;
     }

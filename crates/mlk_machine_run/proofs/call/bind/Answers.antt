@@ -53,10 +53,10 @@ returns-clause-answer c =
     (value_at (c.args.job.now.tables.items ++ c.fill_formals.new.table ∷ [])) c.count_given-count.result c.args.skipped
     (actual_trees c.args.given.now) found
     (table_filled c.args.job.now.tables.items c.fill_formals.new.table c.formals_in-formals.result.now (actual_trees c.args.given.now)
-    c.values_below-2.result.now (in_table c.new-table.result) c.new-table.ensures c.in_ok-fill_formals.ensures
+    c.values_below.result.now (in_table c.new-table.result) c.new-table.ensures c.in_ok-fill_formals.ensures
     ∙ ap (λ (z : List (List ℕ)). with_actuals (length c.args.job.now.tables.items) z (actual_trees c.args.given.now)
-    c.values_below-2.result.now (value_at c.args.job.now.tables.items)) formals
+    c.values_below.result.now (value_at c.args.job.now.tables.items)) formals
     ∙ ap (λ (z : List (List ℕ)). with_actuals (length c.args.job.now.tables.items) fs (actual_trees c.args.given.now) z
     (value_at c.args.job.now.tables.items))
-    (c.values_below-2.ensures ∙ ap (λ (n : ℕ). reverse (take n (drop c.args.skipped c.args.job.now.values))) c.count_given-count.ensures))
+    (c.values_below.ensures ∙ ap (λ (n : ℕ). reverse (take n (drop c.args.skipped c.args.job.now.values))) c.count_given-count.ensures))
     c.count_given-count.ensures)

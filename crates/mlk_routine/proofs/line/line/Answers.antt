@@ -11,23 +11,23 @@ use Rattle.mlk_routine.proofs.Tails.{all_good, one_bad}
 use Rattle.mlk_routine.proofs.Heads.{head_made, line_only, refused_front, refused_tail, refused_place, refused_byte}
 use Rattle.mlk_routine.proofs.line.line.Goals as goal
 
-pub returns-in_err-front-clause-refusal_at : goal.returns-in_err-front-clause-refusal_at
-returns-in_err-front-clause-refusal_at c =
+pub returns-in_err-front-clause-refused : goal.returns-in_err-front-clause-refused
+returns-in_err-front-clause-refused c =
     let p = err_from_is_err_and c.from_residual.result c.from_residual.ensures.1 in
     rw (p.1, p.2) (refused_front c.args.before.now c.args.number c.args.text.now c.in_err-front.field-0.0 c.in_err-front.ensures)
 
-pub returns-in-Some-clause-refusal_at : goal.returns-in-Some-clause-refusal_at
-returns-in-Some-clause-refusal_at c =
+pub returns-in-Some-clause-refused : goal.returns-in-Some-clause-refused
+returns-in-Some-clause-refused c =
     let known = subst IsMisplaced c.in-Some.is c.misplacement.ensures.code in
     refused_place c.args.before.now c.args.number c.args.text.now c.in_ok-front.front c.in_ok-front.start c.in_ok-front.ensures c.refusal_at.result (c.refusal_at.ensures.fault c.args.text.now (omega arith) known.0 known.1) (c.misplacement.ensures.some (ap is_some c.in-Some.is))
 
-pub returns-in_err-commands-clause-refusal_at : goal.returns-in_err-commands-clause-refusal_at
-returns-in_err-commands-clause-refusal_at c =
+pub returns-in_err-commands-clause-refused : goal.returns-in_err-commands-clause-refused
+returns-in_err-commands-clause-refused c =
     let p = err_from_is_err_and c.from_residual-in_err-commands.result c.from_residual-in_err-commands.ensures.1 in
     rw (p.1, p.2) (refused_tail c.args.before.now c.args.number c.args.text.now c.in_ok-front.front c.in_ok-front.start c.in_ok-front.ensures c.in_err-commands.field-0.0 c.in_err-commands.ensures)
 
-pub returns-then-plain-text-clause-refusal_at : goal.returns-then-plain-text-clause-refusal_at
-returns-then-plain-text-clause-refusal_at c =
+pub returns-then-plain-text-clause-refused : goal.returns-then-plain-text-clause-refused
+returns-then-plain-text-clause-refused c =
     let bytes = c.args.text.now in
     rw c.drop_and_return.ensures
     (refused_byte c.args.before.now c.args.number bytes c.refusal_at-then-plain-text.result (c.refusal_at-then-plain-text.ensures.fault bytes c.line_bytes-plain.ensures.within refl refl)

@@ -4,8 +4,8 @@ use Rattle.mlk_text.specs.Lexemes.{is_text_byte, is_text}
 use Rattle.mlk_routine.proofs.Tails.{comment_text, text_comment, all_good, one_bad}
 use Rattle.mlk_routine.proofs.tail.comment.Goals as goal
 
-pub returns-then-good-bytes-clause-refusal_at : goal.returns-then-good-bytes-clause-refusal_at
-returns-then-good-bytes-clause-refusal_at c is =
+pub returns-then-good-bytes-clause-refused : goal.returns-then-good-bytes-clause-refused
+returns-then-good-bytes-clause-refused c is =
     let bytes = c.split_at.result.1.now in
     let less : prefix_len is_text_byte bytes < length bytes = subst (λ n. n < length bytes) c.text_bytes-good.ensures.value c.if-good-bytes.true in
     let bad = one_bad is_text_byte bytes less in

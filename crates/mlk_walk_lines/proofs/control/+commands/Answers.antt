@@ -10,7 +10,7 @@ use Rattle.mlk_walk_lines.proofs.control.+commands.Goals as goal
 
 pub returns : goal.returns
 returns t c = for_done c.args.given.now c.in-Some.last (spot_of c.args.spot.now) (spot_of c.at_word-here.result)
-    c.listed_cases-cases.result.now c.args.walk.now c.apply_before_for-2.new.walk c.in_ok-inner.inner c.commands.new.walk c.after_rounds.new.walk
+    c.listed_cases-cases.result.now c.args.walk.now c.apply_before_for.new.walk c.in_ok-inner.inner c.commands.new.walk c.after_rounds.new.walk
     c.after_rounds.result
     (search)
     (c.in_ok-apply_before_for.ensures ∙ ap (λ z. fold (one_command (spot_of c.args.spot.now)) c.args.walk.now (map command_of z)) c.as_slice.ensures.value)
@@ -20,4 +20,4 @@ returns t c = for_done c.args.given.now c.in-Some.last (spot_of c.args.spot.now)
     (c.at_word-here.ensures ∙ ap (λ z. at_word (spot_of c.args.spot.now) (out-For z).column) c.deref-3.ensures)
     (carried c.after_rounds.result c.after_rounds.new.walk _ _ c.after_rounds.ensures
     (ap (λ z. after_rounds (spot_of c.at_word-here.result) (option_map control_of (out-For z).control)
-    c.listed_cases-cases.result.now c.commands.new.walk c.apply_before_for-2.new.walk) (sym c.deref-4.ensures)))
+    c.listed_cases-cases.result.now c.commands.new.walk c.apply_before_for.new.walk) (sym c.deref-4.ensures)))

@@ -56,11 +56,11 @@ struct Pair {
 
 /// All nestings of claims, in the order of their first places, and claims of a second lock of one family.
 #[derive(Drop)]
-pub(crate) struct Nestings {
+pub struct Nestings {
     // the index of a pair's nesting in `all`
     places: IndexMap<Pair, usize>,
-    pub(crate) all: Vec<Nesting>,
-    pub(crate) seconds: Vec<Against>,
+    pub all: Vec<Nesting>,
+    pub seconds: Vec<Against>,
 }
 
 // Whether a claimed lock is held already, or is below a held one: its claim then waits for no other job.
@@ -187,7 +187,7 @@ fn held_families(
 }
 
 /// The nestings of the claims of `evidence`, whose families are `families`.
-pub(crate) fn nestings_of(
+pub fn nestings_of(
     alloc: Global,
     families: &Families,
     evidence: &Evidence<'_>,

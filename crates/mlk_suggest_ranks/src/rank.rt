@@ -294,7 +294,7 @@ fn height_of(
 
 /// An order for the claims of the families `names`, as indexes. The weight of the nestings against it is small, and a family with
 /// a longer chain of families below it comes earlier.
-pub(crate) fn order_of(
+pub fn order_of(
     alloc: Global,
     names: &[FamilyName],
     nestings: &[Nesting],

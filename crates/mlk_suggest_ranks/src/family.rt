@@ -1,6 +1,5 @@
 // Families of locks: their names, and how often they are claimed.
 
-use crate::candidate::is_plain;
 use indexmap::IndexMap;
 use mlk_suggest::{ClaimAt, Evidence, Lock};
 use mlk_suggest_steps::{LockName, LockRoot, Program, Symbol, Word};
@@ -9,6 +8,11 @@ use std::alloc::{AllocError, Global};
 
 /// The maximum number of families of a rule file.
 const MOST_FAMILIES: usize = 1024;
+
+/// Whether `text` has only printable ASCII characters, so that it can be used in a rule unchanged.
+pub fn is_plain(text: &[u8]) -> bool {
+    text.iter().all(|byte| matches!(*byte, b' '..=b'~'))
+}
 
 /// The name of a family: a root, and a first subscript if the locks with that root are in several families.
 #[derive(Clone, Copy, Debug, Drop, PartialEq, Eq, PartialOrd, Ord, Hash)]
@@ -39,10 +43,10 @@ struct RootFacts {
 
 /// The families of the locks that are claimed.
 #[derive(Drop)]
-pub(crate) struct Families {
+pub struct Families {
     roots: IndexMap<LockRoot, RootFacts>,
     /// the number of claims of each family, in the order of their first claims
-    pub(crate) claims: IndexMap<FamilyName, usize>,
+    pub claims: IndexMap<FamilyName, usize>,
 }
 
 // The first subscript of a lock name, if it is a constant.
@@ -98,7 +102,7 @@ impl Families {
     }
 
     /// The family of the lock name `name`.
-    pub(crate) fn family(&self, name: &LockName) -> FamilyName {
+    pub fn family(&self, name: &LockName) -> FamilyName {
         let constant = match self.roots.get(&name.root) {
             Some(facts) if facts.are_constant && facts.are_nested => first_constant(name),
             _ => None,
@@ -110,7 +114,7 @@ impl Families {
     }
 
     /// The family of `lock`; `None` if it is not in the tables of `evidence`.
-    pub(crate) fn family_of(&self, evidence: &Evidence<'_>, lock: Lock) -> Option<FamilyName> {
+    pub fn family_of(&self, evidence: &Evidence<'_>, lock: Lock) -> Option<FamilyName> {
         let name = evidence.tables.name(lock)?;
         Some(self.family(name))
     }
@@ -125,7 +129,7 @@ impl Families {
     }
 
     /// The names of the families in the order of their first claims, at most as many as a rule file can have.
-    pub(crate) fn names(&self, alloc: Global) -> Result<Vec<FamilyName>, AllocError> {
+    pub fn names(&self, alloc: Global) -> Result<Vec<FamilyName>, AllocError> {
         let mut names = Vec::with_capacity(alloc, self.claims.len())?;
         for (name, _) in self.claims.iter().take(MOST_FAMILIES) {
             push_sparing(&mut names, *name)?;
@@ -135,7 +139,7 @@ impl Families {
 }
 
 /// The families of the locks that are claimed in `program`, given its `evidence`.
-pub(crate) fn families_of(
+pub fn families_of(
     alloc: Global,
     program: &Program<'_>,
     evidence: &Evidence<'_>,
