@@ -1,6 +1,6 @@
 // The stale writes of a program.
 
-ghost use Rattle.std.specs.Prelude.{IfOk, All};
+ghost use Rattle.std.specs.Prelude.{IfOk, OnOk, All};
 ghost use Rattle.std.specs.BTreeMap.{values};
 ghost use Rattle.mlk_stale.specs.Stale.{IsStale};
 
@@ -61,6 +61,24 @@ fn walk_labels<'a>(
     Ok(())
 }
 
+// Adds a write to those that are kept, if it is stale.
+fn keep_if_stale<'a>(
+    alloc: Global,
+    rules: &Rules,
+    kept: &mut BTreeMap<Position<'a>, StaleWrite<'a>>,
+    position: Position<'a>,
+    write: StaleWrite<'a>,
+) -> Result<(), AllocError>
+    requires { All (IsStale rules.now) (values kept.old) }
+    ensures { OnOk result (All (IsStale rules.now) (values kept.new)) }
+{
+    if !is_stale(alloc, rules, &write)? {
+        return Ok(());
+    }
+    kept.insert(position, write)?;
+    Ok(())
+}
+
 // Those of `found` that are stale.
 fn keep_stale<'a>(
     alloc: Global,
@@ -71,9 +89,7 @@ fn keep_stale<'a>(
 {
     let mut kept = BTreeMap::new(alloc);
     for (position, write) in found {
-        if is_stale(alloc, rules, &write)? {
-            kept.insert(position, write)?;
-        }
+        keep_if_stale(alloc, rules, &mut kept, position, write)?;
     }
     Ok(kept)
 }

@@ -1,6 +1,6 @@
 // Whether a write is stale.
 
-ghost use Rattle.std.specs.Prelude.{◌≡◌, ◌↔◌, IsTrue, IfOk};
+ghost use Rattle.std.specs.Prelude.{◌≡◌, ◌↔◌, IsTrue, IfOk, nat_le};
 ghost use Rattle.std.specs.Bool.{Decides};
 ghost use Rattle.mlk_rules.specs.Coverage.{IsCovered};
 ghost use Rattle.mlk_stale.specs.Stale.{ReadsWritten, names_of, held_at, IsStale};
@@ -42,13 +42,20 @@ fn names_of(alloc: Global, held: &[HeldLock]) -> Result<Vec<LockTerm>, AllocErro
     Ok(names)
 }
 
+// Whether a lock was held already when the read with this number was made.
+fn is_held_at(lock: &HeldLock, read: usize) -> bool
+    ensures { result ≡ nat_le lock.now.since read }
+{
+    lock.since <= read
+}
+
 // The names of those of `held` that were held already when the read with this number was made.
 fn names_at(alloc: Global, held: &[HeldLock], read: usize) -> Result<Vec<LockTerm>, AllocError>
     ensures { IfOk result (λ names. names.items ≡ names_of (held_at read held.now)) }
 {
     let mut names = Vec::new(alloc);
     for lock in held {
-        if lock.since <= read {
+        if is_held_at(lock, read) {
             names.push(copy_of(&lock.name)?)?;
         }
     }

@@ -7,6 +7,7 @@ use mlk_stale_steps::{CallKind, Use};
 use mlk_syntax::Actual;
 use mlk_text::{Name, push_sparing};
 use std::alloc::{AllocError, Global};
+use std::mem;
 
 /// A local with its value.
 #[derive(Clone, Drop)]
@@ -113,17 +114,14 @@ impl<'a> Path<'a> {
         })
     }
 
-    // The local with this name, which is added if it is missing.
-    fn local_mut(&mut self, name: &'a [u8]) -> Result<Option<&mut Local<'a>>, AllocError> {
-        let place = match self.locals.iter().position(|local| local.name == name) {
-            Some(place) => place,
-            None => {
-                let place = self.locals.len();
-                push_sparing(&mut self.locals, Local { name, worth: None })?;
-                place
-            }
-        };
-        Ok(self.locals.get_mut(place))
+    // The index of the local with this name, which is added if it is missing.
+    fn local_index(&mut self, name: &'a [u8]) -> Result<usize, AllocError> {
+        if let Some(index) = self.locals.iter().position(|local| local.name == name) {
+            return Ok(index);
+        }
+        let index = self.locals.len();
+        push_sparing(&mut self.locals, Local { name, worth: None })?;
+        Ok(index)
     }
 
     /// Gives a local a value, and returns the one that it had.
@@ -132,12 +130,11 @@ impl<'a> Path<'a> {
         name: &'a [u8],
         worth: Option<Worth>,
     ) -> Result<Option<Worth>, AllocError> {
-        let Some(local) = self.local_mut(name)? else {
-            return Ok(None);
-        };
-        let old = local.worth.take();
-        local.worth = worth;
-        Ok(old)
+        let index = self.local_index(name)?;
+        match self.locals.get_mut(index) {
+            Some(local) => Ok(mem::replace(&mut local.worth, worth)),
+            None => Ok(None),
+        }
     }
 
     /// The value of a local. One of which nothing is known yet gets a value.

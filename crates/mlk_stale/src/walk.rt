@@ -45,6 +45,8 @@ pub(crate) struct Walk<'w, 'a> {
     paths: Vec<Path<'a>>,
     /// for each step, how often a path has branched there
     branches: Vec<usize>,
+    /// the steps where a path has branched
+    branched: Vec<usize>,
     // for each mark, whether a call or a walk has come to it
     called: Vec<bool>,
     /// the stale writes that were found, by their places
@@ -58,10 +60,6 @@ impl<'w, 'a> Walk<'w, 'a> {
         rules: &'w Rules,
         code: &'w Code<'a>,
     ) -> Result<Walk<'w, 'a>, AllocError> {
-        let mut called = Vec::with_capacity(alloc, code.targets.len())?;
-        for _ in &code.targets {
-            push_sparing(&mut called, false)?;
-        }
         Ok(Walk {
             alloc,
             rules,
@@ -69,21 +67,24 @@ impl<'w, 'a> Walk<'w, 'a> {
             namer: Namer::new(alloc),
             reads: Vec::new(alloc),
             paths: Vec::new(alloc),
-            branches: Vec::new(alloc),
-            called,
+            branches: vec![in alloc; 0; code.steps.len()]?,
+            branched: Vec::new(alloc),
+            called: vec![in alloc; false; code.targets.len()]?,
             found: BTreeMap::new(alloc),
         })
     }
 
     // Counts a branch at the step before `at`, and returns whether it is followed.
-    fn may_branch(&mut self, at: usize) -> bool {
-        match self.branches.get_mut(at) {
-            Some(count) if *count < MOST_BRANCHES => {
-                *count = count.saturating_add(1);
-                true
-            }
-            _ => false,
+    fn may_branch(&mut self, at: usize) -> Result<bool, AllocError> {
+        let Some(count) = self.branches.get_mut(at) else {
+            return Ok(false);
+        };
+        if *count >= MOST_BRANCHES {
+            return Ok(false);
         }
+        *count += 1;
+        push_sparing(&mut self.branched, at)?;
+        Ok(true)
     }
 
     // Begins a path that goes on from `path` at a step, where `$TEST` is so.
@@ -93,7 +94,7 @@ impl<'w, 'a> Walk<'w, 'a> {
         target: usize,
         test: Option<bool>,
     ) -> Result<(), AllocError> {
-        if !self.may_branch(path.at) {
+        if !self.may_branch(path.at)? {
             return Ok(());
         }
         let mut other = path.clone()?;
@@ -377,15 +378,15 @@ impl<'w, 'a> Walk<'w, 'a> {
     }
 
     // Forgets the walk from another label.
-    fn begin(&mut self) -> Result<(), AllocError> {
+    fn begin(&mut self) {
         self.namer = Namer::new(self.alloc);
         self.reads.clear();
         self.paths.clear();
-        self.branches.clear();
-        for _ in &self.code.steps {
-            push_sparing(&mut self.branches, 0)?;
+        while let Some(at) = self.branched.pop() {
+            if let Some(count) = self.branches.get_mut(at) {
+                *count = 0;
+            }
         }
-        Ok(())
     }
 
     // Notes that a call has come to `mark`.
@@ -402,7 +403,7 @@ impl<'w, 'a> Walk<'w, 'a> {
 
     /// Walks from the step at `mark`, where nothing is held.
     pub(crate) fn walk_from(&mut self, mark: Mark) -> Result<(), AllocError> {
-        self.begin()?;
+        self.begin();
         self.add_called(mark);
         let start = Path::new(self.alloc, self.code.address(mark));
         push_sparing(&mut self.paths, start)?;
