@@ -5,7 +5,7 @@ use crate::stuck::{WORKERS, none_if_refused};
 use mlk_behind::{KnownFaults, Patch, mended_texts, next_round};
 use mlk_calls::Entries;
 use mlk_cli::{Output, ReportStyle};
-use mlk_explain::{ExplainedAs, FaultsBehind, Grounds};
+use mlk_explain::{ExplainedAs, ExplainedFaults, Grounds};
 use mlk_make::make_certificate;
 use mlk_outcome::OpenGate;
 use mlk_pool::{Source, read_routines, report_by};
@@ -28,7 +28,7 @@ struct Search<'a> {
     // what explains the report that was given
     grounds: &'a Grounds<'a>,
     known: KnownFaults,
-    behind: FaultsBehind,
+    behind: ExplainedFaults,
 }
 
 // In which form faults are explained in this style.
@@ -77,7 +77,7 @@ impl<'a> Search<'a> {
             sources,
             grounds,
             known: KnownFaults::new(alloc),
-            behind: FaultsBehind::new(alloc, form_in(style)),
+            behind: ExplainedFaults::new(alloc, form_in(style)),
         }
     }
 
@@ -187,7 +187,7 @@ impl<'a> Search<'a> {
         runner: &Runner<'_, R, W>,
         report: &Report,
         style: ReportStyle,
-    ) -> Result<FaultsBehind, AllocError> {
+    ) -> Result<ExplainedFaults, AllocError> {
         let mut search = self;
         if !is_explained(style) || report.is_yes() {
             return Ok(search.behind);
@@ -213,7 +213,7 @@ pub(crate) fn find_behind<'a, R: Threads + Wait + Sync, W: Watch>(
     report: &Report,
     style: ReportStyle,
     is_compared: bool,
-) -> Result<FaultsBehind, AllocError> {
+) -> Result<ExplainedFaults, AllocError> {
     let search = Search::new(runner.alloc, sources, grounds, style);
     if is_compared {
         return Ok(search.behind);

@@ -1,10 +1,12 @@
 // Why there is no report, for other programs.
 
-use crate::refused::refusal_code;
+use crate::refused::{refusal_code, refused_file, rule_file, spot_in};
+use crate::source::Sources;
 use mlk_cli::ProgramRequest;
 use mlk_outcome::NoReport;
 use mlk_output::{Notice, NoticePlace};
 use mlk_refusal_text::{GivenFile, Spot};
+use std::alloc::{AllocError, Global};
 
 // A place in the file at a path.
 fn place_at(path: &str, spot: Spot) -> NoticePlace<'_> {
@@ -15,30 +17,38 @@ fn place_at(path: &str, spot: Spot) -> NoticePlace<'_> {
     }
 }
 
-/// Makes the notice of a refusal, whose line on the error stream is `line`, in `file` and at `spot` there; `None` if it has no
-/// code.
-pub(crate) fn notice_of<'a>(
-    refusal: &NoReport,
-    program: &ProgramRequest<'a>,
-    line: &'a [u8],
-    file: GivenFile<'a>,
-    spot: Option<Spot>,
-) -> Option<Notice<'a>> {
-    let GivenFile { path, text } = file;
-    let code = refusal_code(refusal)?;
-    let line = match line.split_last() {
+// What is written of a refusal on the error stream, without the end of the line.
+fn words_of(line: &[u8]) -> &[u8] {
+    match line.split_last() {
         Some((_, words)) => words,
         None => line,
+    }
+}
+
+/// Makes the notice of a refusal, whose line on the error stream is `line`; `None` if it has no code.
+pub(crate) fn notice_of<'a>(
+    alloc: Global,
+    refusal: &NoReport,
+    program: &ProgramRequest<'a>,
+    sources: &'a Sources<'a>,
+    line: &'a [u8],
+) -> Result<Option<Notice<'a>>, AllocError> {
+    let Some(code) = refusal_code(refusal) else {
+        return Ok(None);
     };
+    let refused = refused_file(refusal, program, sources);
+    let spot = spot_in(alloc, refusal, &refused)?;
+    let GivenFile { path, text } = refused.unwrap_or(rule_file(program, sources));
     let place = match spot {
         Some(spot) => Some(place_at(path, spot)),
         None => None,
     };
-    Some(Notice {
+    Ok(Some(Notice {
         code,
-        line,
+        line: words_of(line),
         place,
         text,
         file: program.rules,
-    })
+        despite: None,
+    }))
 }

@@ -18,12 +18,12 @@ use crate::printed::{
     baseline_line, certificate_line, events_line, fault_line, file_line, missing_line,
     no_page_line, rules_line, stuck_line, workers_line,
 };
-use crate::refused::{refused_file, rule_file, spot_in};
 use crate::routines::{all_paths, find_routines, found_paths, list_of, with_routines};
 use crate::source::{
     FileError, Files, Sources, cert_format, read_file, read_files, read_given, read_sources,
 };
 use crate::stubs::answer_stubs;
+use crate::stuck::render_stuck;
 use crate::suggestion::answer_suggestion;
 use crate::work::{Printed, print_sources, style_in};
 use mlk_baseline::BaselineFault;
@@ -34,8 +34,7 @@ use mlk_cli::{
 use mlk_forms::{render_notice, render_pages, render_survey};
 use mlk_outcome::{NoReport, convert};
 use mlk_pool::{CheckError, ReportText};
-use mlk_refusal_text::{GivenFile, Spot};
-use mlk_text::Failure;
+use mlk_text::{Code, Failure};
 use mlk_watch::{Runner, Watch};
 use std::alloc::{AllocError, Global};
 use std::io::{self, ErrorKind, Write};
@@ -71,26 +70,9 @@ fn refusal_line(alloc: Global, refusal: &NoReport) -> Result<ReportText, AllocEr
     }
 }
 
-// What is printed beside the line of a refusal that is in `file`, at `spot`.
-fn notice_at(
-    alloc: Global,
-    refusal: &NoReport,
-    program: &ProgramRequest<'_>,
-    line: &ReportText,
-    file: GivenFile<'_>,
-    spot: Option<Spot>,
-) -> Result<Option<ReportText>, AllocError>
-    ensures { IfOk result (IsNoticed (style_in program.now.asked).output) }
-{
-    match notice_of(refusal, program, line.as_bytes(), file, spot) {
-        Some(notice) => render_notice(alloc, &notice, style_in(&program.asked).output),
-        None => Ok(None),
-    }
-}
-
 // What is printed of a refusal beside its line.
-fn notice(
-    alloc: Global,
+fn notice<R: Threads + Wait + Sync, W: Watch>(
+    runner: &Runner<'_, R, W>,
     refusal: &NoReport,
     program: &ProgramRequest<'_>,
     sources: &Sources<'_>,
@@ -98,11 +80,15 @@ fn notice(
 ) -> Result<Option<ReportText>, AllocError>
     ensures { IfOk result (IsNoticed (style_in program.now.asked).output) }
 {
-    let refused = refused_file(refusal, program, sources);
-    let file = refused.unwrap_or(rule_file(program, sources));
-    match spot_in(alloc, refusal, &refused) {
-        Ok(spot) => notice_at(alloc, refusal, program, line, file, spot),
-        Err(AllocError) => Err(AllocError),
+    let alloc = runner.alloc;
+    let output = style_in(&program.asked).output;
+    let notice = notice_of(alloc, refusal, program, sources, line.as_bytes())?;
+    match &notice {
+        Some(notice) if notice.code == Code::GaveUp => {
+            render_stuck(runner, notice, program, sources)
+        }
+        Some(notice) => render_notice(alloc, notice, output),
+        None => Ok(None),
     }
 }
 
@@ -120,7 +106,7 @@ fn refusal_answer<R: Threads + Wait + Sync, W: Watch>(
     let Ok(line) = refusal_line(alloc, refusal) else {
         return Answer::OutOfMemory;
     };
-    let Ok(beside) = notice(alloc, refusal, program, sources, &line) else {
+    let Ok(beside) = notice(runner, refusal, program, sources, &line) else {
         return Answer::OutOfMemory;
     };
     match refusal_help(runner, refusal, program, sources, explaining) {

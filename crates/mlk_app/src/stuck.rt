@@ -1,10 +1,18 @@
 // What is known of a program of which no certificate can be made.
 
+ghost use Rattle.std.specs.Prelude.{IfOk};
+ghost use Rattle.mlk_app.specs.Ran.{style_in};
+ghost use Rattle.mlk_forms.specs.Rendering.{IsNoticed};
+
 use crate::source::{Sources, copied_texts};
-use mlk_explain::{Grounds, explained_rows};
+use crate::work::style_in;
+use mlk_cli::{Output, ProgramRequest};
+use mlk_explain::{ExplainedAs, ExplainedFaults, Grounds};
+use mlk_forms::render_notice;
 use mlk_make::make_despite;
 use mlk_outcome::OpenGate;
-use mlk_pool::{read_routines, report_by};
+use mlk_output::{FoundDespite, Notice, ReportSources};
+use mlk_pool::{ReportText, read_routines, report_by};
 use mlk_program::{Program, link};
 use mlk_rules::Rules;
 use mlk_rules_file::read_rules;
@@ -31,15 +39,17 @@ pub(crate) fn none_if_refused<T: Drop, E: Drop>(
     }
 }
 
-// Explains the faults of a program by a certificate that is made despite the entries that are given up.
+// Explains the faults of `program` by a certificate that is made despite the entries that are given up. None is found if
+// something else is refused.
 fn explain_program<R: Threads + Wait + Sync, W: Watch>(
     runner: &Runner<'_, R, W>,
     program: &Program<'_>,
     rules: &Rules,
     sources: &Sources<'_>,
-) -> Result<Vec<u8>, AllocError> {
+    form: ExplainedAs,
+) -> Result<ExplainedFaults, AllocError> {
     let alloc = runner.alloc;
-    let nothing = Vec::new(alloc);
+    let nothing = ExplainedFaults::new(alloc, form);
     let Some(made) = none_if_refused(make_despite(alloc, program, rules, runner.watch))? else {
         return Ok(nothing);
     };
@@ -57,23 +67,25 @@ fn explain_program<R: Threads + Wait + Sync, W: Watch>(
         certificate,
         is_made: true,
     };
-    explained_rows(alloc, &grounds, &report)
+    ExplainedFaults::of_report(alloc, form, &grounds, &report)
 }
 
+// The faults of these routines, in the `form` that is asked for.
 fn explain_routines<R: Threads + Wait + Sync, W: Watch>(
     runner: &Runner<'_, R, W>,
     routines: &[Routine],
     sources: &Sources<'_>,
-) -> Result<Vec<u8>, AllocError> {
+    form: ExplainedAs,
+) -> Result<ExplainedFaults, AllocError> {
     let alloc = runner.alloc;
-    let nothing = Vec::new(alloc);
+    let nothing = ExplainedFaults::new(alloc, form);
     let Some(program) = none_if_refused(link(alloc, routines))? else {
         return Ok(nothing);
     };
     let Some(rules) = none_if_refused(read_rules(alloc, sources.rules.as_slice()))? else {
         return Ok(nothing);
     };
-    explain_program(runner, &program, &rules, sources)
+    explain_program(runner, &program, &rules, sources, form)
 }
 
 /// Adds to `text` the faults of a program of which no certificate can be made, with what explains them: those of the entries that
@@ -87,10 +99,78 @@ pub(crate) fn push_faults<R: Threads + Wait + Sync, W: Watch>(
     let Some(routines) = none_if_refused(read)? else {
         return Ok(());
     };
-    let faults = explain_routines(runner, routines.as_slice(), sources)?;
-    if !faults.is_empty() {
+    let form = ExplainedAs::Text;
+    let faults = explain_routines(runner, routines.as_slice(), sources, form)?;
+    if !faults.rows().is_empty() {
         text.extend_from_slice(NOTE)?;
-        text.extend_from_slice(faults.as_slice())?;
+        text.extend_from_slice(faults.text())?;
     }
     Ok(())
+}
+
+// Writes `notice` for other programs, with these faults.
+fn render_found(
+    alloc: Global,
+    notice: &Notice<'_>,
+    program: &ProgramRequest<'_>,
+    routines: &[Routine],
+    faults: &ExplainedFaults,
+) -> Result<Option<ReportText>, AllocError>
+    ensures { IfOk result (IsNoticed (style_in program.now.asked).output) }
+{
+    let output = style_in(&program.asked).output;
+    let inputs = ReportSources {
+        routines,
+        paths: program.routines.as_slice(),
+        rules_path: program.rules,
+        rule_text: &[],
+        texts: &[],
+        free_reads: &[],
+    };
+    let found = FoundDespite {
+        inputs: &inputs,
+        faults,
+    };
+    let notice = Notice {
+        despite: Some(found),
+        ..*notice
+    };
+    render_notice(alloc, &notice, output)
+}
+
+// Writes `notice` for other programs, with the faults of a program of which no certificate can be made.
+fn render_despite<R: Threads + Wait + Sync, W: Watch>(
+    runner: &Runner<'_, R, W>,
+    notice: &Notice<'_>,
+    program: &ProgramRequest<'_>,
+    sources: &Sources<'_>,
+) -> Result<Option<ReportText>, AllocError>
+    ensures { IfOk result (IsNoticed (style_in program.now.asked).output) }
+{
+    let alloc = runner.alloc;
+    let output = style_in(&program.asked).output;
+    let read = read_routines(runner, sources.routines.as_slice());
+    let Some(routines) = none_if_refused(read)? else {
+        return render_notice(alloc, notice, output);
+    };
+    let trees = routines.as_slice();
+    let faults = explain_routines(runner, trees, sources, ExplainedAs::Stories)?;
+    render_found(alloc, notice, program, trees, &faults)
+}
+
+/// Writes the notice of a program of which no certificate can be made, with the faults that are found all the same. For these the
+/// texts are read once more. Nothing is written, and nothing looked for, if a text is asked for.
+pub(crate) fn render_stuck<R: Threads + Wait + Sync, W: Watch>(
+    runner: &Runner<'_, R, W>,
+    notice: &Notice<'_>,
+    program: &ProgramRequest<'_>,
+    sources: &Sources<'_>,
+) -> Result<Option<ReportText>, AllocError>
+    ensures { IfOk result (IsNoticed (style_in program.now.asked).output) }
+{
+    let output = style_in(&program.asked).output;
+    match output {
+        Output::Text | Output::Lines => render_notice(runner.alloc, notice, output),
+        Output::Json | Output::Sarif => render_despite(runner, notice, program, sources),
+    }
 }

@@ -167,7 +167,14 @@ fn print_explained<R: Threads + Wait + Sync, W: Watch>(
     let request = subject.request;
     let beside = compare_faults(alloc, &grounds, report, subject.known, request)?;
     let is_compared = subject.known.is_some();
-    let behind = find_behind(runner, subject.sources, &grounds, report, style, is_compared)?;
+    let behind = find_behind(
+        runner,
+        subject.sources,
+        &grounds,
+        report,
+        style,
+        is_compared,
+    )?;
     let explanations = Explanations {
         grounds: &grounds,
         behind: &behind,

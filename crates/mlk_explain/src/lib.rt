@@ -2,13 +2,13 @@
 //! apply, and what mends the fault; of a call the place behind what the callee asks for.
 #![tactic(auto)]
 
-mod behind;
 mod explanation;
+mod faults;
 mod report;
 mod story;
 mod trail;
 
-pub use behind::{ExplainedAs, FaultsBehind};
+pub use faults::{ExplainedAs, ExplainedFaults};
 pub use mlk_explain_origins::Grounds;
 pub use mlk_explain_rules::free_reads;
 pub use report::{explained_rows, explained_rows_at, notes_below, stories_at, stories_of};

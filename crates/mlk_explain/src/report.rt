@@ -1,21 +1,18 @@
 // The text of a report with explanations.
 
-use crate::behind::FaultsBehind;
-use crate::explanation::Explainer;
+use crate::faults::{ExplainedAs, ExplainedFaults, all_numbers};
 use crate::story::Story;
-use mlk_calls::Entries;
 use mlk_explain_origins::Grounds;
-use mlk_explain_rules::RuleFile;
 use mlk_report_text::Piece::{Bytes, Number, Words};
 use mlk_report_text::push_all;
-use mlk_walk::{Checks, Report};
+use mlk_walk::Report;
 use std::alloc::{AllocError, Global};
 
 const HIDDEN_FAULTS: &str =
     "note: one fault often hides others behind it on its path; verify again when these are mended\n";
 
 // Appends the faults that are found behind those of a report.
-fn push_behind(text: &mut Vec<u8>, behind: &FaultsBehind) -> Result<(), AllocError> {
+fn push_behind(text: &mut Vec<u8>, behind: &ExplainedFaults) -> Result<(), AllocError> {
     if behind.rows().is_empty() {
         return Ok(());
     }
@@ -37,7 +34,7 @@ pub fn notes_below(
     alloc: Global,
     grounds: &Grounds<'_>,
     report: &Report,
-    behind: &FaultsBehind,
+    behind: &ExplainedFaults,
 ) -> Result<Vec<u8>, AllocError> {
     let mut text = Vec::new(alloc);
     push_behind(&mut text, behind)?;
@@ -45,15 +42,6 @@ pub fn notes_below(
         text.extend_from_slice(HIDDEN_FAULTS.as_bytes())?;
     }
     Ok(text)
-}
-
-// The numbers of all rows of a report.
-fn all_numbers(alloc: Global, report: &Report) -> Result<Vec<usize>, AllocError> {
-    let mut numbers = Vec::with_capacity(alloc, report.rows().len())?;
-    for (number, _) in report.rows().iter().enumerate() {
-        numbers.push(number)?;
-    }
-    Ok(numbers)
 }
 
 /// The story of each row of a report, in their order: what its explanation says, in pieces.
@@ -73,23 +61,9 @@ pub fn stories_at(
     report: &Report,
     numbers: &[usize],
 ) -> Result<Vec<Option<Story>>, AllocError> {
-    let blocks = grounds.certificate.blocks();
-    let entries = Entries::of(alloc, grounds.program, grounds.rules, blocks)?;
-    let checks = Checks {
-        program: grounds.program,
-        rules: grounds.rules,
-        entries: &entries,
-    };
-    let rule_file = RuleFile::of(alloc, grounds.rule_text)?;
-    let mut explainer = Explainer::new(alloc, grounds, &checks, &rule_file);
-    let mut stories = Vec::with_capacity(alloc, numbers.len())?;
-    let (rows, notes) = (report.rows(), report.notes());
-    for number in numbers {
-        if let (Some(row), Some(note)) = (rows.get(*number), notes.get(*number)) {
-            stories.push(explainer.story(row, note)?)?;
-        }
-    }
-    Ok(stories)
+    let form = ExplainedAs::Stories;
+    let faults = ExplainedFaults::of(alloc, form, grounds, report, numbers)?;
+    Ok(faults.into_stories())
 }
 
 /// The text of the rows of a report, with an explanation below each: the line of M with a caret below the column, and what was
@@ -117,21 +91,7 @@ pub fn explained_rows_at(
     report: &Report,
     numbers: &[usize],
 ) -> Result<Vec<u8>, AllocError> {
-    let blocks = grounds.certificate.blocks();
-    let entries = Entries::of(alloc, grounds.program, grounds.rules, blocks)?;
-    let checks = Checks {
-        program: grounds.program,
-        rules: grounds.rules,
-        entries: &entries,
-    };
-    let rule_file = RuleFile::of(alloc, grounds.rule_text)?;
-    let mut explainer = Explainer::new(alloc, grounds, &checks, &rule_file);
-    let mut text = Vec::new(alloc);
-    let (rows, notes) = (report.rows(), report.notes());
-    for number in numbers {
-        if let (Some(row), Some(note)) = (rows.get(*number), notes.get(*number)) {
-            explainer.push_row(&mut text, row, note)?;
-        }
-    }
-    Ok(text)
+    let form = ExplainedAs::Text;
+    let faults = ExplainedFaults::of(alloc, form, grounds, report, numbers)?;
+    Ok(faults.into_text())
 }

@@ -168,7 +168,7 @@ fn help_behind(
         phrase_text(alloc, origin, help_of(origin, has_rules(alloc, origin)?))?,
     ]?;
     if place.fault.code == Code::NeedMissing {
-        help.push(phrase_text(alloc, place, need_at_call_help())?)?;
+        help.push(phrase_text(alloc, place, need_at_call_help(place))?)?;
     }
     Ok(help)
 }

@@ -38,6 +38,8 @@ pub enum LockSet {
     Below,
     /// those that are held, and differ from a missing one in a subscript
     Alike,
+    /// those that are held, but not as often as they are needed
+    Again,
 }
 
 /// A fault with its line of M, what is at its column, and the note of the walk.
@@ -208,6 +210,7 @@ impl<'a> FaultPlace<'a> {
         match set {
             LockSet::Above => is_above && !is_below,
             LockSet::Below => is_below && !is_above,
+            LockSet::Again => is_above && is_below,
             _ => term.root == missing.root && !is_above && !is_below,
         }
     }
@@ -230,7 +233,9 @@ impl<'a> FaultPlace<'a> {
             LockSet::Changed => self.is_renamed(term),
             LockSet::Blocking => self.is_blocking(term),
             LockSet::SameRank => self.is_of_limit(term),
-            LockSet::Above | LockSet::Below | LockSet::Alike => self.is_beside_missing(set, term),
+            LockSet::Above | LockSet::Below | LockSet::Alike | LockSet::Again => {
+                self.is_beside_missing(set, term)
+            }
         }
     }
 

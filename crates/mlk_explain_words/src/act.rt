@@ -99,6 +99,15 @@ fn need_act(place: &FaultPlace<'_>) -> Phrase {
     if !place.has_locks(LockSet::Missing) {
         return &[Words("calls "), Name];
     }
+    if place.has_locks(LockSet::Again) {
+        return &[
+            Words("calls "),
+            Name,
+            Words(", which needs "),
+            Locks(LockSet::Missing),
+            Words(" once more than it is held"),
+        ];
+    }
     &[
         Words("calls "),
         Name,

@@ -68,7 +68,7 @@ fn order_help(place: &FaultPlace<'_>) -> Phrase {
             Words("acquire "),
             Locks(LockSet::Missing),
             Words(
-                ", since $ORDER may find any node there; or keep a list of the nodes under a lock of its own",
+                ", since $ORDER may find any node there; or keep a list of the nodes under a lock of its own; or free the reads of the cover, if a list may be out of date",
             ),
         ],
         _ => &[],
@@ -250,6 +250,13 @@ fn need_help(place: &FaultPlace<'_>) -> Phrase {
             Words(" above it"),
         ];
     }
+    if place.has_locks(LockSet::Again) {
+        return &[
+            Words("acquire "),
+            Locks(LockSet::Missing),
+            Words(" once more, or let the callee release it once"),
+        ];
+    }
     let renamed = renamed_help(place);
     if !renamed.is_empty() {
         return renamed;
@@ -346,8 +353,16 @@ pub fn help_of(place: &FaultPlace<'_>, has_rule: bool) -> Phrase {
     }
 }
 
-/// What mends a missing need, if the caller can meet it instead.
-pub fn need_at_call_help() -> Phrase {
+/// What mends a missing need at `place`, which calls, if the caller can meet it instead.
+pub fn need_at_call_help(place: &FaultPlace<'_>) -> Phrase {
+    if place.has_locks(LockSet::Again) {
+        return &[
+            Words("or acquire "),
+            Locks(LockSet::Missing),
+            Words(" once more before the call in "),
+            Entry,
+        ];
+    }
     &[
         Words("or hold "),
         Locks(LockSet::Missing),

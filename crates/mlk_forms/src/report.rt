@@ -15,7 +15,7 @@ use mlk_baseline::Comparison;
 use mlk_cli::{Output, ReportStyle};
 use mlk_coverage::Coverage;
 use mlk_explain::{
-    FaultsBehind, Grounds, Story, explained_rows, explained_rows_at, notes_below, stories_at,
+    ExplainedFaults, Grounds, Story, explained_rows, explained_rows_at, notes_below, stories_at,
     stories_of,
 };
 use mlk_output::{Findings, ReportSources, known_in, report_json, report_sarif};
@@ -37,7 +37,7 @@ pub struct PrintedReport {
 pub struct Explanations<'a> {
     pub grounds: &'a Grounds<'a>,
     /// in the form that the style of the report asks for
-    pub behind: &'a FaultsBehind,
+    pub behind: &'a ExplainedFaults,
     /// how much the report is about, if that is reported
     pub coverage: Option<&'a Coverage<'a>>,
     /// which faults are known, if they are compared with known ones

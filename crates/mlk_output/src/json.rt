@@ -11,11 +11,11 @@ use crate::notice::{Notice, NoticePlace};
 use crate::row::{ReportSources, RoutineNumbers};
 use crate::story::{Findings, add_story, texts_value};
 use mlk_code_pages::page_of;
-use mlk_explain::{FaultsBehind, Story};
+use mlk_explain::{ExplainedFaults, Story};
 use mlk_hazards::HazardAt;
 use mlk_report_text::{Field, object};
 use mlk_walk::Row;
-use serde_json::{Map, Value, put};
+use serde_json::{Map, Value, json, put};
 use std::alloc::{AllocError, Global};
 
 fn row_value(
@@ -94,16 +94,16 @@ fn hazards_value(
     Ok(Value::Array(values))
 }
 
-/// The faults behind those of a report, as a list.
-pub(crate) fn behind_value(
+/// Faults as a list, each with what is known of it.
+pub(crate) fn explained_value(
     alloc: Global,
     inputs: &ReportSources<'_>,
-    behind: &FaultsBehind,
+    faults: &ExplainedFaults,
 ) -> Result<Value, AllocError> {
-    let rows = behind.rows();
+    let rows = faults.rows();
     let mut values = Vec::with_capacity(alloc, rows.len())?;
     for (number, row) in rows.iter().enumerate() {
-        values.push(row_value(alloc, inputs, row, behind.story(number))?)?;
+        values.push(row_value(alloc, inputs, row, faults.story(number))?)?;
     }
     Ok(Value::Array(values))
 }
@@ -119,7 +119,7 @@ fn other_members(
         add_comparison(alloc, comparison, &mut members)?;
     }
     if !findings.behind.rows().is_empty() {
-        let behind = behind_value(alloc, inputs, findings.behind)?;
+        let behind = explained_value(alloc, inputs, findings.behind)?;
         put(&mut members, alloc, "behind", behind)?;
     }
     if let Some(coverage) = findings.coverage {
@@ -170,21 +170,31 @@ fn refusal_value(alloc: Global, notice: &Notice<'_>) -> Result<Value, AllocError
         Some(place) => place_value(alloc, place)?,
         None => Value::Null,
     };
+    let page = page_of(notice.code);
+    let hint = page.hint;
+    let help = json!(in alloc; [hint])?;
     let members = vec![in alloc;
         ("code", Field::Number(usize::from(notice.code.number()))),
         ("name", Field::Bytes(notice.code.word())),
+        ("meaning", Field::Text(page.meaning)),
         ("text", Field::Bytes(notice.line)),
         ("place", Field::Value(place)),
+        ("help", Field::Value(help)),
     ]?;
     object(alloc, members)
 }
 
-/// A refusal as one JSON object, on lines with indents: `answer`, which is `refused`, and `refusal`.
+/// A refusal as one JSON object, on lines with indents: `answer`, which is `refused`, `refusal`, and `faults`, if any were found
+/// all the same.
 pub fn notice_json(alloc: Global, notice: &Notice<'_>) -> Result<String, AllocError> {
     let refusal = refusal_value(alloc, notice)?;
-    let members = vec![in alloc;
+    let mut members = vec![in alloc;
         ("answer", Field::Text("refused")),
         ("refusal", Field::Value(refusal)),
     ]?;
+    if let Some(found) = &notice.despite {
+        let faults = explained_value(alloc, found.inputs, found.faults)?;
+        members.push(("faults", Field::Value(faults)))?;
+    }
     object(alloc, members)?.to_string_pretty(alloc)
 }

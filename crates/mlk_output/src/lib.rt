@@ -19,7 +19,7 @@ mod story;
 
 pub use comparison::known_in;
 pub use json::{notice_json, report_json};
-pub use notice::{Notice, NoticePlace};
+pub use notice::{FoundDespite, Notice, NoticePlace};
 pub use row::ReportSources;
 pub use sarif::{notice_sarif, report_sarif};
 pub use story::Findings;

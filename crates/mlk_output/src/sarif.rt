@@ -9,7 +9,7 @@ use crate::finding::{Finding, WayStep, fingerprints_value, result_value};
 use crate::gap::file_of;
 use crate::hash::{HashedLine, HashedLines, ProgramLines};
 use crate::hazard::hazard_is_what;
-use crate::json::behind_value;
+use crate::json::explained_value;
 use crate::notice::{Notice, NoticePlace};
 use crate::region::{ROOT, file_value, physical_value};
 use crate::row::{ReportSources, RoutineNumbers};
@@ -285,7 +285,7 @@ fn add_properties(
 ) -> Result<(), AllocError> {
     let mut properties = Vec::new(alloc);
     if !findings.behind.rows().is_empty() {
-        let faults = behind_value(alloc, inputs, findings.behind)?;
+        let faults = explained_value(alloc, inputs, findings.behind)?;
         properties.push(("behind", Field::Value(faults)))?;
     }
     if let Some(coverage) = findings.coverage {
@@ -407,13 +407,25 @@ fn refused_invocation(
     })
 }
 
+// Adds the faults that were found all the same to the properties of the run of a refusal.
+fn add_found(alloc: Global, notice: &Notice<'_>, run: &mut Members) -> Result<(), AllocError> {
+    let Some(found) = &notice.despite else {
+        return Ok(());
+    };
+    let faults = explained_value(alloc, found.inputs, found.faults)?;
+    let properties = member(alloc, "faults", Field::Value(faults))?;
+    put(run, alloc, "properties", properties)
+}
+
 /// Writes a refusal as SARIF: a run that was not successful, whose one result is the refusal at its place, or at the file that
-/// it is about. So a build server doesn't take the run for one without faults.
+/// it is about. So a build server doesn't take the run for one without faults. Faults that were found all the same are a property
+/// of the run.
 pub fn notice_sarif(alloc: Global, notice: &Notice<'_>) -> Result<String, AllocError> {
     let line = refused_line(alloc, notice)?;
     let mut results = Vec::new(alloc);
     results.push(refusal_value(alloc, notice, line)?)?;
     let invocation = refused_invocation(alloc, notice, line)?;
-    let run = run_members(alloc, rules_values(alloc)?, invocation)?;
+    let mut run = run_members(alloc, rules_values(alloc)?, invocation)?;
+    add_found(alloc, notice, &mut run)?;
     sarif_document(alloc, results, run)
 }

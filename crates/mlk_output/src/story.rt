@@ -3,7 +3,7 @@
 use crate::row::ReportSources;
 use mlk_baseline::Comparison;
 use mlk_coverage::{Coverage, Gap};
-use mlk_explain::{FaultsBehind, OriginStory, Story, WayPoint};
+use mlk_explain::{ExplainedFaults, OriginStory, Story, WayPoint};
 use mlk_hazards::HazardAt;
 use mlk_report_text::Piece::{Bytes, Listed, Words};
 use mlk_report_text::{Field, escape_bytes, object, text_of};
@@ -19,7 +19,7 @@ pub struct Findings<'a> {
     /// what is known besides, if faults are compared with known ones
     pub comparison: Option<&'a Comparison<'a>>,
     pub stories: Vec<Option<Story>>,
-    pub behind: &'a FaultsBehind,
+    pub behind: &'a ExplainedFaults,
     /// how much the report is about, if that is reported
     pub coverage: Option<&'a Coverage<'a>>,
     /// empty unless hazards are reported
