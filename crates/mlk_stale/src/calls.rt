@@ -7,7 +7,7 @@ use mlk_syntax::Actual;
 use mlk_text::{Name, push_sparing};
 use std::alloc::{AllocError, Global};
 
-// The name that is passed by reference for the formal with this index, or `None`.
+// The name that is passed by reference for the formal number `index`, or `None`.
 fn passed_name(actuals: &[Actual], index: usize) -> Option<&Name> {
     match actuals.get(index) {
         Some(Actual::ByRef(_, name)) => Some(name),
@@ -16,7 +16,7 @@ fn passed_name(actuals: &[Actual], index: usize) -> Option<&Name> {
 }
 
 impl<'a> Path<'a> {
-    // The value that is passed for the formal with this index, or `None`.
+    // The value that is passed for the formal number `index`, or `None`.
     fn passed_worth(
         &mut self,
         namer: &mut Namer,
@@ -50,7 +50,7 @@ impl<'a> Path<'a> {
         Ok(passed)
     }
 
-    /// Makes a call of the lines at a step: the formals get the actuals, which are taken off the stack.
+    /// Makes `call`, whose lines begin at the step `target`: the formals get the actuals, which are taken off the stack.
     pub(crate) fn enter(
         &mut self,
         alloc: Global,
@@ -104,7 +104,7 @@ impl<'a> Path<'a> {
         Ok(())
     }
 
-    /// Returns from the innermost call with this value, if there is one. Returns whether there was a call.
+    /// Returns from the innermost call, with `value` if there is one. `false` if there was no call.
     pub(crate) fn leave(
         &mut self,
         alloc: Global,

@@ -32,7 +32,7 @@ fn walk_entries<'a>(
     Ok(())
 }
 
-// The lines of a routine at which labels begin, or the routine itself.
+// Whether a label or the routine begins at `line`, which has this index.
 fn is_entry(index: usize, line: &Line) -> bool {
     index == 0 || line.label.is_some()
 }
@@ -61,7 +61,7 @@ fn walk_labels<'a>(
     Ok(())
 }
 
-// Adds a write to those that are kept, if it is stale.
+// Adds `write` to `kept`, if it is stale.
 fn keep_if_stale<'a>(
     alloc: Global,
     rules: &Rules,

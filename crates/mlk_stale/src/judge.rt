@@ -11,7 +11,7 @@ use mlk_rules::{Rules, check_reference};
 use mlk_text::copy_of;
 use std::alloc::{AllocError, Global};
 
-// Whether both lists are equal.
+// Whether `items` and `others` are equal.
 fn are_equal<T: PartialEq>(items: &[T], others: &[T]) -> bool
     requires { (x y : T) → Decides (T.eq x y) (x ≡ y) }
     ensures { IsTrue result ↔ (items.now ≡ others.now) }
@@ -19,7 +19,7 @@ fn are_equal<T: PartialEq>(items: &[T], others: &[T]) -> bool
     items == others
 }
 
-// Whether the first reads the node that the second writes.
+// Whether `read` reads the node that `written` writes.
 fn reads_written(read: &Reference, written: &Reference) -> bool
     ensures { IsTrue result ↔ ReadsWritten read.now written.now }
 {
@@ -42,14 +42,14 @@ fn names_of(alloc: Global, held: &[HeldLock]) -> Result<Vec<LockTerm>, AllocErro
     Ok(names)
 }
 
-// Whether a lock was held already when the read with this number was made.
+// Whether `lock` was held already when the read number `read` was made.
 fn is_held_at(lock: &HeldLock, read: usize) -> bool
     ensures { result ≡ nat_le lock.now.since read }
 {
     lock.since <= read
 }
 
-// The names of those of `held` that were held already when the read with this number was made.
+// The names of those of `held` that were held already when the read number `read` was made.
 fn names_at(alloc: Global, held: &[HeldLock], read: usize) -> Result<Vec<LockTerm>, AllocError>
     ensures { IfOk result (λ names. names.items ≡ names_of (held_at read held.now)) }
 {
@@ -62,7 +62,7 @@ fn names_at(alloc: Global, held: &[HeldLock], read: usize) -> Result<Vec<LockTer
     Ok(names)
 }
 
-// Whether these locks cover a reference.
+// Whether the locks `held` cover `reference`.
 #[tactic(auto, using(crate::proofs::Covered::not_covered))]
 fn is_covered(rules: &Rules, held: &[LockTerm], reference: &Reference) -> bool
     ensures { IsTrue result ↔ IsCovered rules.now held.now reference.now }
@@ -73,7 +73,7 @@ fn is_covered(rules: &Rules, held: &[LockTerm], reference: &Reference) -> bool
     }
 }
 
-/// Whether a write is stale.
+/// Whether `write` is stale.
 pub fn is_stale(alloc: Global, rules: &Rules, write: &StaleWrite<'_>) -> Result<bool, AllocError>
     ensures { IfOk result (λ stale. IsTrue stale ↔ IsStale rules.now write.now) }
 {

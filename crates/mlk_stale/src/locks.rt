@@ -19,7 +19,7 @@ fn root_of(name: &Variable) -> Result<Option<(Root, usize)>, AllocError> {
     }
 }
 
-// The number of subscripts of all names of an argument of LOCK.
+// The number of subscripts of all names of `argument`.
 fn count_subscripts(argument: &LockArgument) -> usize {
     let mut count: usize = 0;
     for name in &argument.names {
@@ -30,7 +30,7 @@ fn count_subscripts(argument: &LockArgument) -> usize {
     count
 }
 
-// The lock with this root and these subscripts.
+// The lock with the root `root` and the subscripts `worths`.
 fn term_of(alloc: Global, root: Root, worths: &[Worth]) -> Result<LockTerm, AllocError> {
     let mut subs = TermSubs::new(alloc);
     for worth in worths {
@@ -41,7 +41,7 @@ fn term_of(alloc: Global, root: Root, worths: &[Worth]) -> Result<LockTerm, Allo
     Ok(LockTerm { root, subs })
 }
 
-// The locks of an argument, whose names have these subscripts, one after another.
+// The locks of `argument`, whose names have the subscripts `worths`, one after another.
 fn terms_of(
     alloc: Global,
     argument: &LockArgument,
@@ -61,7 +61,7 @@ fn terms_of(
 }
 
 impl<'a> Path<'a> {
-    /// Takes the subscripts of the names of an argument of LOCK off the stack, and returns its locks.
+    /// Takes the subscripts of the names of `argument` off the stack, and returns its locks.
     pub(crate) fn take_terms(
         &mut self,
         alloc: Global,
@@ -71,7 +71,7 @@ impl<'a> Path<'a> {
         terms_of(alloc, argument, worths.as_slice())
     }
 
-    /// Claims a lock, after this many reads.
+    /// Claims `term`, after `since` reads.
     pub(crate) fn claim(&mut self, term: LockTerm, since: usize) -> Result<(), AllocError> {
         for holding in self.held.iter_mut() {
             if holding.lock.name == term {
@@ -83,7 +83,7 @@ impl<'a> Path<'a> {
         push_sparing(&mut self.held, Holding { lock, count: 1 })
     }
 
-    /// Releases a lock once.
+    /// Releases `term` once.
     pub(crate) fn release(&mut self, term: &LockTerm) {
         for holding in self.held.iter_mut() {
             if holding.lock.name == *term {

@@ -57,7 +57,7 @@ pub(crate) struct Path<'a> {
 }
 
 impl<'a> Path<'a> {
-    /// A path that begins at the step with this index: nothing is held, and nothing is known.
+    /// A path that begins at the step `at`: nothing is held, and nothing is known.
     pub(crate) fn new(alloc: Global, at: usize) -> Path<'a> {
         Path {
             at,
@@ -76,7 +76,7 @@ impl<'a> Path<'a> {
         push_sparing(&mut self.stack, worth)
     }
 
-    /// Takes this many values off the stack, and returns them in the order in which they were put there.
+    /// Takes `count` values off the stack, and returns them in the order in which they were put there.
     pub(crate) fn take(&mut self, alloc: Global, count: usize) -> Result<Vec<Worth>, AllocError> {
         let mut taken = Vec::new(alloc);
         for _ in 0..count {
@@ -88,13 +88,13 @@ impl<'a> Path<'a> {
         Ok(taken)
     }
 
-    /// Removes this many values from the stack.
+    /// Removes `count` values from the stack.
     pub(crate) fn discard(&mut self, count: usize) {
         let left = self.stack.len().saturating_sub(count);
         self.stack.truncate(left);
     }
 
-    /// The reference of a use of a global, whose subscripts are taken off the stack.
+    /// The reference of the use at `place`, whose subscripts are taken off the stack.
     pub(crate) fn take_reference(
         &mut self,
         alloc: Global,
@@ -114,7 +114,7 @@ impl<'a> Path<'a> {
         })
     }
 
-    // The index of the local with this name, which is added if it is missing.
+    // The index of the local `name`, which is added if it is missing.
     fn local_index(&mut self, name: &'a [u8]) -> Result<usize, AllocError> {
         if let Some(index) = self.locals.iter().position(|local| local.name == name) {
             return Ok(index);
@@ -124,7 +124,7 @@ impl<'a> Path<'a> {
         Ok(index)
     }
 
-    /// Gives a local a value, and returns the one that it had.
+    /// Gives the local `name` a value, and returns the one that it had.
     pub(crate) fn replace(
         &mut self,
         name: &'a [u8],
@@ -137,7 +137,7 @@ impl<'a> Path<'a> {
         }
     }
 
-    /// The value of a local. One of which nothing is known yet gets a value.
+    /// The value of the local `name`. If it is not known yet, it gets a symbol.
     pub(crate) fn worth_of(
         &mut self,
         namer: &mut Namer,
@@ -150,7 +150,7 @@ impl<'a> Path<'a> {
         Ok(copy)
     }
 
-    /// Hides a local until the innermost call returns.
+    /// Hides the local `name` until the innermost call returns.
     pub(crate) fn hide(&mut self, name: &'a Name, worth: Option<Worth>) -> Result<(), AllocError> {
         let name = name.as_bytes();
         let old = self.replace(name, worth)?;

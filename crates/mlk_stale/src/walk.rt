@@ -25,10 +25,10 @@ const MOST_BRANCHES: usize = 16;
 /// The maximum number of calls and blocks that a path is in.
 const MOST_FRAMES: usize = 24;
 
-/// Whether a path goes on.
+/// Whether a path continues.
 #[derive(Clone, Copy, Drop, PartialEq, Eq)]
 enum Fate {
-    GoesOn,
+    Continues,
     Ends,
 }
 
@@ -39,7 +39,7 @@ pub(crate) struct Walk<'w, 'a> {
     rules: &'w Rules,
     code: &'w Code<'a>,
     namer: Namer,
-    /// the reads that were made in the walk from this label
+    /// the reads in the walk from the current label
     reads: Vec<ReadAt<'a>>,
     /// the paths that have not ended
     paths: Vec<Path<'a>>,
@@ -74,7 +74,7 @@ impl<'w, 'a> Walk<'w, 'a> {
         })
     }
 
-    // Counts a branch at the step before `at`, and returns whether it is followed.
+    // Counts a branch of a path that is at `at`, and returns whether it is followed.
     fn may_branch(&mut self, at: usize) -> Result<bool, AllocError> {
         let Some(count) = self.branches.get_mut(at) else {
             return Ok(false);
@@ -87,7 +87,7 @@ impl<'w, 'a> Walk<'w, 'a> {
         Ok(true)
     }
 
-    // Begins a path that goes on from `path` at a step, where `$TEST` is so.
+    // Begins a path that continues `path` at the step `target`, where `$TEST` is `test`.
     fn branch(
         &mut self,
         path: &Path<'a>,
@@ -103,7 +103,7 @@ impl<'w, 'a> Walk<'w, 'a> {
         push_sparing(&mut self.paths, other)
     }
 
-    // Goes on if a condition may hold, and jumps if it may fail. `$TEST` is then as given, for each answer.
+    // Continues `path` with the next step if `condition` may hold, and at `mark` if it may fail, with the `$TEST` of `tests`.
     fn decide(
         &mut self,
         path: &mut Path<'a>,
@@ -124,7 +124,7 @@ impl<'w, 'a> Walk<'w, 'a> {
         Ok(())
     }
 
-    // Ends a round of a FOR: after the first, another one comes; after the second, none does.
+    // Ends a round of a FOR: a second one follows the first, and none follows the second.
     fn end_round(
         &mut self,
         path: &mut Path<'a>,
@@ -134,7 +134,7 @@ impl<'w, 'a> Walk<'w, 'a> {
         let is_later = path.rounds.pop() == Some(true);
         if is_later {
             return Ok(match rounds {
-                Rounds::Limited => Fate::GoesOn,
+                Rounds::Limited => Fate::Continues,
                 Rounds::Endless => Fate::Ends,
             });
         }
@@ -143,7 +143,7 @@ impl<'w, 'a> Walk<'w, 'a> {
         }
         push_sparing(&mut path.rounds, true)?;
         path.at = self.code.address(start);
-        Ok(Fate::GoesOn)
+        Ok(Fate::Continues)
     }
 
     fn jump(&mut self, path: &mut Path<'a>, jump: Jump) -> Result<Fate, AllocError> {
@@ -170,7 +170,7 @@ impl<'w, 'a> Walk<'w, 'a> {
                 path.at = self.code.address(mark);
             }
         }
-        Ok(Fate::GoesOn)
+        Ok(Fate::Continues)
     }
 
     // Puts values on the stack, and takes them off.
@@ -241,7 +241,7 @@ impl<'w, 'a> Walk<'w, 'a> {
         path.put(self.namer.make_worth(reads)?)
     }
 
-    // The number of the last read on a path that may reach a node.
+    // The number of the last read on `path` that may reach `node`.
     fn last_read(&self, path: &Path<'a>, node: &Reference) -> Option<usize> {
         path.reads.iter().rev().copied().find(|number| match self.reads.get(*number) {
             Some(read) => may_overlap(&read.reference, node),
@@ -249,7 +249,7 @@ impl<'w, 'a> Walk<'w, 'a> {
         })
     }
 
-    // Adds a write of a value that comes from a read, if it is stale.
+    // Adds the write at `place`, whose value comes from the read `number`, if it is stale.
     fn add_stale(
         &mut self,
         path: &Path<'a>,
@@ -275,7 +275,7 @@ impl<'w, 'a> Walk<'w, 'a> {
         Ok(())
     }
 
-    // Writes the last value. If only a part of it is written, the rest is read.
+    // Writes the last value of the stack. If only a part of the node is written, the rest of it is read.
     fn write(
         &mut self,
         path: &mut Path<'a>,
@@ -302,7 +302,7 @@ impl<'w, 'a> Walk<'w, 'a> {
         Ok(())
     }
 
-    // Claims or releases the names of an argument of LOCK. A claim with a timeout may fail.
+    // Claims or releases the names of `argument`. A claim with a timeout may fail.
     fn lock(&mut self, path: &mut Path<'a>, argument: &'a LockArgument) -> Result<(), AllocError> {
         let terms = path.take_terms(self.alloc, argument)?;
         if argument.sign == Sign::Minus {
@@ -331,12 +331,12 @@ impl<'w, 'a> Walk<'w, 'a> {
         self.add_called(call.mark);
         let target = self.code.address(call.mark);
         path.enter(self.alloc, &mut self.namer, call, target)?;
-        Ok(Fate::GoesOn)
+        Ok(Fate::Continues)
     }
 
     fn leave(&mut self, path: &mut Path<'a>, value: Option<Worth>) -> Result<Fate, AllocError> {
         if path.leave(self.alloc, &mut self.namer, value)? {
-            Ok(Fate::GoesOn)
+            Ok(Fate::Continues)
         } else {
             Ok(Fate::Ends)
         }
@@ -360,10 +360,10 @@ impl<'w, 'a> Walk<'w, 'a> {
             }
             Step::Halt => return Ok(Fate::Ends),
         }
-        Ok(Fate::GoesOn)
+        Ok(Fate::Continues)
     }
 
-    // Does the next step of a path, which goes on or ends.
+    // Does the next step of `path`, which continues or ends.
     fn advance(&mut self, path: Path<'a>) -> Result<(), AllocError> {
         let mut path = path;
         let code = self.code;
@@ -371,7 +371,7 @@ impl<'w, 'a> Walk<'w, 'a> {
             return Ok(());
         };
         path.at = path.at.saturating_add(1);
-        if self.act(&mut path, step)? == Fate::GoesOn {
+        if self.act(&mut path, step)? == Fate::Continues {
             push_sparing(&mut self.paths, path)?;
         }
         Ok(())

@@ -14,14 +14,14 @@ pub(crate) struct Worth {
 }
 
 impl Worth {
-    /// A value with this symbol, which comes from no read.
+    /// A value with the symbol `symbol`, which comes from no read.
     pub(crate) fn of(alloc: Global, symbol: Sym) -> Worth {
         let reads = Vec::new(alloc);
         Worth { symbol, reads }
     }
 }
 
-/// Makes names for values of which nothing else is known.
+/// Makes symbols for unknown values.
 #[derive(Drop)]
 pub(crate) struct Namer {
     alloc: Global,
@@ -33,25 +33,25 @@ impl Namer {
         Namer { alloc, count: 0 }
     }
 
-    // Makes the symbol of a value that is like no other.
+    // Makes a symbol that no other value has.
     fn make_symbol(&mut self) -> Result<Sym, AllocError> {
         self.count = self.count.saturating_add(1);
         let text = format!(in self.alloc; "{}", self.count)?;
         Ok(Sym::Local(Name::of(self.alloc, text.as_bytes())?))
     }
 
-    /// Makes a value that comes from these reads.
+    /// Makes a value that comes from `reads`.
     pub(crate) fn make_worth(&mut self, reads: Vec<usize>) -> Result<Worth, AllocError> {
         let symbol = self.make_symbol()?;
         Ok(Worth { symbol, reads })
     }
 
-    /// Makes a value of which nothing is known.
+    /// Makes an unknown value.
     pub(crate) fn make_unknown(&mut self) -> Result<Worth, AllocError> {
         self.make_worth(Vec::new(self.alloc))
     }
 
-    /// This value, or one of which nothing is known.
+    /// The value `known`, or an unknown one.
     pub(crate) fn known_or_made(&mut self, known: Option<Worth>) -> Result<Worth, AllocError> {
         match known {
             Some(worth) => Ok(worth),

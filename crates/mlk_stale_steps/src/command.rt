@@ -114,7 +114,7 @@ fn add_jobs<'a>(
     Ok(())
 }
 
-// Adds a change of a local to a value of which nothing is known.
+// Adds a change of `variable` to an unknown value.
 fn add_change<'a>(writer: &mut Writer<'_, 'a>, variable: &'a Variable) -> Result<(), AllocError> {
     match &variable.name {
         Expr::Local(name, subscripts) if subscripts.is_empty() => {
@@ -159,7 +159,7 @@ fn add_locks<'a>(
     Ok(())
 }
 
-// Adds a MERGE, of which only the read of its source matters.
+// Adds a MERGE: only the read of its source matters.
 fn add_merge<'a>(
     writer: &mut Writer<'_, 'a>,
     argument: &'a MergeArgument,

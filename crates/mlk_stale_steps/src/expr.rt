@@ -71,7 +71,7 @@ pub(crate) fn add_subscripts<'a>(
     Ok(())
 }
 
-/// Adds the steps of `actuals`, in order. Nothing is known of the value of one that is missing or passed by reference.
+/// Adds the steps of `actuals`, in order. One that is missing or passed by reference has an unknown value.
 #[cycle(writing)]
 pub(crate) fn add_actuals<'a>(
     writer: &mut Writer<'_, 'a>,
@@ -136,7 +136,7 @@ fn add_choices<'a>(
     Ok(())
 }
 
-// Adds the steps of the arguments of a function, each of which puts one value.
+// Adds the steps of the arguments of `function`: each puts one value.
 #[cycle(writing)]
 fn add_function<'a>(
     writer: &mut Writer<'_, 'a>,

@@ -116,11 +116,11 @@ pub enum StackStep<'a> {
     Local(&'a Name),
     /// puts the last value once more
     Copy,
-    /// takes this many values, and puts one that comes from them
+    /// takes a number of values, and puts one that comes from them
     Combine(usize),
-    /// takes this many values, and puts one of which nothing is known
+    /// takes a number of values, and puts an unknown one
     Forget(usize),
-    /// takes this many values
+    /// takes a number of values
     Discard(usize),
 }
 

@@ -78,7 +78,7 @@ impl<'p, 'a> Writer<'p, 'a> {
         push_sparing(&mut self.steps, Step::Jump(step))
     }
 
-    /// Adds that this many values are taken off the stack.
+    /// Adds that `count` values are taken off the stack.
     pub(crate) fn discard(&mut self, count: usize) -> Result<(), AllocError> {
         if count == 0 {
             return Ok(());
