@@ -73,6 +73,30 @@ fn is_covered(rules: &Rules, held: &[LockTerm], reference: &Reference) -> bool
     }
 }
 
+// Whether the locks that are held at `write` cover it.
+fn is_covered_at_write(
+    alloc: Global,
+    rules: &Rules,
+    write: &StaleWrite<'_>,
+) -> Result<bool, AllocError>
+    ensures { IfOk result (λ covered. IsTrue covered ↔ IsCovered rules.now (names_of write.now.held.items) write.now.reference) }
+{
+    let held = names_of(alloc, write.held.as_slice())?;
+    Ok(is_covered(rules, held.as_slice(), &write.reference))
+}
+
+// Whether those of them that were held already at the last read cover `write`.
+fn is_covered_at_read(
+    alloc: Global,
+    rules: &Rules,
+    write: &StaleWrite<'_>,
+) -> Result<bool, AllocError>
+    ensures { IfOk result (λ covered. IsTrue covered ↔ IsCovered rules.now (names_of (held_at write.now.last_read write.now.held.items)) write.now.reference) }
+{
+    let held = names_at(alloc, write.held.as_slice(), write.last_read)?;
+    Ok(is_covered(rules, held.as_slice(), &write.reference))
+}
+
 /// Whether `write` is stale.
 pub fn is_stale(alloc: Global, rules: &Rules, write: &StaleWrite<'_>) -> Result<bool, AllocError>
     ensures { IfOk result (λ stale. IsTrue stale ↔ IsStale rules.now write.now) }
@@ -80,10 +104,10 @@ pub fn is_stale(alloc: Global, rules: &Rules, write: &StaleWrite<'_>) -> Result<
     if !reads_written(&write.read.reference, &write.reference) {
         return Ok(false);
     }
-    let held = names_of(alloc, write.held.as_slice())?;
-    if !is_covered(rules, held.as_slice(), &write.reference) {
+    let is_covered = is_covered_at_write(alloc, rules, write)?;
+    if !is_covered {
         return Ok(false);
     }
-    let kept = names_at(alloc, write.held.as_slice(), write.last_read)?;
-    Ok(!is_covered(rules, kept.as_slice(), &write.reference))
+    let was_covered = is_covered_at_read(alloc, rules, write)?;
+    Ok(!was_covered)
 }
