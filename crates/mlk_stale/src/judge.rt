@@ -63,14 +63,10 @@ fn names_at(alloc: Global, held: &[HeldLock], read: usize) -> Result<Vec<LockTer
 }
 
 // Whether the locks `held` cover `reference`.
-#[tactic(auto, using(crate::proofs::Covered::not_covered))]
 fn is_covered(rules: &Rules, held: &[LockTerm], reference: &Reference) -> bool
     ensures { IsTrue result ↔ IsCovered rules.now held.now reference.now }
 {
-    match check_reference(rules, reference, held) {
-        Ok(()) => true,
-        Err(_) => false,
-    }
+    check_reference(rules, reference, held).is_ok()
 }
 
 // Whether the locks that are held at `write` cover it.
