@@ -72,7 +72,8 @@ fn keep_if_stale<'a>(
     requires { All (IsStale rules.now) (values kept.old) }
     ensures { OnOk result (All (IsStale rules.now) (values kept.new)) }
 {
-    if !is_stale(alloc, rules, &write)? {
+    let stale = is_stale(alloc, rules, &write)?;
+    if !stale {
         return Ok(());
     }
     kept.insert(position, write)?;
