@@ -1,0 +1,104 @@
+// Claims and releases on a path.
+
+use crate::path::{Holding, Path};
+use crate::stale::HeldLock;
+use crate::worth::Worth;
+use mlk_names::{KnownSym, LockTerm, Root, TermSubs};
+use mlk_syntax::{Expr, LockArgument, Variable};
+use mlk_text::push_sparing;
+use std::alloc::{AllocError, Global};
+
+// The root of a lock name, and the number of its subscripts; `None` if it is neither a local nor a global.
+fn root_of(name: &Variable) -> Result<Option<(Root, usize)>, AllocError> {
+    match &name.name {
+        Expr::Local(local, subscripts) => Ok(Some((Root::Local(local.copy()?), subscripts.len()))),
+        Expr::Global(_, global, subscripts) => {
+            Ok(Some((Root::Global(global.copy()?), subscripts.len())))
+        }
+        _ => Ok(None),
+    }
+}
+
+// The number of subscripts of all names of `argument`.
+fn count_subscripts(argument: &LockArgument) -> usize {
+    let mut count: usize = 0;
+    for name in &argument.names {
+        if let Expr::Local(_, subscripts) | Expr::Global(_, _, subscripts) = &name.name {
+            count = count.saturating_add(subscripts.len());
+        }
+    }
+    count
+}
+
+// The lock with the root `root` and the subscripts `worths`.
+fn term_of(alloc: Global, root: Root, worths: &[Worth]) -> Result<LockTerm, AllocError> {
+    let mut subs = TermSubs::new(alloc);
+    for worth in worths {
+        if let Some(symbol) = worth.symbol.to_known()? {
+            subs.push(symbol)?;
+        }
+    }
+    Ok(LockTerm { root, subs })
+}
+
+// The locks of `argument`, whose names have the subscripts `worths`, one after another.
+fn terms_of(
+    alloc: Global,
+    argument: &LockArgument,
+    worths: &[Worth],
+) -> Result<Vec<LockTerm>, AllocError> {
+    let mut terms = Vec::new(alloc);
+    let mut left = worths;
+    for name in &argument.names {
+        let Some((root, count)) = root_of(name)? else {
+            continue;
+        };
+        let (own, rest) = left.split_at(count.min(left.len()));
+        push_sparing(&mut terms, term_of(alloc, root, own)?)?;
+        left = rest;
+    }
+    Ok(terms)
+}
+
+impl<'a> Path<'a> {
+    /// Takes the subscripts of the names of `argument` off the stack, and returns its locks.
+    pub(crate) fn take_terms(
+        &mut self,
+        alloc: Global,
+        argument: &LockArgument,
+    ) -> Result<Vec<LockTerm>, AllocError> {
+        let worths = self.take(alloc, count_subscripts(argument))?;
+        terms_of(alloc, argument, worths.as_slice())
+    }
+
+    /// Claims `term`, after `since` reads.
+    pub(crate) fn claim(&mut self, term: LockTerm, since: usize) -> Result<(), AllocError> {
+        for holding in self.held.iter_mut() {
+            if holding.lock.name == term {
+                holding.count = holding.count.saturating_add(1);
+                return Ok(());
+            }
+        }
+        let lock = HeldLock { name: term, since };
+        push_sparing(&mut self.held, Holding { lock, count: 1 })
+    }
+
+    /// Releases `term` once.
+    pub(crate) fn release(&mut self, term: &LockTerm) {
+        for holding in self.held.iter_mut() {
+            if holding.lock.name == *term {
+                holding.count = holding.count.saturating_sub(1);
+            }
+        }
+        self.held.retain(|holding| holding.count > 0);
+    }
+
+    /// The locks that are held.
+    pub(crate) fn held_locks(&self, alloc: Global) -> Result<Vec<HeldLock>, AllocError> {
+        let mut locks = Vec::new(alloc);
+        for holding in &self.held {
+            push_sparing(&mut locks, holding.lock.clone()?)?;
+        }
+        Ok(locks)
+    }
+}

@@ -1,0 +1,418 @@
+// The walk over the steps, one path at a time.
+
+use crate::answer::{Tests, may_be};
+use crate::judge::is_stale;
+use crate::path::Path;
+use crate::stale::{ReadAt, StaleWrite};
+use crate::worth::{Namer, Worth};
+use mlk_names::{Access, Reference, Sym, may_overlap};
+use mlk_rules::Rules;
+use mlk_stale_steps::{
+    Amount, Call, Change, Code, Condition, Jump, Mark, Rounds, StackStep, Step, Use,
+};
+use mlk_survey_trees::Position;
+use mlk_syntax::{LockArgument, Sign};
+use mlk_text::push_sparing;
+use std::alloc::{AllocError, Global};
+use std::collections::BTreeMap;
+
+/// The maximum number of steps that are walked from one label.
+const MOST_STEPS: usize = 10_000;
+
+/// The maximum number of times that a path branches at one step, in the walk from one label.
+const MOST_BRANCHES: usize = 16;
+
+/// The maximum number of calls and blocks that a path is in.
+const MOST_FRAMES: usize = 24;
+
+/// Whether a path continues.
+#[derive(Clone, Copy, Drop, PartialEq, Eq)]
+enum Fate {
+    Continues,
+    Ends,
+}
+
+/// A walk over steps.
+#[derive(Drop)]
+pub(crate) struct Walk<'w, 'a> {
+    alloc: Global,
+    rules: &'w Rules,
+    code: &'w Code<'a>,
+    namer: Namer,
+    /// the reads in the walk from the current label
+    reads: Vec<ReadAt<'a>>,
+    /// the paths that have not ended
+    paths: Vec<Path<'a>>,
+    /// for each step, how often a path has branched there
+    branches: Vec<usize>,
+    /// the steps where a path has branched
+    branched: Vec<usize>,
+    // for each mark, whether a call or a walk has come to it
+    called: Vec<bool>,
+    /// the stale writes that were found, by their places
+    pub(crate) found: BTreeMap<Position<'a>, StaleWrite<'a>>,
+}
+
+impl<'w, 'a> Walk<'w, 'a> {
+    /// A walk that has not begun.
+    pub(crate) fn new(
+        alloc: Global,
+        rules: &'w Rules,
+        code: &'w Code<'a>,
+    ) -> Result<Walk<'w, 'a>, AllocError> {
+        Ok(Walk {
+            alloc,
+            rules,
+            code,
+            namer: Namer::new(alloc),
+            reads: Vec::new(alloc),
+            paths: Vec::new(alloc),
+            branches: vec![in alloc; 0; code.steps.len()]?,
+            branched: Vec::new(alloc),
+            called: vec![in alloc; false; code.targets.len()]?,
+            found: BTreeMap::new(alloc),
+        })
+    }
+
+    // Counts a branch of a path that is at `at`, and returns whether it is followed.
+    fn may_branch(&mut self, at: usize) -> Result<bool, AllocError> {
+        let Some(count) = self.branches.get_mut(at) else {
+            return Ok(false);
+        };
+        if *count >= MOST_BRANCHES {
+            return Ok(false);
+        }
+        *count += 1;
+        push_sparing(&mut self.branched, at)?;
+        Ok(true)
+    }
+
+    // Begins a path that continues `path` at the step `target`, where `$TEST` is `test`.
+    fn branch(
+        &mut self,
+        path: &Path<'a>,
+        target: usize,
+        test: Option<bool>,
+    ) -> Result<(), AllocError> {
+        if !self.may_branch(path.at)? {
+            return Ok(());
+        }
+        let mut other = path.clone()?;
+        other.at = target;
+        other.test = test;
+        push_sparing(&mut self.paths, other)
+    }
+
+    // Continues `path` with the next step if `condition` may hold, and at `mark` if it may fail, with the `$TEST` of `tests`.
+    fn decide(
+        &mut self,
+        path: &mut Path<'a>,
+        condition: Condition,
+        mark: Mark,
+        tests: Tests,
+    ) -> Result<(), AllocError> {
+        let target = self.code.address(mark);
+        if !may_be(condition, path.test, true) {
+            path.at = target;
+            path.test = tests.failed;
+            return Ok(());
+        }
+        if may_be(condition, path.test, false) {
+            self.branch(path, target, tests.failed)?;
+        }
+        path.test = tests.held;
+        Ok(())
+    }
+
+    // Ends a round of a FOR: a second one follows the first, and none follows the second.
+    fn end_round(
+        &mut self,
+        path: &mut Path<'a>,
+        rounds: Rounds,
+        start: Mark,
+    ) -> Result<Fate, AllocError> {
+        let is_later = path.rounds.pop() == Some(true);
+        if is_later {
+            return Ok(match rounds {
+                Rounds::Limited => Fate::Continues,
+                Rounds::Endless => Fate::Ends,
+            });
+        }
+        if rounds == Rounds::Limited {
+            self.branch(path, path.at, path.test)?;
+        }
+        push_sparing(&mut path.rounds, true)?;
+        path.at = self.code.address(start);
+        Ok(Fate::Continues)
+    }
+
+    fn jump(&mut self, path: &mut Path<'a>, jump: Jump) -> Result<Fate, AllocError> {
+        match jump {
+            Jump::Always(mark) => path.at = self.code.address(mark),
+            Jump::Branch(condition, mark) => {
+                path.discard(1);
+                let tests = Tests::after(condition, path.test);
+                self.decide(path, condition, mark, tests)?;
+            }
+            Jump::If(condition, mark) => {
+                path.discard(1);
+                self.decide(path, condition, mark, Tests::ANSWER)?;
+            }
+            Jump::OnTest(is_set, mark) => {
+                let condition = Condition::Test(is_set);
+                let tests = Tests::after(condition, path.test);
+                self.decide(path, condition, mark, tests)?;
+            }
+            Jump::BeginFor => push_sparing(&mut path.rounds, false)?,
+            Jump::EndRound(rounds, start) => return self.end_round(path, rounds, start),
+            Jump::LeaveFor(mark) => {
+                let _ = path.rounds.pop();
+                path.at = self.code.address(mark);
+            }
+        }
+        Ok(Fate::Continues)
+    }
+
+    // Puts values on the stack, and takes them off.
+    fn change_stack(
+        &mut self,
+        path: &mut Path<'a>,
+        step: &StackStep<'a>,
+    ) -> Result<(), AllocError> {
+        let worth = match step {
+            StackStep::Constant(value) => Worth::of(self.alloc, Sym::Const(value.copy()?)),
+            StackStep::JobNumber => Worth::of(self.alloc, Sym::Job),
+            StackStep::Local(name) => path.worth_of(&mut self.namer, name)?,
+            StackStep::Copy => match path.stack.last() {
+                Some(worth) => worth.clone()?,
+                None => self.namer.make_unknown()?,
+            },
+            StackStep::Combine(count) => {
+                let parts = path.take(self.alloc, *count)?;
+                self.namer.combine(parts.as_slice())?
+            }
+            StackStep::Forget(count) => {
+                path.discard(*count);
+                self.namer.make_unknown()?
+            }
+            StackStep::Discard(count) => {
+                path.discard(*count);
+                return Ok(());
+            }
+        };
+        path.put(worth)
+    }
+
+    fn change(&mut self, path: &mut Path<'a>, change: &Change<'a>) -> Result<(), AllocError> {
+        match change {
+            Change::Assign(name) => {
+                let worth = path.stack.pop();
+                let _ = path.replace(name.as_bytes(), worth)?;
+            }
+            Change::ForgetLocals => path.locals.clear(),
+            Change::New(name) => path.hide(name, None)?,
+            Change::AnyTest => path.test = None,
+        }
+        Ok(())
+    }
+
+    // Makes a read, and returns its number.
+    fn make_read(
+        &mut self,
+        path: &mut Path<'a>,
+        place: &Use<'a>,
+        reference: Reference,
+    ) -> Result<usize, AllocError> {
+        let number = self.reads.len();
+        let read = ReadAt {
+            position: place.position(),
+            reference,
+        };
+        push_sparing(&mut self.reads, read)?;
+        push_sparing(&mut path.reads, number)?;
+        Ok(number)
+    }
+
+    fn read(&mut self, path: &mut Path<'a>, place: &Use<'a>) -> Result<(), AllocError> {
+        let reference = path.take_reference(self.alloc, place, Access::Reads)?;
+        let number = self.make_read(path, place, reference)?;
+        let mut reads = Vec::new(self.alloc);
+        push_sparing(&mut reads, number)?;
+        path.put(self.namer.make_worth(reads)?)
+    }
+
+    // The number of the last read on `path` that may reach `node`.
+    fn last_read(&self, path: &Path<'a>, node: &Reference) -> Option<usize> {
+        path.reads.iter().rev().copied().find(|number| match self.reads.get(*number) {
+            Some(read) => may_overlap(&read.reference, node),
+            None => false,
+        })
+    }
+
+    // Adds the write at `place`, whose value comes from the read `number`, if it is stale.
+    fn add_stale(
+        &mut self,
+        path: &Path<'a>,
+        place: &Use<'a>,
+        reference: &Reference,
+        number: usize,
+    ) -> Result<(), AllocError> {
+        let (Some(read), Some(last_read)) = (
+            self.reads.get(number),
+            self.last_read(path, reference),
+        ) else {
+            return Ok(());
+        };
+        let write = StaleWrite {
+            reference: reference.clone()?,
+            read: read.clone()?,
+            held: path.held_locks(self.alloc)?,
+            last_read,
+        };
+        if is_stale(self.alloc, self.rules, &write)? {
+            self.found.insert(place.position(), write)?;
+        }
+        Ok(())
+    }
+
+    // Writes the last value of the stack. If only a part of the node is written, the rest of it is read.
+    fn write(
+        &mut self,
+        path: &mut Path<'a>,
+        place: &Use<'a>,
+        amount: Amount,
+    ) -> Result<(), AllocError> {
+        let reference = path.take_reference(self.alloc, place, Access::Writes)?;
+        let sources = match path.stack.last() {
+            Some(worth) => worth.reads.clone()?,
+            None => Vec::new(self.alloc),
+        };
+        for number in &sources {
+            if !self.found.contains_key(&place.position()) {
+                self.add_stale(path, place, &reference, *number)?;
+            }
+        }
+        if amount == Amount::Part {
+            let read = Reference {
+                access: Access::Reads,
+                ..reference
+            };
+            let _ = self.make_read(path, place, read)?;
+        }
+        Ok(())
+    }
+
+    // Claims or releases the names of `argument`. A claim with a timeout may fail.
+    fn lock(&mut self, path: &mut Path<'a>, argument: &'a LockArgument) -> Result<(), AllocError> {
+        let terms = path.take_terms(self.alloc, argument)?;
+        if argument.sign == Sign::Minus {
+            for term in &terms {
+                path.release(term);
+            }
+            return Ok(());
+        }
+        if argument.sign == Sign::None {
+            path.held.clear();
+        }
+        if argument.timeout.is_some() {
+            self.branch(path, path.at, Some(false))?;
+            path.test = Some(true);
+        }
+        for term in terms {
+            path.claim(term, self.reads.len())?;
+        }
+        Ok(())
+    }
+
+    fn call(&mut self, path: &mut Path<'a>, call: &Call<'a>) -> Result<Fate, AllocError> {
+        if path.frames.len() >= MOST_FRAMES {
+            return Ok(Fate::Ends);
+        }
+        self.add_called(call.mark);
+        let target = self.code.address(call.mark);
+        path.enter(self.alloc, &mut self.namer, call, target)?;
+        Ok(Fate::Continues)
+    }
+
+    fn leave(&mut self, path: &mut Path<'a>, value: Option<Worth>) -> Result<Fate, AllocError> {
+        if path.leave(self.alloc, &mut self.namer, value)? {
+            Ok(Fate::Continues)
+        } else {
+            Ok(Fate::Ends)
+        }
+    }
+
+    // Does a step.
+    fn act(&mut self, path: &mut Path<'a>, step: &Step<'a>) -> Result<Fate, AllocError> {
+        match step {
+            Step::Stack(step) => self.change_stack(path, step)?,
+            Step::Change(change) => self.change(path, change)?,
+            Step::Jump(jump) => return self.jump(path, *jump),
+            Step::Read(place) => self.read(path, place)?,
+            Step::Write(place, amount) => self.write(path, place, *amount)?,
+            Step::Lock(argument) => self.lock(path, argument)?,
+            Step::ReleaseAll => path.held.clear(),
+            Step::Call(call) => return self.call(path, call),
+            Step::Return => return self.leave(path, None),
+            Step::ReturnValue => {
+                let value = path.stack.pop();
+                return self.leave(path, value);
+            }
+            Step::Halt => return Ok(Fate::Ends),
+        }
+        Ok(Fate::Continues)
+    }
+
+    // Does the next step of `path`, which continues or ends.
+    fn advance(&mut self, path: Path<'a>) -> Result<(), AllocError> {
+        let mut path = path;
+        let code = self.code;
+        let Some(step) = code.steps.get(path.at) else {
+            return Ok(());
+        };
+        path.at = path.at.saturating_add(1);
+        if self.act(&mut path, step)? == Fate::Continues {
+            push_sparing(&mut self.paths, path)?;
+        }
+        Ok(())
+    }
+
+    // Forgets the walk from another label.
+    fn begin(&mut self) {
+        self.namer = Namer::new(self.alloc);
+        self.reads.clear();
+        self.paths.clear();
+        while let Some(at) = self.branched.pop() {
+            if let Some(count) = self.branches.get_mut(at) {
+                *count = 0;
+            }
+        }
+    }
+
+    // Notes that a call has come to `mark`.
+    fn add_called(&mut self, mark: Mark) {
+        if let Some(is_called) = self.called.get_mut(mark.index) {
+            *is_called = true;
+        }
+    }
+
+    /// Whether a call or a walk has come to `mark`.
+    pub(crate) fn has_come_to(&self, mark: Mark) -> bool {
+        self.called.get(mark.index).copied().unwrap_or(false)
+    }
+
+    /// Walks from the step at `mark`, where nothing is held.
+    pub(crate) fn walk_from(&mut self, mark: Mark) -> Result<(), AllocError> {
+        self.begin();
+        self.add_called(mark);
+        let start = Path::new(self.alloc, self.code.address(mark));
+        push_sparing(&mut self.paths, start)?;
+        for _ in 0..MOST_STEPS {
+            let Some(path) = self.paths.pop() else {
+                break;
+            };
+            self.advance(path)?;
+        }
+        Ok(())
+    }
+}
