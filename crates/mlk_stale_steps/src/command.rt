@@ -172,6 +172,16 @@ fn add_merge<'a>(
     add_change(writer, &argument.target)
 }
 
+fn add_merges<'a>(
+    writer: &mut Writer<'_, 'a>,
+    merges: &'a [MergeArgument],
+) -> Result<(), AllocError> {
+    for merge in merges {
+        add_merge(writer, merge)?;
+    }
+    Ok(())
+}
+
 fn add_news<'a>(writer: &mut Writer<'_, 'a>, news: &'a [NewArgument]) -> Result<(), AllocError> {
     if news.is_empty() {
         return writer.push_change(Change::ForgetLocals);
@@ -209,6 +219,13 @@ fn add_read<'a>(writer: &mut Writer<'_, 'a>, argument: &'a ReadArgument) -> Resu
         }
         ReadArgument::Character(variable, timeout) => add_input(writer, variable, timeout),
     }
+}
+
+fn add_reads<'a>(writer: &mut Writer<'_, 'a>, reads: &'a [ReadArgument]) -> Result<(), AllocError> {
+    for read in reads {
+        add_read(writer, read)?;
+    }
+    Ok(())
 }
 
 // Adds the write of the last value to a variable; the value remains.
@@ -262,6 +279,13 @@ fn add_set<'a>(writer: &mut Writer<'_, 'a>, set: &'a SetArgument) -> Result<(), 
     writer.discard(1)
 }
 
+fn add_sets<'a>(writer: &mut Writer<'_, 'a>, sets: &'a [SetArgument]) -> Result<(), AllocError> {
+    for set in sets {
+        add_set(writer, set)?;
+    }
+    Ok(())
+}
+
 fn add_write<'a>(
     writer: &mut Writer<'_, 'a>,
     argument: &'a WriteArgument,
@@ -273,6 +297,16 @@ fn add_write<'a>(
         }
         WriteArgument::Format(tab) => add_unused(writer, tab),
     }
+}
+
+fn add_writes<'a>(
+    writer: &mut Writer<'_, 'a>,
+    writes: &'a [WriteArgument],
+) -> Result<(), AllocError> {
+    for argument in writes {
+        add_write(writer, argument)?;
+    }
+    Ok(())
 }
 
 fn add_quit<'a>(
@@ -310,32 +344,12 @@ fn add_action<'a>(
         Action::Job(calls) => add_jobs(writer, calls),
         Action::Kill(kills) => add_kills(writer, kills),
         Action::Lock(arguments) => add_locks(writer, arguments),
-        Action::Merge(merges) => {
-            for merge in merges {
-                add_merge(writer, merge)?;
-            }
-            Ok(())
-        }
+        Action::Merge(merges) => add_merges(writer, merges),
         Action::New(news) => add_news(writer, news),
         Action::Quit(value) => add_quit(writer, scope, value),
-        Action::Read(reads) => {
-            for read in reads {
-                add_read(writer, read)?;
-            }
-            Ok(())
-        }
-        Action::Set(sets) => {
-            for set in sets {
-                add_set(writer, set)?;
-            }
-            Ok(())
-        }
-        Action::Write(writes) => {
-            for argument in writes {
-                add_write(writer, argument)?;
-            }
-            Ok(())
-        }
+        Action::Read(reads) => add_reads(writer, reads),
+        Action::Set(sets) => add_sets(writer, sets),
+        Action::Write(writes) => add_writes(writer, writes),
     }
 }
 
