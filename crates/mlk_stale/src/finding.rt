@@ -37,7 +37,7 @@ fn is_entry(index: usize, line: &Line) -> bool {
     index == 0 || line.label.is_some()
 }
 
-// Walks from each label of `routines` to which no walk has come, except those whose marks are among `others`.
+// Walks from each label of `routines` to which no path has come, except those whose marks are among `others`.
 fn walk_labels<'a>(
     walk: &mut Walk<'_, 'a>,
     code: &Code<'a>,
@@ -96,7 +96,7 @@ fn keep_stale<'a>(
 }
 
 /// The stale writes of `program` by `rules`, each by its place, on the paths that are followed: from the declared entries, then
-/// from the labels that nothing calls, and at last from those to which no path has come.
+/// from labels to which no path has come, first those that nothing calls, then the others.
 pub fn stale_writes<'a>(
     alloc: Global,
     program: &Program<'a>,

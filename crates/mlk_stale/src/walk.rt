@@ -47,8 +47,8 @@ pub(crate) struct Walk<'w, 'a> {
     branches: Vec<usize>,
     /// the steps where a path has branched
     branched: Vec<usize>,
-    // for each mark, whether a call or a walk has come to it
-    called: Vec<bool>,
+    /// for each step, whether a path has come to it
+    visited: Vec<bool>,
     /// the stale writes that were found, by their places
     pub(crate) found: BTreeMap<Position<'a>, StaleWrite<'a>>,
 }
@@ -69,7 +69,7 @@ impl<'w, 'a> Walk<'w, 'a> {
             paths: Vec::new(alloc),
             branches: vec![in alloc; 0; code.steps.len()]?,
             branched: Vec::new(alloc),
-            called: vec![in alloc; false; code.targets.len()]?,
+            visited: vec![in alloc; false; code.steps.len()]?,
             found: BTreeMap::new(alloc),
         })
     }
@@ -328,7 +328,6 @@ impl<'w, 'a> Walk<'w, 'a> {
         if path.frames.len() >= MOST_FRAMES {
             return Ok(Fate::Ends);
         }
-        self.add_called(call.mark);
         let target = self.code.address(call.mark);
         path.enter(self.alloc, &mut self.namer, call, target)?;
         Ok(Fate::Continues)
@@ -370,6 +369,9 @@ impl<'w, 'a> Walk<'w, 'a> {
         let Some(step) = code.steps.get(path.at) else {
             return Ok(());
         };
+        if let Some(is_visited) = self.visited.get_mut(path.at) {
+            *is_visited = true;
+        }
         path.at = path.at.saturating_add(1);
         if self.act(&mut path, step)? == Fate::Continues {
             push_sparing(&mut self.paths, path)?;
@@ -389,22 +391,17 @@ impl<'w, 'a> Walk<'w, 'a> {
         }
     }
 
-    // Notes that a call has come to `mark`.
-    fn add_called(&mut self, mark: Mark) {
-        if let Some(is_called) = self.called.get_mut(mark.index) {
-            *is_called = true;
-        }
-    }
-
-    /// Whether a call or a walk has come to `mark`.
+    /// Whether a path has come to the step at `mark`.
     pub(crate) fn has_come_to(&self, mark: Mark) -> bool {
-        self.called.get(mark.index).copied().unwrap_or(false)
+        self.visited
+            .get(self.code.address(mark))
+            .copied()
+            .unwrap_or(false)
     }
 
     /// Walks from the step at `mark`, where nothing is held.
     pub(crate) fn walk_from(&mut self, mark: Mark) -> Result<(), AllocError> {
         self.begin();
-        self.add_called(mark);
         let start = Path::new(self.alloc, self.code.address(mark));
         push_sparing(&mut self.paths, start)?;
         for _ in 0..MOST_STEPS {
