@@ -63,7 +63,6 @@ fn walk_labels<'a>(
 
 // Adds `write` to `kept`, if it is stale.
 fn keep_if_stale<'a>(
-    alloc: Global,
     rules: &Rules,
     kept: &mut BTreeMap<Position<'a>, StaleWrite<'a>>,
     position: Position<'a>,
@@ -72,8 +71,7 @@ fn keep_if_stale<'a>(
     requires { All (IsStale rules.now) (values kept.old) }
     ensures { OnOk result (All (IsStale rules.now) (values kept.new)) }
 {
-    let stale = is_stale(alloc, rules, &write)?;
-    if !stale {
+    if !is_stale(rules, &write) {
         return Ok(());
     }
     kept.insert(position, write)?;
@@ -90,7 +88,7 @@ fn keep_stale<'a>(
 {
     let mut kept = BTreeMap::new(alloc);
     for (position, write) in found {
-        keep_if_stale(alloc, rules, &mut kept, position, write)?;
+        keep_if_stale(rules, &mut kept, position, write)?;
     }
     Ok(kept)
 }

@@ -1,15 +1,13 @@
 // Whether a write is stale.
 
-ghost use Rattle.std.specs.Prelude.{◌≡◌, ◌↔◌, IsTrue, IfOk, nat_le};
+ghost use Rattle.std.specs.Prelude.{◌≡◌, ◌↔◌, [], IsTrue};
 ghost use Rattle.std.specs.Bool.{Decides};
 ghost use Rattle.mlk_rules.specs.Coverage.{IsCovered};
-ghost use Rattle.mlk_stale.specs.Stale.{ReadsWritten, names_of, held_at, IsStale};
+ghost use Rattle.mlk_stale.specs.Stale.{ReadsWritten, IsProtected, IsStale};
 
-use crate::stale::{HeldLock, StaleWrite};
+use crate::stale::StaleWrite;
 use mlk_names::{Access, Extent, LockTerm, Reference};
 use mlk_rules::{Rules, check_reference};
-use mlk_text::copy_of;
-use std::alloc::{AllocError, Global};
 
 // Whether `items` and `others` are equal.
 fn are_equal<T: PartialEq>(items: &[T], others: &[T]) -> bool
@@ -31,37 +29,6 @@ fn reads_written(read: &Reference, written: &Reference) -> bool
         && are_equal(read.subs.as_slice(), written.subs.as_slice())
 }
 
-// The names of all of `held`.
-fn names_of(alloc: Global, held: &[HeldLock]) -> Result<Vec<LockTerm>, AllocError>
-    ensures { IfOk result (λ names. names.items ≡ names_of held.now) }
-{
-    let mut names = Vec::new(alloc);
-    for lock in held {
-        names.push(copy_of(&lock.name)?)?;
-    }
-    Ok(names)
-}
-
-// Whether `lock` was held already when the read number `read` was made.
-fn is_held_at(lock: &HeldLock, read: usize) -> bool
-    ensures { result ≡ nat_le lock.now.since read }
-{
-    lock.since <= read
-}
-
-// The names of those of `held` that were held already when the read number `read` was made.
-fn names_at(alloc: Global, held: &[HeldLock], read: usize) -> Result<Vec<LockTerm>, AllocError>
-    ensures { IfOk result (λ names. names.items ≡ names_of (held_at read held.now)) }
-{
-    let mut names = Vec::new(alloc);
-    for lock in held {
-        if is_held_at(lock, read) {
-            names.push(copy_of(&lock.name)?)?;
-        }
-    }
-    Ok(names)
-}
-
 // Whether the locks `held` cover `reference`.
 fn is_covered(rules: &Rules, held: &[LockTerm], reference: &Reference) -> bool
     ensures { IsTrue result ↔ IsCovered rules.now held.now reference.now }
@@ -69,41 +36,46 @@ fn is_covered(rules: &Rules, held: &[LockTerm], reference: &Reference) -> bool
     check_reference(rules, reference, held).is_ok()
 }
 
-// Whether the locks that are held at `write` cover it.
-fn is_covered_at_write(
-    alloc: Global,
-    rules: &Rules,
-    write: &StaleWrite<'_>,
-) -> Result<bool, AllocError>
-    ensures { IfOk result (λ covered. IsTrue covered ↔ IsCovered rules.now (names_of write.now.held.items) write.now.reference) }
+// Whether `reference` needs a lock.
+fn needs_lock(rules: &Rules, reference: &Reference) -> bool
+    ensures { IsTrue result ↔ ¬ IsCovered rules.now [] reference.now }
 {
-    let held = names_of(alloc, write.held.as_slice())?;
-    Ok(is_covered(rules, held.as_slice(), &write.reference))
+    !is_covered(rules, &[], reference)
 }
 
-// Whether those of them that were held already at the last read cover `write`.
-fn is_covered_at_read(
-    alloc: Global,
-    rules: &Rules,
-    write: &StaleWrite<'_>,
-) -> Result<bool, AllocError>
-    ensures { IfOk result (λ covered. IsTrue covered ↔ IsCovered rules.now (names_of (held_at write.now.last_read write.now.held.items)) write.now.reference) }
+// Whether the locks `held` cover `read`, which needs a lock.
+fn is_locked(rules: &Rules, held: &[LockTerm], read: &Reference) -> bool
+    ensures { IsTrue result ↔ IsCovered rules.now held.now read.now × ¬ IsCovered rules.now [] read.now }
 {
-    let held = names_at(alloc, write.held.as_slice(), write.last_read)?;
-    Ok(is_covered(rules, held.as_slice(), &write.reference))
+    is_covered(rules, held, read) && needs_lock(rules, read)
+}
+
+// Whether the locks `held` keep other jobs from writing the node that `read` reads and `written` writes.
+fn is_protected(rules: &Rules, held: &[LockTerm], read: &Reference, written: &Reference) -> bool
+    ensures { IsTrue result ↔ IsProtected rules.now held.now read.now written.now }
+{
+    is_covered(rules, held, written) || is_locked(rules, held, read)
+}
+
+/// Whether the locks `held` let other jobs write the node that `read` reads and `written` writes.
+pub(crate) fn is_open(
+    rules: &Rules,
+    held: &[LockTerm],
+    read: &Reference,
+    written: &Reference,
+) -> bool
+    ensures { IsTrue result ↔ ¬ IsProtected rules.now held.now read.now written.now }
+{
+    !is_protected(rules, held, read, written)
 }
 
 /// Whether `write` is stale.
-pub fn is_stale(alloc: Global, rules: &Rules, write: &StaleWrite<'_>) -> Result<bool, AllocError>
-    ensures { IfOk result (λ stale. IsTrue stale ↔ IsStale rules.now write.now) }
+pub fn is_stale(rules: &Rules, write: &StaleWrite<'_>) -> bool
+    ensures { IsTrue result ↔ IsStale rules.now write.now }
 {
-    if !reads_written(&write.read.reference, &write.reference) {
-        return Ok(false);
-    }
-    let is_covered = is_covered_at_write(alloc, rules, write)?;
-    if !is_covered {
-        return Ok(false);
-    }
-    let was_covered = is_covered_at_read(alloc, rules, write)?;
-    Ok(!was_covered)
+    let read = &write.read.reference;
+    reads_written(read, &write.reference)
+        && write.last_read < write.gap.reads
+        && is_covered(rules, write.held.as_slice(), &write.reference)
+        && is_open(rules, write.gap.held.as_slice(), read, &write.reference)
 }

@@ -14,4 +14,4 @@ mod worth;
 
 pub use finding::stale_writes;
 pub use judge::is_stale;
-pub use stale::{HeldLock, ReadAt, StaleWrite};
+pub use stale::{Moment, ReadAt, StaleWrite};

@@ -1,7 +1,6 @@
 // Claims and releases on a path.
 
 use crate::path::{Holding, Path};
-use crate::stale::HeldLock;
 use crate::worth::Worth;
 use mlk_names::{KnownSym, LockTerm, Root, TermSubs};
 use mlk_syntax::{Expr, LockArgument, Variable};
@@ -71,22 +70,27 @@ impl<'a> Path<'a> {
         terms_of(alloc, argument, worths.as_slice())
     }
 
-    /// Claims `term`, after `since` reads.
-    pub(crate) fn claim(&mut self, term: LockTerm, since: usize) -> Result<(), AllocError> {
+    /// Claims `term`.
+    pub(crate) fn claim(&mut self, term: LockTerm) -> Result<(), AllocError> {
         for holding in self.held.iter_mut() {
-            if holding.lock.name == term {
+            if holding.name == term {
                 holding.count = holding.count.saturating_add(1);
                 return Ok(());
             }
         }
-        let lock = HeldLock { name: term, since };
-        push_sparing(&mut self.held, Holding { lock, count: 1 })
+        push_sparing(
+            &mut self.held,
+            Holding {
+                name: term,
+                count: 1,
+            },
+        )
     }
 
     /// Releases `term` once.
     pub(crate) fn release(&mut self, term: &LockTerm) {
         for holding in self.held.iter_mut() {
-            if holding.lock.name == *term {
+            if holding.name == *term {
                 holding.count = holding.count.saturating_sub(1);
             }
         }
@@ -94,10 +98,10 @@ impl<'a> Path<'a> {
     }
 
     /// The locks that are held.
-    pub(crate) fn held_locks(&self, alloc: Global) -> Result<Vec<HeldLock>, AllocError> {
+    pub(crate) fn held_locks(&self, alloc: Global) -> Result<Vec<LockTerm>, AllocError> {
         let mut locks = Vec::new(alloc);
         for holding in &self.held {
-            push_sparing(&mut locks, holding.lock.clone()?)?;
+            push_sparing(&mut locks, holding.name.clone()?)?;
         }
         Ok(locks)
     }

@@ -1,8 +1,7 @@
 // Paths: what is known on one way through the steps.
 
-use crate::stale::HeldLock;
 use crate::worth::{Namer, Worth};
-use mlk_names::{Access, Reference, ReferenceSubs};
+use mlk_names::{Access, LockTerm, Reference, ReferenceSubs};
 use mlk_stale_steps::{CallKind, Use};
 use mlk_syntax::Actual;
 use mlk_text::{Name, push_sparing};
@@ -36,7 +35,7 @@ pub(crate) struct Frame<'a> {
 /// A name that is held, and how often it was claimed.
 #[derive(Clone, Drop)]
 pub(crate) struct Holding {
-    pub(crate) lock: HeldLock,
+    pub(crate) name: LockTerm,
     pub(crate) count: usize,
 }
 
@@ -49,6 +48,8 @@ pub(crate) struct Path<'a> {
     pub(crate) held: Vec<Holding>,
     /// the numbers of the reads made so far
     pub(crate) reads: Vec<usize>,
+    /// the numbers of the moments before which the held locks changed
+    pub(crate) moments: Vec<usize>,
     /// `$TEST`, if it is known
     pub(crate) test: Option<bool>,
     /// for each FOR that has begun, whether this is a later round than the first
@@ -65,6 +66,7 @@ impl<'a> Path<'a> {
             locals: Vec::new(alloc),
             held: Vec::new(alloc),
             reads: Vec::new(alloc),
+            moments: Vec::new(alloc),
             test: None,
             rounds: Vec::new(alloc),
             frames: Vec::new(alloc),

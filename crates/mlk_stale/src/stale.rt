@@ -3,12 +3,12 @@
 use mlk_names::{LockTerm, Reference};
 use mlk_survey_trees::Position;
 
-/// A held lock.
+/// The locks that are held at a moment.
 #[derive(Clone, Drop)]
-pub struct HeldLock {
-    pub name: LockTerm,
-    /// the number of reads that were made before it was acquired
-    pub since: usize,
+pub struct Moment {
+    /// the number of reads that were made before it
+    pub reads: usize,
+    pub held: Vec<LockTerm>,
 }
 
 /// A read of a global, with its place.
@@ -24,8 +24,10 @@ pub struct StaleWrite<'a> {
     pub reference: Reference,
     /// the read that its value comes from
     pub read: ReadAt<'a>,
-    /// the locks that are held at the write
-    pub held: Vec<HeldLock>,
     /// the number of the last read before the write that may reach the written node; reads are counted from 0
     pub last_read: usize,
+    /// a moment between that read and the write
+    pub gap: Moment,
+    /// the locks that are held at the write
+    pub held: Vec<LockTerm>,
 }

@@ -1,11 +1,11 @@
 // The walk over the steps, one path at a time.
 
 use crate::answer::{Tests, may_be};
-use crate::judge::is_stale;
+use crate::judge::{is_open, is_stale};
 use crate::path::Path;
-use crate::stale::{ReadAt, StaleWrite};
+use crate::stale::{Moment, ReadAt, StaleWrite};
 use crate::worth::{Namer, Worth};
-use mlk_names::{Access, Reference, Sym, may_overlap};
+use mlk_names::{Access, LockTerm, Reference, Sym, may_overlap};
 use mlk_rules::Rules;
 use mlk_stale_steps::{
     Amount, Call, Change, Code, Condition, Jump, Mark, Rounds, StackStep, Step, Use,
@@ -41,6 +41,8 @@ pub(crate) struct Walk<'w, 'a> {
     namer: Namer,
     /// the reads in the walk from the current label
     reads: Vec<ReadAt<'a>>,
+    /// the moments of that walk before which held locks changed
+    moments: Vec<Moment>,
     /// the paths that have not ended
     paths: Vec<Path<'a>>,
     /// for each step, how often a path has branched there
@@ -66,6 +68,7 @@ impl<'w, 'a> Walk<'w, 'a> {
             code,
             namer: Namer::new(alloc),
             reads: Vec::new(alloc),
+            moments: Vec::new(alloc),
             paths: Vec::new(alloc),
             branches: vec![in alloc; 0; code.steps.len()]?,
             branched: Vec::new(alloc),
@@ -249,6 +252,27 @@ impl<'w, 'a> Walk<'w, 'a> {
         })
     }
 
+    // The first moment on `path` after the read number `last_read` at which the held locks let other jobs write the node that `read`
+    // reads and `written` writes.
+    fn first_gap(
+        &self,
+        path: &Path<'a>,
+        read: &Reference,
+        written: &Reference,
+        last_read: usize,
+    ) -> Option<&Moment> {
+        for number in &path.moments {
+            let Some(moment) = self.moments.get(*number) else {
+                continue;
+            };
+            let held = moment.held.as_slice();
+            if moment.reads > last_read && is_open(self.rules, held, read, written) {
+                return Some(moment);
+            }
+        }
+        None
+    }
+
     // Adds the write at `place`, whose value comes from the read `number`, if it is stale.
     fn add_stale(
         &mut self,
@@ -263,13 +287,17 @@ impl<'w, 'a> Walk<'w, 'a> {
         ) else {
             return Ok(());
         };
+        let Some(gap) = self.first_gap(path, &read.reference, reference, last_read) else {
+            return Ok(());
+        };
         let write = StaleWrite {
             reference: reference.clone()?,
             read: read.clone()?,
-            held: path.held_locks(self.alloc)?,
             last_read,
+            gap: gap.clone()?,
+            held: path.held_locks(self.alloc)?,
         };
-        if is_stale(self.alloc, self.rules, &write)? {
+        if is_stale(self.rules, &write) {
             self.found.insert(place.position(), write)?;
         }
         Ok(())
@@ -302,26 +330,59 @@ impl<'w, 'a> Walk<'w, 'a> {
         Ok(())
     }
 
-    // Claims or releases the names of `argument`. A claim with a timeout may fail.
-    fn lock(&mut self, path: &mut Path<'a>, argument: &'a LockArgument) -> Result<(), AllocError> {
-        let terms = path.take_terms(self.alloc, argument)?;
-        if argument.sign == Sign::Minus {
-            for term in &terms {
-                path.release(term);
-            }
-            return Ok(());
-        }
-        if argument.sign == Sign::None {
-            path.held.clear();
-        }
-        if argument.timeout.is_some() {
+    // Notes which locks are held before they change.
+    fn add_moment(&mut self, path: &mut Path<'a>) -> Result<(), AllocError> {
+        let moment = Moment {
+            reads: self.reads.len(),
+            held: path.held_locks(self.alloc)?,
+        };
+        push_sparing(&mut path.moments, self.moments.len())?;
+        push_sparing(&mut self.moments, moment)
+    }
+
+    fn release_all(&mut self, path: &mut Path<'a>) -> Result<(), AllocError> {
+        self.add_moment(path)?;
+        path.held.clear();
+        Ok(())
+    }
+
+    // Claims `terms`. A claim with a timeout may fail.
+    fn claim(
+        &mut self,
+        path: &mut Path<'a>,
+        terms: Vec<LockTerm>,
+        has_timeout: bool,
+    ) -> Result<(), AllocError> {
+        self.add_moment(path)?;
+        if has_timeout {
             self.branch(path, path.at, Some(false))?;
             path.test = Some(true);
         }
         for term in terms {
-            path.claim(term, self.reads.len())?;
+            path.claim(term)?;
         }
         Ok(())
+    }
+
+    fn release(&mut self, path: &mut Path<'a>, terms: &[LockTerm]) -> Result<(), AllocError> {
+        self.add_moment(path)?;
+        for term in terms {
+            path.release(term);
+        }
+        Ok(())
+    }
+
+    // Claims or releases the names of `argument`.
+    fn lock(&mut self, path: &mut Path<'a>, argument: &'a LockArgument) -> Result<(), AllocError> {
+        let terms = path.take_terms(self.alloc, argument)?;
+        match argument.sign {
+            Sign::Minus => self.release(path, terms.as_slice()),
+            Sign::Plus => self.claim(path, terms, argument.timeout.is_some()),
+            Sign::None => {
+                self.release_all(path)?;
+                self.claim(path, terms, argument.timeout.is_some())
+            }
+        }
     }
 
     fn call(&mut self, path: &mut Path<'a>, call: &Call<'a>) -> Result<Fate, AllocError> {
@@ -350,7 +411,7 @@ impl<'w, 'a> Walk<'w, 'a> {
             Step::Read(place) => self.read(path, place)?,
             Step::Write(place, amount) => self.write(path, place, *amount)?,
             Step::Lock(argument) => self.lock(path, argument)?,
-            Step::ReleaseAll => path.held.clear(),
+            Step::ReleaseAll => self.release_all(path)?,
             Step::Call(call) => return self.call(path, call),
             Step::Return => return self.leave(path, None),
             Step::ReturnValue => {
@@ -383,6 +444,7 @@ impl<'w, 'a> Walk<'w, 'a> {
     fn begin(&mut self) {
         self.namer = Namer::new(self.alloc);
         self.reads.clear();
+        self.moments.clear();
         self.paths.clear();
         while let Some(at) = self.branched.pop() {
             if let Some(count) = self.branches.get_mut(at) {
