@@ -9,6 +9,8 @@ mod judge;
 mod locks;
 mod path;
 mod stale;
+mod touch;
+mod value;
 mod walk;
 mod worth;
 

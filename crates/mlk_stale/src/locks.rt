@@ -1,9 +1,11 @@
 // Claims and releases on a path.
 
 use crate::path::{Holding, Path};
+use crate::stale::Moment;
+use crate::walk::Walk;
 use crate::worth::Worth;
 use mlk_names::{KnownSym, LockTerm, Root, TermSubs};
-use mlk_syntax::{Expr, LockArgument, Variable};
+use mlk_syntax::{Expr, LockArgument, Sign, Variable};
 use mlk_text::push_sparing;
 use std::alloc::{AllocError, Global};
 
@@ -104,5 +106,67 @@ impl<'a> Path<'a> {
             push_sparing(&mut locks, holding.name.clone()?)?;
         }
         Ok(locks)
+    }
+}
+
+impl<'a> Walk<'_, 'a> {
+    // Notes which locks are held before they change.
+    fn add_moment(&mut self, path: &mut Path<'a>) -> Result<(), AllocError> {
+        let moment = Moment {
+            reads: self.reads.len(),
+            held: path.held_locks(self.alloc)?,
+        };
+        push_sparing(&mut path.moments, self.moments.len())?;
+        push_sparing(&mut self.moments, moment)
+    }
+
+    /// Releases all locks.
+    pub(crate) fn release_all(&mut self, path: &mut Path<'a>) -> Result<(), AllocError> {
+        self.add_moment(path)?;
+        path.held.clear();
+        Ok(())
+    }
+
+    // Claims `terms`. A claim with a timeout may fail.
+    fn claim(
+        &mut self,
+        path: &mut Path<'a>,
+        terms: Vec<LockTerm>,
+        has_timeout: bool,
+    ) -> Result<(), AllocError> {
+        self.add_moment(path)?;
+        if has_timeout {
+            self.branch(path, path.at, Some(false))?;
+            path.test = Some(true);
+        }
+        for term in terms {
+            path.claim(term)?;
+        }
+        Ok(())
+    }
+
+    fn release(&mut self, path: &mut Path<'a>, terms: &[LockTerm]) -> Result<(), AllocError> {
+        self.add_moment(path)?;
+        for term in terms {
+            path.release(term);
+        }
+        Ok(())
+    }
+
+    /// Claims or releases the names of `argument`.
+    pub(crate) fn lock(
+        &mut self,
+        path: &mut Path<'a>,
+        argument: &'a LockArgument,
+    ) -> Result<(), AllocError> {
+        let terms = path.take_terms(self.alloc, argument)?;
+        match argument.sign {
+            Sign::Minus => self.release(path, terms.as_slice()),
+            Sign::Plus => self.claim(path, terms, argument.timeout.is_some()),
+            Sign::None => {
+                self.release_all(path)?;
+                self.claim(path, terms, argument.timeout.is_some())
+            }
+        }
     }
 }

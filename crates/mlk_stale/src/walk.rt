@@ -1,17 +1,12 @@
 // The walk over the steps, one path at a time.
 
 use crate::answer::{Tests, may_be};
-use crate::judge::{is_open, is_stale};
 use crate::path::Path;
 use crate::stale::{Moment, ReadAt, StaleWrite};
 use crate::worth::{Namer, Worth};
-use mlk_names::{Access, LockTerm, Reference, Sym, may_overlap};
 use mlk_rules::Rules;
-use mlk_stale_steps::{
-    Amount, Call, Change, Code, Condition, Jump, Mark, Rounds, StackStep, Step, Use,
-};
+use mlk_stale_steps::{Call, Code, Condition, Jump, Mark, Rounds, Step};
 use mlk_survey_trees::Position;
-use mlk_syntax::{LockArgument, Sign};
 use mlk_text::push_sparing;
 use std::alloc::{AllocError, Global};
 use std::collections::BTreeMap;
@@ -35,14 +30,14 @@ enum Fate {
 /// A walk over steps.
 #[derive(Drop)]
 pub(crate) struct Walk<'w, 'a> {
-    alloc: Global,
-    rules: &'w Rules,
+    pub(crate) alloc: Global,
+    pub(crate) rules: &'w Rules,
     code: &'w Code<'a>,
-    namer: Namer,
+    pub(crate) namer: Namer,
     /// the reads in the walk from the current label
-    reads: Vec<ReadAt<'a>>,
+    pub(crate) reads: Vec<ReadAt<'a>>,
     /// the moments of that walk before which held locks changed
-    moments: Vec<Moment>,
+    pub(crate) moments: Vec<Moment>,
     /// the paths that have not ended
     paths: Vec<Path<'a>>,
     /// for each step, how often a path has branched there
@@ -90,8 +85,8 @@ impl<'w, 'a> Walk<'w, 'a> {
         Ok(true)
     }
 
-    // Begins a path that continues `path` at the step `target`, where `$TEST` is `test`.
-    fn branch(
+    /// Begins a path that continues `path` at the step `target`, where `$TEST` is `test`.
+    pub(crate) fn branch(
         &mut self,
         path: &Path<'a>,
         target: usize,
@@ -174,215 +169,6 @@ impl<'w, 'a> Walk<'w, 'a> {
             }
         }
         Ok(Fate::Continues)
-    }
-
-    // Puts values on the stack, and takes them off.
-    fn change_stack(
-        &mut self,
-        path: &mut Path<'a>,
-        step: &StackStep<'a>,
-    ) -> Result<(), AllocError> {
-        let worth = match step {
-            StackStep::Constant(value) => Worth::of(self.alloc, Sym::Const(value.copy()?)),
-            StackStep::JobNumber => Worth::of(self.alloc, Sym::Job),
-            StackStep::Local(name) => path.worth_of(&mut self.namer, name)?,
-            StackStep::Copy => match path.stack.last() {
-                Some(worth) => worth.clone()?,
-                None => self.namer.make_unknown()?,
-            },
-            StackStep::Combine(count) => {
-                let parts = path.take(self.alloc, *count)?;
-                self.namer.combine(parts.as_slice())?
-            }
-            StackStep::Forget(count) => {
-                path.discard(*count);
-                self.namer.make_unknown()?
-            }
-            StackStep::Discard(count) => {
-                path.discard(*count);
-                return Ok(());
-            }
-        };
-        path.put(worth)
-    }
-
-    fn change(&mut self, path: &mut Path<'a>, change: &Change<'a>) -> Result<(), AllocError> {
-        match change {
-            Change::Assign(name) => {
-                let worth = path.stack.pop();
-                let _ = path.replace(name.as_bytes(), worth)?;
-            }
-            Change::ForgetLocals => path.locals.clear(),
-            Change::New(name) => path.hide(name, None)?,
-            Change::AnyTest => path.test = None,
-        }
-        Ok(())
-    }
-
-    // Makes a read, and returns its number.
-    fn make_read(
-        &mut self,
-        path: &mut Path<'a>,
-        place: &Use<'a>,
-        reference: Reference,
-    ) -> Result<usize, AllocError> {
-        let number = self.reads.len();
-        let read = ReadAt {
-            position: place.position(),
-            reference,
-        };
-        push_sparing(&mut self.reads, read)?;
-        push_sparing(&mut path.reads, number)?;
-        Ok(number)
-    }
-
-    fn read(&mut self, path: &mut Path<'a>, place: &Use<'a>) -> Result<(), AllocError> {
-        let reference = path.take_reference(self.alloc, place, Access::Reads)?;
-        let number = self.make_read(path, place, reference)?;
-        let mut reads = Vec::new(self.alloc);
-        push_sparing(&mut reads, number)?;
-        path.put(self.namer.make_worth(reads)?)
-    }
-
-    // The number of the last read on `path` that may reach `node`.
-    fn last_read(&self, path: &Path<'a>, node: &Reference) -> Option<usize> {
-        path.reads.iter().rev().copied().find(|number| match self.reads.get(*number) {
-            Some(read) => may_overlap(&read.reference, node),
-            None => false,
-        })
-    }
-
-    // The first moment on `path` after the read number `last_read` at which the held locks let other jobs write the node that `read`
-    // reads and `written` writes.
-    fn first_gap(
-        &self,
-        path: &Path<'a>,
-        read: &Reference,
-        written: &Reference,
-        last_read: usize,
-    ) -> Option<&Moment> {
-        for number in &path.moments {
-            let Some(moment) = self.moments.get(*number) else {
-                continue;
-            };
-            let held = moment.held.as_slice();
-            if moment.reads > last_read && is_open(self.rules, held, read, written) {
-                return Some(moment);
-            }
-        }
-        None
-    }
-
-    // Adds the write at `place`, whose value comes from the read `number`, if it is stale.
-    fn add_stale(
-        &mut self,
-        path: &Path<'a>,
-        place: &Use<'a>,
-        reference: &Reference,
-        number: usize,
-    ) -> Result<(), AllocError> {
-        let (Some(read), Some(last_read)) = (
-            self.reads.get(number),
-            self.last_read(path, reference),
-        ) else {
-            return Ok(());
-        };
-        let Some(gap) = self.first_gap(path, &read.reference, reference, last_read) else {
-            return Ok(());
-        };
-        let write = StaleWrite {
-            reference: reference.clone()?,
-            read: read.clone()?,
-            last_read,
-            gap: gap.clone()?,
-            held: path.held_locks(self.alloc)?,
-        };
-        if is_stale(self.rules, &write) {
-            self.found.insert(place.position(), write)?;
-        }
-        Ok(())
-    }
-
-    // Writes the last value of the stack. If only a part of the node is written, the rest of it is read.
-    fn write(
-        &mut self,
-        path: &mut Path<'a>,
-        place: &Use<'a>,
-        amount: Amount,
-    ) -> Result<(), AllocError> {
-        let reference = path.take_reference(self.alloc, place, Access::Writes)?;
-        let sources = match path.stack.last() {
-            Some(worth) => worth.reads.clone()?,
-            None => Vec::new(self.alloc),
-        };
-        for number in &sources {
-            if !self.found.contains_key(&place.position()) {
-                self.add_stale(path, place, &reference, *number)?;
-            }
-        }
-        if amount == Amount::Part {
-            let read = Reference {
-                access: Access::Reads,
-                ..reference
-            };
-            let _ = self.make_read(path, place, read)?;
-        }
-        Ok(())
-    }
-
-    // Notes which locks are held before they change.
-    fn add_moment(&mut self, path: &mut Path<'a>) -> Result<(), AllocError> {
-        let moment = Moment {
-            reads: self.reads.len(),
-            held: path.held_locks(self.alloc)?,
-        };
-        push_sparing(&mut path.moments, self.moments.len())?;
-        push_sparing(&mut self.moments, moment)
-    }
-
-    fn release_all(&mut self, path: &mut Path<'a>) -> Result<(), AllocError> {
-        self.add_moment(path)?;
-        path.held.clear();
-        Ok(())
-    }
-
-    // Claims `terms`. A claim with a timeout may fail.
-    fn claim(
-        &mut self,
-        path: &mut Path<'a>,
-        terms: Vec<LockTerm>,
-        has_timeout: bool,
-    ) -> Result<(), AllocError> {
-        self.add_moment(path)?;
-        if has_timeout {
-            self.branch(path, path.at, Some(false))?;
-            path.test = Some(true);
-        }
-        for term in terms {
-            path.claim(term)?;
-        }
-        Ok(())
-    }
-
-    fn release(&mut self, path: &mut Path<'a>, terms: &[LockTerm]) -> Result<(), AllocError> {
-        self.add_moment(path)?;
-        for term in terms {
-            path.release(term);
-        }
-        Ok(())
-    }
-
-    // Claims or releases the names of `argument`.
-    fn lock(&mut self, path: &mut Path<'a>, argument: &'a LockArgument) -> Result<(), AllocError> {
-        let terms = path.take_terms(self.alloc, argument)?;
-        match argument.sign {
-            Sign::Minus => self.release(path, terms.as_slice()),
-            Sign::Plus => self.claim(path, terms, argument.timeout.is_some()),
-            Sign::None => {
-                self.release_all(path)?;
-                self.claim(path, terms, argument.timeout.is_some())
-            }
-        }
     }
 
     fn call(&mut self, path: &mut Path<'a>, call: &Call<'a>) -> Result<Fate, AllocError> {
