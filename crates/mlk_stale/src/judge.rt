@@ -21,10 +21,10 @@ fn are_equal<T: PartialEq>(items: &[T], others: &[T]) -> bool
 fn reads_written(read: &Reference, written: &Reference) -> bool
     ensures { IsTrue result ↔ ReadsWritten read.now written.now }
 {
-    read.access == Access::Reads
-        && written.access == Access::Writes
-        && read.extent == Extent::Node
-        && written.extent == Extent::Node
+    matches!(read.access, Access::Reads)
+        && matches!(written.access, Access::Writes)
+        && matches!(read.extent, Extent::Node)
+        && matches!(written.extent, Extent::Node)
         && read.root == written.root
         && are_equal(read.subs.as_slice(), written.subs.as_slice())
 }
