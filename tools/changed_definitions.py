@@ -4,10 +4,10 @@
     changed_definitions.py FOLDER [NAME..]
 
 Each change makes the check say `yes` to programs whose runs break the rules, or lets the theorem promise more than the rules ask
-for. The script writes a skeleton of the repository to
+for; or it breaks a law of the plain text of words beyond the subset. The script writes a skeleton of the repository to
 FOLDER (see skeleton.py) and checks the proof there as it is. Then it makes the changes one at a time, all of them or those that
-are named, and checks the proof again after each. The code is not part of this: each function is proved to compute its
-definition. The first check takes about ten minutes, each change about three more.
+are named, and checks the proof again after each. The code of the check is not part of this: each function is proved to
+compute its definition. The first check takes about ten minutes, each change about three more.
 """
 import pathlib
 import subprocess
@@ -16,6 +16,8 @@ import sys
 import skeleton
 
 CRATES = ['mlk_machine_laws', 'mlk_soundness_machine', 'mlk_soundness_walk']
+# The plain text of words beyond the subset has laws of its own, beside the theorem.
+DIALECT = 'mlk_dialect'
 # General laws of the walk, which the proof uses: a change that is refused there shows nothing of the theorem.
 LAWS = 'mlk_walk_laws'
 CHANGES, CLAIMS, CALLS = 'mlk_calls/specs/Changes.antt', 'mlk_calls/specs/Claims.antt', 'mlk_calls/specs/Calls.antt'
@@ -24,6 +26,7 @@ ARGUMENTS, LOCKS, NEWS = (f'mlk_walk_commands/specs/{name}.antt' for name in ('A
 COMMANDS, ENDS, LOOPS = (f'mlk_walk_lines/specs/{name}.antt' for name in ('Commands', 'Endings', 'Loops'))
 VERDICTS = 'mlk_walk/specs/Verdicts.antt'
 LAWS_OF_RUNS = 'mlk_machine_laws/specs/Laws.antt'
+WORDS, PLAIN = (f'{DIALECT}/specs/{name}.antt' for name in ('Words', 'Plain'))
 
 # The changes, each named for what the check then allows or gets wrong, or what the theorem then claims: a file, a text that occurs
 # in it once, and what replaces it.
@@ -88,12 +91,18 @@ CHANGED = {
     # The theorem
     'no-clash-though-rules-free-reads': (
         LAWS_OF_RUNS, '(clash : Clash i j) → OneReadsFreely rules clash.one clash.other', 'Clash i j → ⊥'),
+    # Words beyond the subset
+    'text-of-a-line-runs-into-the-next-line': (
+        WORDS, 'is_line_byte b = is_name_byte b || (b == 37)', 'is_line_byte b = is_name_byte b || (b == 10) || (b == 37)'),
+    'the-end-of-a-line-is-a-space': (
+        PLAIN, 'own_byte (place.Code before) b = if b == 9 then 32 else b',
+        'own_byte (place.Code before) b = if (b == 9) || (b == 13) then 32 else b'),
 }
 
 
-def proof(folder):
-    """Checks the crates of the proof: the first that is not proved, if there is one, and the first places of its errors."""
-    for crate in [LAWS, *CRATES]:
+def proof(folder, crates):
+    """Checks the crates of a proof: the first that is not proved, if there is one, and the first places of its errors."""
+    for crate in crates:
         command = ['rt', 'lib' if crate == LAWS else 'check']
         run = subprocess.run(command, cwd=folder / 'crates' / crate, text=True, stdout=subprocess.PIPE, stderr=subprocess.STDOUT)
         if run.returncode != 0:
@@ -109,9 +118,9 @@ def tried(folder, name):
     if text.count(old) != 1:
         return f'BAD CHANGE: {old!r} occurs {text.count(old)} times in {place}'
     path.write_text(text.replace(old, new))
-    crate, places = proof(folder)
+    crate, places = proof(folder, [DIALECT] if place.startswith(DIALECT) else [LAWS, *CRATES])
     path.write_text(text)
-    own = [line for line in places if line.startswith('./proofs/') and crate in CRATES]
+    own = [line for line in places if line.startswith('./proofs/') and crate != LAWS]
     if crate is None:
         return 'STILL PROVED'
     return f'refused, as it must be: {crate}, {own[0][:160]}' if own else f'FAILED ELSEWHERE: {crate}: {places}'
@@ -119,8 +128,8 @@ def tried(folder, name):
 
 def main(folder, names):
     folder = pathlib.Path(folder).resolve()
-    skeleton.main(folder, CRATES)
-    crate, places = proof(folder)
+    skeleton.main(folder, [*CRATES, DIALECT])
+    crate, places = proof(folder, [LAWS, *CRATES, DIALECT])
     if crate is not None:
         sys.exit(f'not proved as it is: {crate}: {places}')
     print('proved as it is', flush=True)

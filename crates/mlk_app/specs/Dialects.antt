@@ -1,6 +1,5 @@
 -- The texts of routines as they are read, by how much of M is read. This project's own choice.
-use Rattle.std.specs.Prelude.{ℕ, ◌≡◌, ◌+◌, min, List, [], ◌∷◌, Option, None, Some, option_map, Vec}
-use Rattle.std.specs.Global.{Global}
+use Rattle.std.specs.Prelude.{ℕ, ◌≡◌, ◌+◌, min, List, [], ◌∷◌, Option, None, Some, option_map}
 use Rattle.mlk_cli.specs.declared.words.Dialect.{Dialect}
 use Rattle.mlk_cli.specs.declared.words.Dialect.TheVariants as dialect
 use Rattle.mlk_pool.specs.declared.source.Source.{Source}

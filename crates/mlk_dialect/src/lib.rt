@@ -7,3 +7,4 @@ mod tables;
 mod word;
 
 pub use plain::{PlainText, plain_text};
+pub use tables::{is_function, is_text_name, is_variable, is_zdata};
