@@ -283,7 +283,7 @@ pub fn render_report(
 ) -> Result<PrintedReport, AllocError>
     ensures { IfOk result (λ printed. IsRendered style explanations.now.rests explanations.now.comparison (map routine_of explanations.now.grounds.now.program.now) report.now printed.text printed.passes) }
 {
-    let hazards = reported_hazards(alloc, inputs.routines, style.is_strict)?;
+    let hazards = reported_hazards(alloc, explanations.grounds, style.is_strict)?;
     let gaps = reported_gaps(alloc, explanations.coverage, style.is_strict)?;
     let reported = hazards.as_slice();
     let found = gaps.as_slice();

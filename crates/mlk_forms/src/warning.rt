@@ -4,12 +4,13 @@ ghost use Rattle.std.specs.Prelude.{◌≡◌, ◌++◌, IfOk, OnOk};
 ghost use Rattle.mlk_forms.specs.Rendering.{AreGaps, AreReported, gap_line, gap_lines, gap_place, hazard_line, hazard_lines, warning_lines};
 
 use mlk_coverage::{Coverage, Gap, GapPlace, gaps_of};
-use mlk_hazards::{HazardAt, hazards_of};
+use mlk_explain::Grounds;
+use mlk_hazards::{Hazard, HazardAt, hazards_of};
 use mlk_pool::ReportText;
 use mlk_report_text::Piece::{At, Bytes, Made, Number, Words};
 use mlk_report_text::text_of;
-use mlk_syntax::Routine;
-use mlk_text::Column;
+use mlk_stale::stale_writes;
+use mlk_text::{Column, push_sparing};
 use std::alloc::{AllocError, Global};
 
 /// What is reported besides faults.
@@ -19,10 +20,27 @@ pub(crate) struct Warnings<'a> {
     pub(crate) gaps: &'a [Gap<'a>],
 }
 
-/// The hazards that are reported: none, unless they are asked for.
+// Adds the stale writes of a program to its hazards.
+fn add_stale_writes<'a>(
+    alloc: Global,
+    hazards: &mut Vec<HazardAt<'a>>,
+    grounds: &Grounds<'a>,
+) -> Result<(), AllocError> {
+    let found = stale_writes(alloc, grounds.program, grounds.rules)?;
+    for position in found.keys() {
+        let write = HazardAt {
+            position: *position,
+            hazard: Hazard::StaleWrite,
+        };
+        push_sparing(hazards, write)?;
+    }
+    hazards.sort_by(|hazard, other| hazard.position.cmp(&other.position))
+}
+
+/// The hazards that are reported, in the order of their places: none, unless they are asked for.
 pub(crate) fn reported_hazards<'a>(
     alloc: Global,
-    routines: &'a [Routine],
+    grounds: &Grounds<'a>,
     is_strict: bool,
 ) -> Result<Vec<HazardAt<'a>>, AllocError>
     ensures { IfOk result (λ hazards. AreReported is_strict hazards.items) }
@@ -30,7 +48,8 @@ pub(crate) fn reported_hazards<'a>(
     if !is_strict {
         return Ok(Vec::new(alloc));
     }
-    let hazards = hazards_of(alloc, routines)?;
+    let mut hazards = hazards_of(alloc, grounds.program.routines())?;
+    add_stale_writes(alloc, &mut hazards, grounds)?;
     Ok(hazards)
 }
 

@@ -31,7 +31,7 @@ fn add_mention<'a>(
     }
 }
 
-/// The hazards of `routines`, which contain `mentions`, in the order of their places.
+/// The hazards that the texts of `routines`, which contain `mentions`, show, in the order of their places.
 pub fn hazards_in<'a>(
     alloc: Global,
     routines: &[&'a Routine],
@@ -54,7 +54,7 @@ pub fn hazards_in<'a>(
     Ok(hazards)
 }
 
-/// The hazards of `routines`, in the order of their places.
+/// The hazards that the texts of `routines` show, in the order of their places.
 pub fn hazards_of<'a>(
     alloc: Global,
     routines: &'a [Routine],

@@ -1,11 +1,11 @@
-// Places where a real system may differ from the model that a `yes` is about.
+// Places that a `yes` leaves open: where a real system may differ from the model, or a value may be out of date.
 
 ghost use Rattle.std.specs.Prelude.{◌≡◌};
 ghost use Rattle.mlk_hazards.specs.Words.{hazard_word};
 
 use mlk_survey_trees::Position;
 
-/// Why a real system may differ at a place.
+/// What may go wrong at a place.
 #[derive(Clone, Copy, Drop, PartialEq, Eq)]
 pub enum Hazard {
     /// an extrinsic call right of `&`, `!`, `'&` or `'!`: it may not run
@@ -20,6 +20,8 @@ pub enum Hazard {
     LongLine,
     /// a label whose first 31 characters are those of an earlier label: a call of it may go to that one
     LabelsAlike,
+    /// a write of a value that was read before the lock was acquired: an update may be lost
+    StaleWrite,
 }
 
 impl Hazard {
@@ -34,6 +36,7 @@ impl Hazard {
             Hazard::BlockBeforeFormals => "BlockBeforeFormals",
             Hazard::LongLine => "LongLine",
             Hazard::LabelsAlike => "LabelsAlike",
+            Hazard::StaleWrite => "StaleWrite",
         }
     }
 
@@ -48,11 +51,14 @@ impl Hazard {
             Hazard::BlockBeforeFormals => "put a line with QUIT between them",
             Hazard::LongLine => "break the line up",
             Hazard::LabelsAlike => "use labels that differ in their first 31 characters",
+            Hazard::StaleWrite => {
+                "read the node again under the lock, or claim the lock before the first read"
+            }
         }
     }
 }
 
-/// A place where a real system may differ, and why.
+/// A hazard, with its place.
 #[derive(Clone, Copy, Drop)]
 pub struct HazardAt<'a> {
     pub position: Position<'a>,

@@ -1,4 +1,4 @@
-//! Places in routines where a real system may differ from the model that a `yes` is about.
+//! Places in routines that a `yes` leaves open: what hazards there are, and those that the text of a routine shows.
 #![tactic(auto)]
 
 mod block;

@@ -11,7 +11,7 @@ pub(crate) struct HazardMeaning {
 }
 
 /// All hazards.
-pub(crate) const HAZARD_MEANINGS: [HazardMeaning; 6] = [
+pub(crate) const HAZARD_MEANINGS: [HazardMeaning; 7] = [
     HazardMeaning {
         hazard: Hazard::SkippedCall,
         is: "an extrinsic call right of a logical operator: a system may skip it",
@@ -35,6 +35,10 @@ pub(crate) const HAZARD_MEANINGS: [HazardMeaning; 6] = [
     HazardMeaning {
         hazard: Hazard::LabelsAlike,
         is: "two labels with the same first 31 characters: a system may take one for the other",
+    },
+    HazardMeaning {
+        hazard: Hazard::StaleWrite,
+        is: "a value that was read before the lock for the write was acquired: another job's update may be lost",
     },
 ];
 

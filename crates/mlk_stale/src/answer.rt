@@ -1,0 +1,44 @@
+// The answers of conditions.
+
+use mlk_stale_steps::Condition;
+
+/// Whether a condition may have this answer where `$TEST` is `test`.
+pub(crate) fn may_be(condition: Condition, test: Option<bool>, answer: bool) -> bool {
+    match condition {
+        Condition::Always(holds) => holds == answer,
+        Condition::Open => true,
+        Condition::Test(is_set) => match test {
+            Some(test) => (test == is_set) == answer,
+            None => true,
+        },
+    }
+}
+
+/// `$TEST` after a condition, for each answer.
+#[derive(Clone, Copy, Drop)]
+pub(crate) struct Tests {
+    pub(crate) held: Option<bool>,
+    pub(crate) failed: Option<bool>,
+}
+
+impl Tests {
+    /// `$TEST` becomes the answer.
+    pub(crate) const ANSWER: Tests = Tests {
+        held: Some(true),
+        failed: Some(false),
+    };
+
+    /// `$TEST` stays as it is; a condition on it shows what it is.
+    pub(crate) fn after(condition: Condition, test: Option<bool>) -> Tests {
+        match condition {
+            Condition::Test(is_set) => Tests {
+                held: Some(is_set),
+                failed: Some(!is_set),
+            },
+            _ => Tests {
+                held: test,
+                failed: test,
+            },
+        }
+    }
+}

@@ -1,0 +1,113 @@
+// The stale writes of a program.
+
+ghost use Rattle.std.specs.Prelude.{IfOk, OnOk, All};
+ghost use Rattle.std.specs.BTreeMap.{values};
+ghost use Rattle.mlk_stale.specs.Stale.{IsStale};
+
+use crate::judge::is_stale;
+use crate::stale::StaleWrite;
+use crate::walk::Walk;
+use mlk_program::{EntryId, Program};
+use mlk_rules::{Rules, entries};
+use mlk_stale_steps::{Code, code_of};
+use mlk_survey_trees::Position;
+use mlk_syntax::{Line, Routine};
+use std::alloc::{AllocError, Global};
+use std::collections::BTreeMap;
+
+// Walks from the entries that `rules` declare.
+fn walk_entries<'a>(
+    walk: &mut Walk<'_, 'a>,
+    code: &Code<'a>,
+    program: &Program<'a>,
+    rules: &Rules,
+) -> Result<(), AllocError> {
+    for text in entries(rules) {
+        if let Some(entry) = program.entry(text.as_bytes()) {
+            if let Some(mark) = code.lines.of(entry) {
+                walk.walk_from(mark)?;
+            }
+        }
+    }
+    Ok(())
+}
+
+// Whether a label or the routine begins at `line`, which has this index.
+fn is_entry(index: usize, line: &Line) -> bool {
+    index == 0 || line.label.is_some()
+}
+
+// Walks from each label of `routines` to which no path has come, except those whose marks are among `others`.
+fn walk_labels<'a>(
+    walk: &mut Walk<'_, 'a>,
+    code: &Code<'a>,
+    routines: &'a [Routine],
+    others: &[bool],
+) -> Result<(), AllocError> {
+    for (number, routine) in routines.iter().enumerate() {
+        for (index, line) in routine.lines.iter().enumerate() {
+            if !is_entry(index, line) {
+                continue;
+            }
+            let Some(mark) = code.lines.of(EntryId::new(number, index)) else {
+                continue;
+            };
+            let is_other = others.get(mark.index).copied().unwrap_or(false);
+            if !is_other && !walk.has_come_to(mark) {
+                walk.walk_from(mark)?;
+            }
+        }
+    }
+    Ok(())
+}
+
+// Adds `write` to `kept`, if it is stale.
+fn keep_if_stale<'a>(
+    rules: &Rules,
+    kept: &mut BTreeMap<Position<'a>, StaleWrite<'a>>,
+    position: Position<'a>,
+    write: StaleWrite<'a>,
+) -> Result<(), AllocError>
+    requires { All (IsStale rules.now) (values kept.old) }
+    ensures { OnOk result (All (IsStale rules.now) (values kept.new)) }
+{
+    if !is_stale(rules, &write) {
+        return Ok(());
+    }
+    kept.insert(position, write)?;
+    Ok(())
+}
+
+// Those of `found` that are stale.
+fn keep_stale<'a>(
+    alloc: Global,
+    rules: &Rules,
+    found: BTreeMap<Position<'a>, StaleWrite<'a>>,
+) -> Result<BTreeMap<Position<'a>, StaleWrite<'a>>, AllocError>
+    ensures { IfOk result (λ kept. All (IsStale rules.now) (values kept)) }
+{
+    let mut kept = BTreeMap::new(alloc);
+    for (position, write) in found {
+        keep_if_stale(rules, &mut kept, position, write)?;
+    }
+    Ok(kept)
+}
+
+/// The stale writes of `program` by `rules`, each by its place, on the paths that are followed: from the declared entries, then
+/// from labels to which no path has come, first those that nothing calls, then the others.
+pub fn stale_writes<'a>(
+    alloc: Global,
+    program: &Program<'a>,
+    rules: &Rules,
+) -> Result<BTreeMap<Position<'a>, StaleWrite<'a>>, AllocError>
+    ensures { IfOk result (λ found. All (IsStale rules.now) (values found)) }
+{
+    let code = code_of(alloc, program)?;
+    let called = code.called_marks(alloc)?;
+    let mut walk = Walk::new(alloc, rules, &code)?;
+    walk_entries(&mut walk, &code, program, rules)?;
+    walk_labels(&mut walk, &code, program.routines(), called.as_slice())?;
+    walk_labels(&mut walk, &code, program.routines(), &[])?;
+    let Walk { found, .. } = walk;
+    keep_stale(alloc, rules, found)
+}

@@ -1,0 +1,81 @@
+// Whether a write is stale.
+
+ghost use Rattle.std.specs.Prelude.{◌≡◌, ◌↔◌, [], IsTrue};
+ghost use Rattle.std.specs.Bool.{Decides};
+ghost use Rattle.mlk_rules.specs.Coverage.{IsCovered};
+ghost use Rattle.mlk_stale.specs.Stale.{ReadsWritten, IsProtected, IsStale};
+
+use crate::stale::StaleWrite;
+use mlk_names::{Access, Extent, LockTerm, Reference};
+use mlk_rules::{Rules, check_reference};
+
+// Whether `items` and `others` are equal.
+fn are_equal<T: PartialEq>(items: &[T], others: &[T]) -> bool
+    requires { (x y : T) → Decides (T.eq x y) (x ≡ y) }
+    ensures { IsTrue result ↔ (items.now ≡ others.now) }
+{
+    items == others
+}
+
+// Whether `read` reads the node that `written` writes.
+fn reads_written(read: &Reference, written: &Reference) -> bool
+    ensures { IsTrue result ↔ ReadsWritten read.now written.now }
+{
+    matches!(read.access, Access::Reads)
+        && matches!(written.access, Access::Writes)
+        && matches!(read.extent, Extent::Node)
+        && matches!(written.extent, Extent::Node)
+        && read.root == written.root
+        && are_equal(read.subs.as_slice(), written.subs.as_slice())
+}
+
+// Whether the locks `held` cover `reference`.
+fn is_covered(rules: &Rules, held: &[LockTerm], reference: &Reference) -> bool
+    ensures { IsTrue result ↔ IsCovered rules.now held.now reference.now }
+{
+    check_reference(rules, reference, held).is_ok()
+}
+
+// Whether `reference` needs a lock.
+fn needs_lock(rules: &Rules, reference: &Reference) -> bool
+    ensures { IsTrue result ↔ ¬ IsCovered rules.now [] reference.now }
+{
+    !is_covered(rules, &[], reference)
+}
+
+// Whether the locks `held` cover `read`, which needs a lock.
+fn is_locked(rules: &Rules, held: &[LockTerm], read: &Reference) -> bool
+    ensures { IsTrue result ↔ IsCovered rules.now held.now read.now × ¬ IsCovered rules.now [] read.now }
+{
+    is_covered(rules, held, read) && needs_lock(rules, read)
+}
+
+// Whether the locks `held` keep other jobs from writing the node that `read` reads and `written` writes.
+fn is_protected(rules: &Rules, held: &[LockTerm], read: &Reference, written: &Reference) -> bool
+    ensures { IsTrue result ↔ IsProtected rules.now held.now read.now written.now }
+{
+    is_covered(rules, held, written) || is_locked(rules, held, read)
+}
+
+/// Whether the locks `held` let other jobs write the node that `read` reads and `written` writes.
+pub(crate) fn is_open(
+    rules: &Rules,
+    held: &[LockTerm],
+    read: &Reference,
+    written: &Reference,
+) -> bool
+    ensures { IsTrue result ↔ ¬ IsProtected rules.now held.now read.now written.now }
+{
+    !is_protected(rules, held, read, written)
+}
+
+/// Whether `write` is stale.
+pub fn is_stale(rules: &Rules, write: &StaleWrite<'_>) -> bool
+    ensures { IsTrue result ↔ IsStale rules.now write.now }
+{
+    let read = &write.read.reference;
+    reads_written(read, &write.reference)
+        && write.last_read < write.gap.reads
+        && is_covered(rules, write.held.as_slice(), &write.reference)
+        && is_open(rules, write.gap.held.as_slice(), read, &write.reference)
+}

@@ -1,0 +1,371 @@
+// The steps of commands.
+
+use crate::expr::{add_actuals, add_call, add_expr, add_exprs, add_subscripts};
+use crate::step::{Amount, Call, CallKind, Change, Condition, Jump, Mark, StackStep, Step};
+use crate::writer::Writer;
+use mlk_names::Extent;
+use mlk_syntax::{
+    Action, Actual, Command, DoArgument, Expr, KillArgument, LockArgument, MergeArgument,
+    NewArgument, ReadArgument, SetArgument, Subscript, Target, Variable, WriteArgument,
+};
+use mlk_text::push_sparing;
+use std::alloc::AllocError;
+
+/// Where the commands of a line jump to.
+#[derive(Clone, Copy, Drop)]
+pub(crate) struct Scope {
+    /// the end of the innermost FOR's round, or of the line
+    pub(crate) skip: Mark,
+    /// the end of the innermost FOR; `None` outside of one
+    pub(crate) leave: Option<Mark>,
+    /// the block below the line; `None` if there is none
+    pub(crate) block: Option<Mark>,
+}
+
+// The subscripts of a variable.
+fn subscripts_of(variable: &Variable) -> &[Subscript] {
+    match &variable.name {
+        Expr::Local(_, subscripts) | Expr::Global(_, _, subscripts) => subscripts.as_slice(),
+        _ => &[],
+    }
+}
+
+// Adds the steps of an expression whose value does not matter, if there is one.
+fn add_unused<'a>(writer: &mut Writer<'_, 'a>, e: &'a Option<Expr>) -> Result<(), AllocError> {
+    if let Some(e) = e {
+        add_expr(writer, e)?;
+        writer.discard(1)?;
+    }
+    Ok(())
+}
+
+fn add_do<'a>(writer: &mut Writer<'_, 'a>, argument: &'a DoArgument) -> Result<(), AllocError> {
+    let actuals: &'a [Actual] = match &argument.call.actuals {
+        Some(actuals) => actuals.as_slice(),
+        None => &[],
+    };
+    add_actuals(writer, actuals)?;
+    add_call(writer, &argument.call.callee, actuals, CallKind::Do)
+}
+
+fn add_conditional_do<'a>(
+    writer: &mut Writer<'_, 'a>,
+    argument: &'a DoArgument,
+) -> Result<(), AllocError> {
+    let Some(condition) = &argument.condition else {
+        return add_do(writer, argument);
+    };
+    let over = writer.make_mark()?;
+    add_expr(writer, condition)?;
+    writer.push_jump(Jump::Branch(Condition::of(condition), over))?;
+    add_do(writer, argument)?;
+    writer.place(over);
+    Ok(())
+}
+
+fn add_dos<'a>(
+    writer: &mut Writer<'_, 'a>,
+    scope: Scope,
+    arguments: &'a [DoArgument],
+) -> Result<(), AllocError> {
+    for argument in arguments {
+        add_conditional_do(writer, argument)?;
+    }
+    match scope.block {
+        Some(mark) if arguments.is_empty() => push_sparing(
+            &mut writer.steps,
+            Step::Call(Call {
+                kind: CallKind::Block,
+                mark,
+                formals: &[],
+                actuals: &[],
+            }),
+        ),
+        _ => Ok(()),
+    }
+}
+
+fn add_ifs<'a>(
+    writer: &mut Writer<'_, 'a>,
+    scope: Scope,
+    conditions: &'a [Expr],
+) -> Result<(), AllocError> {
+    if conditions.is_empty() {
+        return writer.push_jump(Jump::OnTest(true, scope.skip));
+    }
+    for condition in conditions {
+        add_expr(writer, condition)?;
+        writer.push_jump(Jump::If(Condition::of(condition), scope.skip))?;
+    }
+    Ok(())
+}
+
+// A job that begins has locals of its own.
+fn add_jobs<'a>(
+    writer: &mut Writer<'_, 'a>,
+    calls: &'a [mlk_syntax::Call],
+) -> Result<(), AllocError> {
+    for call in calls {
+        if let Some(actuals) = &call.actuals {
+            add_actuals(writer, actuals)?;
+            writer.discard(actuals.len())?;
+        }
+    }
+    Ok(())
+}
+
+// Adds a change of `variable` to an unknown value.
+fn add_change<'a>(writer: &mut Writer<'_, 'a>, variable: &'a Variable) -> Result<(), AllocError> {
+    match &variable.name {
+        Expr::Local(name, subscripts) if subscripts.is_empty() => {
+            writer.push_value(StackStep::Forget(0))?;
+            writer.push_change(Change::Assign(name))
+        }
+        _ => {
+            let subscripts = subscripts_of(variable);
+            add_subscripts(writer, subscripts)?;
+            writer.discard(subscripts.len())
+        }
+    }
+}
+
+fn add_kills<'a>(writer: &mut Writer<'_, 'a>, kills: &'a [KillArgument]) -> Result<(), AllocError> {
+    if kills.is_empty() {
+        return writer.push_change(Change::ForgetLocals);
+    }
+    for kill in kills {
+        match kill {
+            KillArgument::One(variable) => add_change(writer, variable)?,
+            KillArgument::AllBut(_) => writer.push_change(Change::ForgetLocals)?,
+        }
+    }
+    Ok(())
+}
+
+fn add_locks<'a>(
+    writer: &mut Writer<'_, 'a>,
+    arguments: &'a [LockArgument],
+) -> Result<(), AllocError> {
+    if arguments.is_empty() {
+        return push_sparing(&mut writer.steps, Step::ReleaseAll);
+    }
+    for argument in arguments {
+        add_unused(writer, &argument.timeout)?;
+        for name in &argument.names {
+            add_subscripts(writer, subscripts_of(name))?;
+        }
+        push_sparing(&mut writer.steps, Step::Lock(argument))?;
+    }
+    Ok(())
+}
+
+// Adds a MERGE: only the read of its source matters.
+fn add_merge<'a>(
+    writer: &mut Writer<'_, 'a>,
+    argument: &'a MergeArgument,
+) -> Result<(), AllocError> {
+    if let Expr::Global(column, name, subscripts) = &argument.source.name {
+        add_subscripts(writer, subscripts)?;
+        writer.read(*column, name, subscripts.len(), Extent::Tree)?;
+        writer.discard(1)?;
+    }
+    add_change(writer, &argument.target)
+}
+
+fn add_merges<'a>(
+    writer: &mut Writer<'_, 'a>,
+    merges: &'a [MergeArgument],
+) -> Result<(), AllocError> {
+    for merge in merges {
+        add_merge(writer, merge)?;
+    }
+    Ok(())
+}
+
+fn add_news<'a>(writer: &mut Writer<'_, 'a>, news: &'a [NewArgument]) -> Result<(), AllocError> {
+    if news.is_empty() {
+        return writer.push_change(Change::ForgetLocals);
+    }
+    for new in news {
+        match new {
+            NewArgument::One(_, name) => writer.push_change(Change::New(name))?,
+            NewArgument::AllBut(_) => writer.push_change(Change::ForgetLocals)?,
+        }
+    }
+    Ok(())
+}
+
+// Adds a read of a line or a character into a local, which sets `$TEST` if it has a timeout.
+fn add_input<'a>(
+    writer: &mut Writer<'_, 'a>,
+    variable: &'a Variable,
+    timeout: &'a Option<Expr>,
+) -> Result<(), AllocError> {
+    add_unused(writer, timeout)?;
+    add_change(writer, variable)?;
+    if timeout.is_some() {
+        writer.push_change(Change::AnyTest)?;
+    }
+    Ok(())
+}
+
+fn add_read<'a>(writer: &mut Writer<'_, 'a>, argument: &'a ReadArgument) -> Result<(), AllocError> {
+    match argument {
+        ReadArgument::Text(_) => Ok(()),
+        ReadArgument::Format(tab) => add_unused(writer, tab),
+        ReadArgument::Line(variable, most, timeout) => {
+            add_unused(writer, most)?;
+            add_input(writer, variable, timeout)
+        }
+        ReadArgument::Character(variable, timeout) => add_input(writer, variable, timeout),
+    }
+}
+
+fn add_reads<'a>(writer: &mut Writer<'_, 'a>, reads: &'a [ReadArgument]) -> Result<(), AllocError> {
+    for read in reads {
+        add_read(writer, read)?;
+    }
+    Ok(())
+}
+
+// Adds the write of the last value to a variable; the value remains.
+fn add_whole<'a>(writer: &mut Writer<'_, 'a>, variable: &'a Variable) -> Result<(), AllocError> {
+    match &variable.name {
+        Expr::Local(name, subscripts) if subscripts.is_empty() => {
+            writer.push_value(StackStep::Copy)?;
+            writer.push_change(Change::Assign(name))
+        }
+        Expr::Global(column, name, subscripts) => {
+            add_subscripts(writer, subscripts)?;
+            writer.write(*column, name, subscripts.len(), Amount::Whole)
+        }
+        _ => add_change(writer, variable),
+    }
+}
+
+// Adds the write of the last value to a part of a variable; the value remains.
+fn add_part<'a>(writer: &mut Writer<'_, 'a>, variable: &'a Variable) -> Result<(), AllocError> {
+    match &variable.name {
+        Expr::Local(name, subscripts) if subscripts.is_empty() => {
+            writer.push_value(StackStep::Copy)?;
+            writer.push_value(StackStep::Local(name))?;
+            writer.push_value(StackStep::Combine(2))?;
+            writer.push_change(Change::Assign(name))
+        }
+        Expr::Global(column, name, subscripts) => {
+            add_subscripts(writer, subscripts)?;
+            writer.write(*column, name, subscripts.len(), Amount::Part)
+        }
+        _ => add_change(writer, variable),
+    }
+}
+
+fn add_target<'a>(writer: &mut Writer<'_, 'a>, target: &'a Target) -> Result<(), AllocError> {
+    match target {
+        Target::Whole(variable) => add_whole(writer, variable),
+        Target::Part(_, variable, arguments) => {
+            add_exprs(writer, arguments)?;
+            writer.discard(arguments.len())?;
+            add_part(writer, variable)
+        }
+    }
+}
+
+fn add_set<'a>(writer: &mut Writer<'_, 'a>, set: &'a SetArgument) -> Result<(), AllocError> {
+    add_expr(writer, &set.value)?;
+    for target in set.targets.as_slice() {
+        add_target(writer, target)?;
+    }
+    writer.discard(1)
+}
+
+fn add_sets<'a>(writer: &mut Writer<'_, 'a>, sets: &'a [SetArgument]) -> Result<(), AllocError> {
+    for set in sets {
+        add_set(writer, set)?;
+    }
+    Ok(())
+}
+
+fn add_write<'a>(
+    writer: &mut Writer<'_, 'a>,
+    argument: &'a WriteArgument,
+) -> Result<(), AllocError> {
+    match argument {
+        WriteArgument::Value(e) | WriteArgument::Character(e) => {
+            add_expr(writer, e)?;
+            writer.discard(1)
+        }
+        WriteArgument::Format(tab) => add_unused(writer, tab),
+    }
+}
+
+fn add_writes<'a>(
+    writer: &mut Writer<'_, 'a>,
+    writes: &'a [WriteArgument],
+) -> Result<(), AllocError> {
+    for argument in writes {
+        add_write(writer, argument)?;
+    }
+    Ok(())
+}
+
+fn add_quit<'a>(
+    writer: &mut Writer<'_, 'a>,
+    scope: Scope,
+    value: &'a Option<Box<Expr>>,
+) -> Result<(), AllocError> {
+    if let Some(mark) = scope.leave {
+        return writer.push_jump(Jump::LeaveFor(mark));
+    }
+    match value {
+        None => push_sparing(&mut writer.steps, Step::Return),
+        Some(value) => {
+            add_expr(writer, value)?;
+            push_sparing(&mut writer.steps, Step::ReturnValue)
+        }
+    }
+}
+
+// Adds the steps of a command without its condition.
+fn add_action<'a>(
+    writer: &mut Writer<'_, 'a>,
+    scope: Scope,
+    action: &'a Action,
+) -> Result<(), AllocError> {
+    match action {
+        Action::Do(arguments) => add_dos(writer, scope, arguments),
+        Action::Else => writer.push_jump(Jump::OnTest(false, scope.skip)),
+        Action::Halt => push_sparing(&mut writer.steps, Step::Halt),
+        Action::Hang(values) => {
+            add_exprs(writer, values)?;
+            writer.discard(values.len())
+        }
+        Action::If(conditions) => add_ifs(writer, scope, conditions),
+        Action::Job(calls) => add_jobs(writer, calls),
+        Action::Kill(kills) => add_kills(writer, kills),
+        Action::Lock(arguments) => add_locks(writer, arguments),
+        Action::Merge(merges) => add_merges(writer, merges),
+        Action::New(news) => add_news(writer, news),
+        Action::Quit(value) => add_quit(writer, scope, value),
+        Action::Read(reads) => add_reads(writer, reads),
+        Action::Set(sets) => add_sets(writer, sets),
+        Action::Write(writes) => add_writes(writer, writes),
+    }
+}
+
+/// Adds the steps of `command`.
+pub(crate) fn add_command<'a>(
+    writer: &mut Writer<'_, 'a>,
+    scope: Scope,
+    command: &'a Command,
+) -> Result<(), AllocError> {
+    let Some(condition) = &command.condition else {
+        return add_action(writer, scope, &command.action);
+    };
+    let over = writer.make_mark()?;
+    add_expr(writer, condition)?;
+    writer.push_jump(Jump::Branch(Condition::of(condition), over))?;
+    add_action(writer, scope, &command.action)?;
+    writer.place(over);
+    Ok(())
+}
