@@ -11,14 +11,14 @@ use mlk_syntax::{
 use mlk_text::push_sparing;
 use std::alloc::AllocError;
 
-/// Where the commands of a line jump to.
+/// Where the commands of a line may jump to.
 #[derive(Clone, Copy, Drop)]
 pub(crate) struct Scope {
-    /// the end of the innermost FOR's round, or of the line
+    /// the end of the round of the innermost FOR, or of the line outside of one
     pub(crate) skip: Mark,
     /// the end of the innermost FOR; `None` outside of one
     pub(crate) leave: Option<Mark>,
-    /// the block below the line; `None` if there is none
+    /// the block below the line; `None` without one
     pub(crate) block: Option<Mark>,
 }
 
@@ -30,11 +30,11 @@ fn subscripts_of(variable: &Variable) -> &[Subscript] {
     }
 }
 
-// Adds the steps of an expression whose value does not matter, if there is one.
+// Adds the steps of `e`, if it is there, and discards its value.
 fn add_unused<'a>(writer: &mut Writer<'_, 'a>, e: &'a Option<Expr>) -> Result<(), AllocError> {
     if let Some(e) = e {
         add_expr(writer, e)?;
-        writer.discard(1)?;
+        writer.push_discard(1)?;
     }
     Ok(())
 }
@@ -100,7 +100,7 @@ fn add_ifs<'a>(
     Ok(())
 }
 
-// A job that begins has locals of its own.
+// Adds the steps of the actuals of `calls`. The job that begins has locals of its own.
 fn add_jobs<'a>(
     writer: &mut Writer<'_, 'a>,
     calls: &'a [mlk_syntax::Call],
@@ -108,13 +108,13 @@ fn add_jobs<'a>(
     for call in calls {
         if let Some(actuals) = &call.actuals {
             add_actuals(writer, actuals)?;
-            writer.discard(actuals.len())?;
+            writer.push_discard(actuals.len())?;
         }
     }
     Ok(())
 }
 
-// Adds a change of `variable` to an unknown value.
+// Adds a change of `variable` to an unknown value. Only that of a local without subscripts is followed.
 fn add_change<'a>(writer: &mut Writer<'_, 'a>, variable: &'a Variable) -> Result<(), AllocError> {
     match &variable.name {
         Expr::Local(name, subscripts) if subscripts.is_empty() => {
@@ -124,7 +124,7 @@ fn add_change<'a>(writer: &mut Writer<'_, 'a>, variable: &'a Variable) -> Result
         _ => {
             let subscripts = subscripts_of(variable);
             add_subscripts(writer, subscripts)?;
-            writer.discard(subscripts.len())
+            writer.push_discard(subscripts.len())
         }
     }
 }
@@ -159,15 +159,15 @@ fn add_locks<'a>(
     Ok(())
 }
 
-// Adds a MERGE: only the read of its source matters.
+// Adds a MERGE. Its source is read; what is written is not followed.
 fn add_merge<'a>(
     writer: &mut Writer<'_, 'a>,
     argument: &'a MergeArgument,
 ) -> Result<(), AllocError> {
     if let Expr::Global(column, name, subscripts) = &argument.source.name {
         add_subscripts(writer, subscripts)?;
-        writer.read(*column, name, subscripts.len(), Extent::Tree)?;
-        writer.discard(1)?;
+        writer.push_read(*column, name, subscripts.len(), Extent::Tree)?;
+        writer.push_discard(1)?;
     }
     add_change(writer, &argument.target)
 }
@@ -195,7 +195,7 @@ fn add_news<'a>(writer: &mut Writer<'_, 'a>, news: &'a [NewArgument]) -> Result<
     Ok(())
 }
 
-// Adds a read of a line or a character into a local, which sets `$TEST` if it has a timeout.
+// Adds a READ of a line or a character into `variable`. It sets `$TEST` if it has a timeout.
 fn add_input<'a>(
     writer: &mut Writer<'_, 'a>,
     variable: &'a Variable,
@@ -228,7 +228,7 @@ fn add_reads<'a>(writer: &mut Writer<'_, 'a>, reads: &'a [ReadArgument]) -> Resu
     Ok(())
 }
 
-// Adds the write of the last value to a variable; the value remains.
+// Adds the write of the last value to `variable`; the value remains on the stack.
 fn add_whole<'a>(writer: &mut Writer<'_, 'a>, variable: &'a Variable) -> Result<(), AllocError> {
     match &variable.name {
         Expr::Local(name, subscripts) if subscripts.is_empty() => {
@@ -237,13 +237,13 @@ fn add_whole<'a>(writer: &mut Writer<'_, 'a>, variable: &'a Variable) -> Result<
         }
         Expr::Global(column, name, subscripts) => {
             add_subscripts(writer, subscripts)?;
-            writer.write(*column, name, subscripts.len(), Amount::Whole)
+            writer.push_write(*column, name, subscripts.len(), Amount::Whole)
         }
         _ => add_change(writer, variable),
     }
 }
 
-// Adds the write of the last value to a part of a variable; the value remains.
+// Adds the write of the last value to a part of `variable`; the value remains on the stack.
 fn add_part<'a>(writer: &mut Writer<'_, 'a>, variable: &'a Variable) -> Result<(), AllocError> {
     match &variable.name {
         Expr::Local(name, subscripts) if subscripts.is_empty() => {
@@ -254,7 +254,7 @@ fn add_part<'a>(writer: &mut Writer<'_, 'a>, variable: &'a Variable) -> Result<(
         }
         Expr::Global(column, name, subscripts) => {
             add_subscripts(writer, subscripts)?;
-            writer.write(*column, name, subscripts.len(), Amount::Part)
+            writer.push_write(*column, name, subscripts.len(), Amount::Part)
         }
         _ => add_change(writer, variable),
     }
@@ -265,7 +265,7 @@ fn add_target<'a>(writer: &mut Writer<'_, 'a>, target: &'a Target) -> Result<(),
         Target::Whole(variable) => add_whole(writer, variable),
         Target::Part(_, variable, arguments) => {
             add_exprs(writer, arguments)?;
-            writer.discard(arguments.len())?;
+            writer.push_discard(arguments.len())?;
             add_part(writer, variable)
         }
     }
@@ -276,7 +276,7 @@ fn add_set<'a>(writer: &mut Writer<'_, 'a>, set: &'a SetArgument) -> Result<(), 
     for target in set.targets.as_slice() {
         add_target(writer, target)?;
     }
-    writer.discard(1)
+    writer.push_discard(1)
 }
 
 fn add_sets<'a>(writer: &mut Writer<'_, 'a>, sets: &'a [SetArgument]) -> Result<(), AllocError> {
@@ -293,7 +293,7 @@ fn add_write<'a>(
     match argument {
         WriteArgument::Value(e) | WriteArgument::Character(e) => {
             add_expr(writer, e)?;
-            writer.discard(1)
+            writer.push_discard(1)
         }
         WriteArgument::Format(tab) => add_unused(writer, tab),
     }
@@ -338,7 +338,7 @@ fn add_action<'a>(
         Action::Halt => push_sparing(&mut writer.steps, Step::Halt),
         Action::Hang(values) => {
             add_exprs(writer, values)?;
-            writer.discard(values.len())
+            writer.push_discard(values.len())
         }
         Action::If(conditions) => add_ifs(writer, scope, conditions),
         Action::Job(calls) => add_jobs(writer, calls),

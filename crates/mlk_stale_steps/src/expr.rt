@@ -1,4 +1,4 @@
-// The steps of expressions. Those of each expression put one value.
+// The steps of expressions. Those of each expression push one value.
 
 use crate::step::{Call, CallKind, StackStep, Step};
 use crate::writer::Writer;
@@ -14,16 +14,10 @@ pub(crate) fn add_expr<'a>(writer: &mut Writer<'_, 'a>, e: &'a Expr) -> Result<(
         Expr::Lit(value) => writer.push_value(StackStep::Constant(value)),
         Expr::Special(Special::Job) => writer.push_value(StackStep::JobNumber),
         Expr::Free | Expr::Special(_) | Expr::Pattern(_) => writer.push_value(StackStep::Forget(0)),
-        Expr::Local(name, subscripts) if subscripts.is_empty() => writer.push_value(
-            StackStep::Local(name),
-        ),
-        Expr::Local(_, subscripts) => {
-            add_subscripts(writer, subscripts)?;
-            writer.push_value(StackStep::Forget(subscripts.len()))
-        }
+        Expr::Local(name, subscripts) => add_local(writer, name, subscripts),
         Expr::Global(column, name, subscripts) => {
             add_subscripts(writer, subscripts)?;
-            writer.read(*column, name, subscripts.len(), Extent::Node)
+            writer.push_read(*column, name, subscripts.len(), Extent::Node)
         }
         Expr::Unary(_, operand) => {
             add_expr(writer, operand)?;
@@ -50,6 +44,20 @@ pub(crate) fn add_expr<'a>(writer: &mut Writer<'_, 'a>, e: &'a Expr) -> Result<(
     }
 }
 
+// Adds the steps of the local `name`. The value of one with subscripts is unknown.
+#[cycle(writing)]
+fn add_local<'a>(
+    writer: &mut Writer<'_, 'a>,
+    name: &'a Name,
+    subscripts: &'a [Subscript],
+) -> Result<(), AllocError> {
+    if subscripts.is_empty() {
+        return writer.push_value(StackStep::Local(name));
+    }
+    add_subscripts(writer, subscripts)?;
+    writer.push_value(StackStep::Forget(subscripts.len()))
+}
+
 /// Adds the steps of the expressions `es`, in order.
 #[cycle(writing)]
 pub(crate) fn add_exprs<'a>(writer: &mut Writer<'_, 'a>, es: &'a [Expr]) -> Result<(), AllocError> {
@@ -71,7 +79,7 @@ pub(crate) fn add_subscripts<'a>(
     Ok(())
 }
 
-/// Adds the steps of `actuals`, in order. One that is missing or passed by reference has an unknown value.
+/// Adds the steps of `actuals`, in order. An actual that is missing or passed by reference has an unknown value.
 #[cycle(writing)]
 pub(crate) fn add_actuals<'a>(
     writer: &mut Writer<'_, 'a>,
@@ -86,7 +94,7 @@ pub(crate) fn add_actuals<'a>(
     Ok(())
 }
 
-/// Adds a call of `callee`, after the steps of its actuals. A path ends at one that the program does not have.
+/// Adds a call of `callee`, whose actuals are on the stack. A path ends at a callee that the program does not have.
 pub(crate) fn add_call<'a>(
     writer: &mut Writer<'_, 'a>,
     callee: &'a Callee,
@@ -114,6 +122,7 @@ pub(crate) fn add_call<'a>(
     )
 }
 
+// Adds the steps of the further operands of a chain of binary operators.
 #[cycle(writing)]
 fn add_chain<'a>(writer: &mut Writer<'_, 'a>, rest: &'a [(Op, Expr)]) -> Result<(), AllocError> {
     for (_, operand) in rest {
@@ -122,7 +131,7 @@ fn add_chain<'a>(writer: &mut Writer<'_, 'a>, rest: &'a [(Op, Expr)]) -> Result<
     Ok(())
 }
 
-// Adds the steps of the choices of a $SELECT: its value may be that of each of them, and does not come from their conditions.
+// Adds the steps of `choices` of a $SELECT, whose value may be that of each choice. It does not come from their conditions.
 #[cycle(writing)]
 fn add_choices<'a>(
     writer: &mut Writer<'_, 'a>,
@@ -130,13 +139,13 @@ fn add_choices<'a>(
 ) -> Result<(), AllocError> {
     for (condition, value) in choices {
         add_expr(writer, condition)?;
-        writer.discard(1)?;
+        writer.push_discard(1)?;
         add_expr(writer, value)?;
     }
     Ok(())
 }
 
-// Adds the steps of the arguments of `function`: each puts one value.
+// Adds the steps of `arguments` of `function`: each pushes one value.
 #[cycle(writing)]
 fn add_function<'a>(
     writer: &mut Writer<'_, 'a>,
@@ -152,7 +161,8 @@ fn add_function<'a>(
     }
 }
 
-// Adds the steps by which a function reads the global that is its first argument.
+// Adds the steps by which `function` reads the global that is its first argument: $DATA reads the tree of its node, $ORDER that
+// above it, $QUERY the whole global, $NAME nothing.
 #[cycle(writing)]
 fn add_read<'a>(
     writer: &mut Writer<'_, 'a>,
@@ -165,15 +175,15 @@ fn add_read<'a>(
     let count = subscripts.len();
     match function {
         Function::Name => writer.push_value(StackStep::Forget(count)),
-        Function::Data => writer.read(column, name, count, Extent::Tree),
+        Function::Data => writer.push_read(column, name, count, Extent::Tree),
         Function::Order => {
-            writer.discard(count.min(1))?;
-            writer.read(column, name, count.saturating_sub(1), Extent::Tree)
+            writer.push_discard(count.min(1))?;
+            writer.push_read(column, name, count.saturating_sub(1), Extent::Tree)
         }
         Function::Query => {
-            writer.discard(count)?;
-            writer.read(column, name, 0, Extent::Tree)
+            writer.push_discard(count)?;
+            writer.push_read(column, name, 0, Extent::Tree)
         }
-        _ => writer.read(column, name, count, Extent::Node),
+        _ => writer.push_read(column, name, count, Extent::Node),
     }
 }

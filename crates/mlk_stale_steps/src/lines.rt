@@ -9,7 +9,7 @@ use mlk_syntax::{Commands, Control, For, Line, Parameter, Routine};
 use mlk_text::push_sparing;
 use std::alloc::{AllocError, Global};
 
-// Adds the steps of a parameter of FOR, and returns how it can end.
+// Adds the steps of a parameter of FOR, and returns whether its values end.
 fn add_parameter<'a>(
     writer: &mut Writer<'_, 'a>,
     parameter: &'a Parameter,
@@ -17,26 +17,26 @@ fn add_parameter<'a>(
     match parameter {
         Parameter::Once(value) => {
             add_expr(writer, value)?;
-            writer.discard(1)?;
+            writer.push_discard(1)?;
             Ok(Rounds::Limited)
         }
         Parameter::Endless(start, step) => {
             add_expr(writer, start)?;
             add_expr(writer, step)?;
-            writer.discard(2)?;
+            writer.push_discard(2)?;
             Ok(Rounds::Endless)
         }
         Parameter::Limited(start, step, limit) => {
             add_expr(writer, start)?;
             add_expr(writer, step)?;
             add_expr(writer, limit)?;
-            writer.discard(3)?;
+            writer.push_discard(3)?;
             Ok(Rounds::Limited)
         }
     }
 }
 
-// Adds the steps of the values of a FOR's variable, and returns how the FOR can end.
+// Adds the steps of the parameters of a FOR, and returns whether the values of its variable end.
 fn add_parameters<'a>(
     writer: &mut Writer<'_, 'a>,
     control: &'a Option<Control>,
@@ -53,7 +53,7 @@ fn add_parameters<'a>(
     Ok(rounds)
 }
 
-// Adds the begin of a round of a FOR, whose variable gets another value.
+// Adds the start of a round of a FOR, whose variable gets an unknown value, and returns its mark.
 fn begin_round<'a>(
     writer: &mut Writer<'_, 'a>,
     control: &'a Option<Control>,
@@ -67,7 +67,7 @@ fn begin_round<'a>(
     Ok(start)
 }
 
-// Adds a FOR with the rest of its line.
+// Adds the steps of the FOR `last`, with those of the rest of its line.
 #[cycle(lines)]
 fn add_for<'a>(writer: &mut Writer<'_, 'a>, scope: Scope, last: &'a For) -> Result<(), AllocError> {
     let rounds = add_parameters(writer, &last.control)?;
@@ -87,7 +87,7 @@ fn add_for<'a>(writer: &mut Writer<'_, 'a>, scope: Scope, last: &'a For) -> Resu
     Ok(())
 }
 
-// Adds the commands of a line, or of the rest of one.
+// Adds the steps of the commands of a line, or of the rest of a line.
 #[cycle(lines)]
 fn add_commands<'a>(
     writer: &mut Writer<'_, 'a>,
@@ -103,7 +103,7 @@ fn add_commands<'a>(
     }
 }
 
-// Adds the commands of a line whose block is at a mark.
+// Adds the steps of the commands of `line`, whose block is at the mark `block`.
 fn add_own<'a>(
     writer: &mut Writer<'_, 'a>,
     line: &'a Line,
@@ -121,7 +121,7 @@ fn add_own<'a>(
     Ok(())
 }
 
-// Adds a line, and after it its block, over which it jumps.
+// Adds the steps of `line`, and after them those of its block, over which the line jumps.
 fn add_line<'a>(writer: &mut Writer<'_, 'a>, line: &'a Line) -> Result<(), AllocError> {
     if line.block.is_empty() {
         return add_own(writer, line, None);
@@ -139,7 +139,7 @@ fn add_line<'a>(writer: &mut Writer<'_, 'a>, line: &'a Line) -> Result<(), Alloc
     Ok(())
 }
 
-// Adds the lines of a routine. Lines end before one with a formal list.
+// Adds the steps of the lines of `routine`. A call returns before a line with a formal list.
 fn add_routine<'a>(
     writer: &mut Writer<'_, 'a>,
     number: usize,
@@ -159,7 +159,7 @@ fn add_routine<'a>(
     push_sparing(&mut writer.steps, Step::Return)
 }
 
-/// The steps of `program`.
+/// Makes the steps of `program`.
 pub fn code_of<'a>(alloc: Global, program: &Program<'a>) -> Result<Code<'a>, AllocError> {
     let mut writer = Writer::new(alloc, program)?;
     for (number, routine) in program.routines().iter().enumerate() {

@@ -1,4 +1,4 @@
-// The steps of routines: what lines do, one thing at a time, by a stack of values.
+// Steps: what commands and expressions do, one thing at a time. Values are pushed on a stack and popped off it.
 
 use mlk_names::Extent;
 use mlk_program::EntryId;
@@ -19,7 +19,7 @@ pub enum Condition {
 }
 
 impl Condition {
-    // The condition that holds if this one does not.
+    // The condition that holds exactly if this one does not.
     fn opposite(self) -> Condition {
         match self {
             Condition::Test(is_set) => Condition::Test(!is_set),
@@ -40,13 +40,13 @@ impl Condition {
     }
 }
 
-/// A place in the code: its number among all of them.
+/// A place between steps, to which others jump: its number among all marks.
 #[derive(Clone, Copy, Drop)]
 pub struct Mark {
     pub index: usize,
 }
 
-/// A use of a global, with the number of its subscripts.
+/// A read or write of a global, with the number of its subscripts.
 #[derive(Drop)]
 pub struct Use<'a> {
     pub routine: &'a [u8],
@@ -58,7 +58,7 @@ pub struct Use<'a> {
 }
 
 impl<'a> Use<'a> {
-    /// The place of its caret.
+    /// The position of its caret.
     pub fn position(&self) -> Position<'a> {
         Position {
             routine: self.routine,
@@ -72,11 +72,11 @@ impl<'a> Use<'a> {
 #[derive(Clone, Copy, Drop, PartialEq, Eq)]
 pub enum Amount {
     Whole,
-    /// a piece or an extract: the rest is read
+    /// a piece or an extract: the rest of the value is read first
     Part,
 }
 
-/// How lines are called.
+/// The command or function by which lines are called.
 #[derive(Clone, Copy, Drop, PartialEq, Eq)]
 pub enum CallKind {
     /// DO with arguments
@@ -96,38 +96,38 @@ pub struct Call<'a> {
     pub actuals: &'a [Actual],
 }
 
-/// How a FOR can end.
+/// Whether the values of a FOR's variable end.
 #[derive(Clone, Copy, Drop, PartialEq, Eq)]
 pub enum Rounds {
-    /// only by QUIT
+    /// they don't: the FOR ends by QUIT alone
     Endless,
-    /// at the end of its values, or by QUIT
+    /// they do: the FOR ends after the last one, or by QUIT
     Limited,
 }
 
 /// A step on the stack of values.
 #[derive(Drop)]
 pub enum StackStep<'a> {
-    /// puts a constant
+    /// pushes a constant
     Constant(&'a Value),
-    /// puts the number of the job
+    /// pushes the number of the job
     JobNumber,
-    /// puts the value of a local
+    /// pushes the value of a local
     Local(&'a Name),
-    /// puts the last value once more
+    /// pushes the last value once more
     Copy,
-    /// takes a number of values, and puts one that comes from them
+    /// pops a number of values, and pushes one that comes from all of them
     Combine(usize),
-    /// takes a number of values, and puts an unknown one
+    /// pops a number of values, and pushes an unknown one
     Forget(usize),
-    /// takes a number of values
+    /// pops a number of values
     Discard(usize),
 }
 
 /// A step that changes locals or `$TEST`.
 #[derive(Drop)]
 pub enum Change<'a> {
-    /// takes a value, which a local gets
+    /// pops a value and assigns it to a local
     Assign(&'a Name),
     /// nothing is known of any local from here on
     ForgetLocals,
@@ -137,55 +137,55 @@ pub enum Change<'a> {
     AnyTest,
 }
 
-/// A step after which another one than the next may come.
+/// A step after which a step other than the next may follow.
 #[derive(Clone, Copy, Drop)]
 pub enum Jump {
     Always(Mark),
-    /// takes a condition, and jumps if it does not hold
+    /// pops a condition, and jumps if it does not hold
     Branch(Condition, Mark),
-    /// takes a condition, which `$TEST` becomes, and jumps if it does not hold
+    /// pops a condition, sets `$TEST` to it, and jumps if it does not hold
     If(Condition, Mark),
     /// jumps if `$TEST` does not have this value
     OnTest(bool, Mark),
-    /// the begin of a FOR
+    /// the start of a FOR
     BeginFor,
-    /// the end of a round of a FOR, whose rounds begin at the mark
+    /// the end of a round of a FOR; the next round begins at the mark
     EndRound(Rounds, Mark),
-    /// QUIT in a FOR, which ends at the mark
+    /// QUIT in a FOR; the mark is after the FOR
     LeaveFor(Mark),
 }
 
-/// A step. Values are put on a stack and taken off it.
+/// A step.
 #[derive(Drop)]
 pub enum Step<'a> {
     Stack(StackStep<'a>),
     Change(Change<'a>),
     Jump(Jump),
-    /// takes the subscripts, and puts the value that is read
+    /// pops the subscripts, and pushes the value that is read
     Read(Use<'a>),
-    /// takes the subscripts, and writes the value below them
+    /// pops the subscripts, and writes the value below them, which remains
     Write(Use<'a>, Amount),
-    /// takes the subscripts of all names of an argument of LOCK, and does what it says
+    /// pops the subscripts of all names of an argument of LOCK, and claims or releases these names
     Lock(&'a LockArgument),
     /// LOCK without arguments
     ReleaseAll,
-    /// takes the actuals; an extrinsic call puts a value when it returns
+    /// pops the actuals, and calls; an extrinsic call pushes a value when it returns
     Call(Call<'a>),
     /// QUIT, or the end of lines
     Return,
-    /// takes the value that QUIT returns
+    /// QUIT with a value: pops the value and returns it
     ReturnValue,
     Halt,
 }
 
-/// The marks of the lines of level 1, which are numbered one after another: for each routine, the number of its first one.
+/// The marks of the lines of level 1: those of a routine follow one another, and for each routine the first is kept.
 #[derive(Drop)]
 pub struct LineMarks {
     pub firsts: Vec<usize>,
 }
 
 impl LineMarks {
-    /// The mark of the line of `entry`; `None` if there is no such routine.
+    /// The mark of the line of `entry`, or `None` if there is no such routine.
     pub fn of(&self, entry: EntryId) -> Option<Mark> {
         let first = self.firsts.get(entry.routine())?;
         Some(Mark {
@@ -198,7 +198,7 @@ impl LineMarks {
 #[derive(Drop)]
 pub struct Code<'a> {
     pub steps: Vec<Step<'a>>,
-    /// for each mark, the index of the step there
+    /// for each mark, the index of its step
     pub targets: Vec<usize>,
     pub lines: LineMarks,
 }
@@ -212,7 +212,7 @@ impl Code<'_> {
         }
     }
 
-    /// For each mark, whether some step calls it.
+    /// For each mark, whether some step calls the lines there.
     pub fn called_marks(&self, alloc: Global) -> Result<Vec<bool>, AllocError> {
         let mut called = Vec::new(alloc);
         for _ in &self.targets {

@@ -1,4 +1,4 @@
-// The writer of steps.
+// A list of steps that is being written.
 
 use crate::step::{Amount, Change, Code, Jump, LineMarks, Mark, StackStep, Step, Use};
 use mlk_names::Extent;
@@ -6,24 +6,24 @@ use mlk_program::Program;
 use mlk_text::{Column, LineNumber, Name, push_sparing};
 use std::alloc::{AllocError, Global};
 
-/// The steps so far, and what is needed to add more.
+/// The steps written so far, and what is needed to add more.
 #[derive(Drop)]
 pub(crate) struct Writer<'p, 'a> {
     pub(crate) alloc: Global,
     pub(crate) program: &'p Program<'a>,
     pub(crate) steps: Vec<Step<'a>>,
-    // for each mark that was made, the index of the step there
+    // for each mark that was made, the index of its step
     targets: Vec<usize>,
     pub(crate) lines: LineMarks,
-    /// the routine whose steps are added: its index and its name
+    /// the routine whose steps are being added: its index and its name
     pub(crate) routine: usize,
     pub(crate) name: &'a [u8],
-    /// the line whose steps are added
+    /// the line whose steps are being added
     pub(crate) line: LineNumber,
 }
 
 impl<'p, 'a> Writer<'p, 'a> {
-    /// A writer without steps. Each line of level 1 of `program` has a mark.
+    /// Makes a writer without steps, with a mark for each line of level 1 of `program`.
     pub(crate) fn new(
         alloc: Global,
         program: &'p Program<'a>,
@@ -48,7 +48,7 @@ impl<'p, 'a> Writer<'p, 'a> {
         })
     }
 
-    /// The steps that were added.
+    /// Returns the steps that were added.
     pub(crate) fn into_code(self) -> Code<'a> {
         let Writer {
             steps,
@@ -78,22 +78,22 @@ impl<'p, 'a> Writer<'p, 'a> {
         push_sparing(&mut self.steps, Step::Jump(step))
     }
 
-    /// Adds that `count` values are taken off the stack.
-    pub(crate) fn discard(&mut self, count: usize) -> Result<(), AllocError> {
+    /// Adds the step that removes `count` values from the stack.
+    pub(crate) fn push_discard(&mut self, count: usize) -> Result<(), AllocError> {
         if count == 0 {
             return Ok(());
         }
         self.push_value(StackStep::Discard(count))
     }
 
-    /// Makes a mark, which is placed later.
+    /// Makes a mark, which `place` puts before a step.
     pub(crate) fn make_mark(&mut self) -> Result<Mark, AllocError> {
         let index = self.targets.len();
         push_sparing(&mut self.targets, 0)?;
         Ok(Mark { index })
     }
 
-    /// Places `mark` before the next step.
+    /// Puts `mark` before the next step that is added.
     pub(crate) fn place(&mut self, mark: Mark) {
         let address = self.steps.len();
         if let Some(target) = self.targets.get_mut(mark.index) {
@@ -101,7 +101,7 @@ impl<'p, 'a> Writer<'p, 'a> {
         }
     }
 
-    // A use of a global, whose caret is at `column`.
+    // The use of `global` with `count` subscripts, whose caret is at `column`.
     fn use_at(&self, column: Column, global: &'a Name, count: usize, extent: Extent) -> Use<'a> {
         Use {
             routine: self.name,
@@ -113,8 +113,8 @@ impl<'p, 'a> Writer<'p, 'a> {
         }
     }
 
-    /// Adds a read of a global, whose caret is at `column`.
-    pub(crate) fn read(
+    /// Adds a read of `global` with `count` subscripts, whose caret is at `column`.
+    pub(crate) fn push_read(
         &mut self,
         column: Column,
         global: &'a Name,
@@ -125,8 +125,8 @@ impl<'p, 'a> Writer<'p, 'a> {
         push_sparing(&mut self.steps, Step::Read(place))
     }
 
-    /// Adds a write of a node of a global, whose caret is at `column`.
-    pub(crate) fn write(
+    /// Adds a write of the node of `global` with `count` subscripts, whose caret is at `column`.
+    pub(crate) fn push_write(
         &mut self,
         column: Column,
         global: &'a Name,
