@@ -2,8 +2,8 @@
 
 use mlk_stale_steps::Condition;
 
-/// Whether a condition may have this answer where `$TEST` is `test`.
-pub(crate) fn may_be(condition: Condition, test: Option<bool>, answer: bool) -> bool {
+/// Whether `condition` may have the answer `answer` if `$TEST` is `test`.
+pub(crate) fn may_answer(condition: Condition, test: Option<bool>, answer: bool) -> bool {
     match condition {
         Condition::Always(holds) => holds == answer,
         Condition::Open => true,
@@ -14,7 +14,7 @@ pub(crate) fn may_be(condition: Condition, test: Option<bool>, answer: bool) -> 
     }
 }
 
-/// `$TEST` after a condition, for each answer.
+/// `$TEST` after a condition, for each of its answers.
 #[derive(Clone, Copy, Drop)]
 pub(crate) struct Tests {
     pub(crate) held: Option<bool>,
@@ -22,13 +22,13 @@ pub(crate) struct Tests {
 }
 
 impl Tests {
-    /// `$TEST` becomes the answer.
+    /// `$TEST` after IF: the answer.
     pub(crate) const ANSWER: Tests = Tests {
         held: Some(true),
         failed: Some(false),
     };
 
-    /// `$TEST` stays as it is; a condition on it shows what it is.
+    /// `$TEST` after a postconditional: it stays as it is, and a condition on it shows what it is.
     pub(crate) fn after(condition: Condition, test: Option<bool>) -> Tests {
         match condition {
             Condition::Test(is_set) => Tests {

@@ -1,13 +1,13 @@
 // Calls and returns on a path.
 
 use crate::path::{Frame, Local, Path};
-use crate::worth::{Namer, Worth};
+use crate::tracked::{Namer, Tracked};
 use mlk_stale_steps::{Call, CallKind};
 use mlk_syntax::Actual;
 use mlk_text::{Name, push_sparing};
 use std::alloc::{AllocError, Global};
 
-// The name that is passed by reference for the formal number `index`, or `None`.
+// The name that is passed by reference for the formal number `index`, or `None` if a value or nothing is passed.
 fn passed_name(actuals: &[Actual], index: usize) -> Option<&Name> {
     match actuals.get(index) {
         Some(Actual::ByRef(_, name)) => Some(name),
@@ -16,41 +16,41 @@ fn passed_name(actuals: &[Actual], index: usize) -> Option<&Name> {
 }
 
 impl<'a> Path<'a> {
-    // The value that is passed for the formal number `index`, or `None`.
-    fn passed_worth(
+    // The value of `values`, the actuals, or of a local that is passed for the formal number `index`; `None` if there is none.
+    fn passed_value(
         &mut self,
         namer: &mut Namer,
         call: &Call<'a>,
-        worths: &[Worth],
+        values: &[Tracked],
         index: usize,
-    ) -> Result<Option<Worth>, AllocError> {
+    ) -> Result<Option<Tracked>, AllocError> {
         match call.actuals.get(index) {
-            Some(Actual::ByRef(_, name)) => Ok(Some(self.worth_of(namer, name)?)),
-            Some(Actual::Value(_)) => match worths.get(index) {
-                Some(worth) => Ok(Some(worth.clone()?)),
+            Some(Actual::ByRef(_, name)) => Ok(Some(self.value_of(namer, name)?)),
+            Some(Actual::Value(_)) => match values.get(index) {
+                Some(value) => Ok(Some(value.clone()?)),
                 None => Ok(None),
             },
             _ => Ok(None),
         }
     }
 
-    // The values that are passed for all formals.
-    fn passed_worths(
+    // Takes the actuals of `call` off the stack, and returns the value that is passed for each formal.
+    fn passed_values(
         &mut self,
         alloc: Global,
         namer: &mut Namer,
         call: &Call<'a>,
-    ) -> Result<Vec<Option<Worth>>, AllocError> {
-        let worths = self.take(alloc, call.actuals.len())?;
+    ) -> Result<Vec<Option<Tracked>>, AllocError> {
+        let values = self.take(alloc, call.actuals.len())?;
         let mut passed = Vec::new(alloc);
         for index in 0..call.formals.len() {
-            let worth = self.passed_worth(namer, call, worths.as_slice(), index)?;
-            push_sparing(&mut passed, worth)?;
+            let value = self.passed_value(namer, call, values.as_slice(), index)?;
+            push_sparing(&mut passed, value)?;
         }
         Ok(passed)
     }
 
-    /// Makes `call`, whose lines begin at the step `target`: the formals get the actuals, which are taken off the stack.
+    /// Begins `call`, whose lines begin at the step `target`: the formals get the actuals, which are taken off the stack.
     pub(crate) fn enter(
         &mut self,
         alloc: Global,
@@ -58,7 +58,7 @@ impl<'a> Path<'a> {
         call: &Call<'a>,
         target: usize,
     ) -> Result<(), AllocError> {
-        let passed = self.passed_worths(alloc, namer, call)?;
+        let passed = self.passed_values(alloc, namer, call)?;
         let frame = Frame {
             kind: call.kind,
             formals: call.formals,
@@ -69,8 +69,8 @@ impl<'a> Path<'a> {
             test: self.test,
         };
         push_sparing(&mut self.frames, frame)?;
-        for (formal, worth) in call.formals.iter().zip(passed) {
-            self.hide(formal, worth)?;
+        for (formal, value) in call.formals.iter().zip(passed) {
+            self.hide(formal, value)?;
         }
         self.at = target;
         Ok(())
@@ -83,33 +83,33 @@ impl<'a> Path<'a> {
         namer: &mut Namer,
         formals: &'a [Name],
         actuals: &'a [Actual],
-    ) -> Result<Vec<(&'a Name, Worth)>, AllocError> {
+    ) -> Result<Vec<(&'a Name, Tracked)>, AllocError> {
         let mut outcomes = Vec::new(alloc);
         for (index, formal) in formals.iter().enumerate() {
             if let Some(name) = passed_name(actuals, index) {
-                let worth = self.worth_of(namer, formal)?;
-                push_sparing(&mut outcomes, (name, worth))?;
+                let value = self.value_of(namer, formal)?;
+                push_sparing(&mut outcomes, (name, value))?;
             }
         }
         Ok(outcomes)
     }
 
-    // Gives hidden locals back the values that they had, the last one first.
+    // Gives the locals of `hidden` back the values that they had, the last one first.
     fn uncover(&mut self, hidden: Vec<Local<'a>>) -> Result<(), AllocError> {
         let mut hidden = hidden;
         hidden.reverse();
-        for Local { name, worth } in hidden {
-            let _ = self.replace(name, worth)?;
+        for Local { name, value } in hidden {
+            let _ = self.replace(name, value)?;
         }
         Ok(())
     }
 
-    /// Returns from the innermost call, with `value` if there is one. `false` if there was no call.
+    /// Returns from the innermost call, with `value` if it is there. Returns `false` if there is no call to return from.
     pub(crate) fn leave(
         &mut self,
         alloc: Global,
         namer: &mut Namer,
-        value: Option<Worth>,
+        value: Option<Tracked>,
     ) -> Result<bool, AllocError> {
         let value = namer.known_or_made(value)?;
         let Some(frame) = self.frames.pop() else {
@@ -126,8 +126,8 @@ impl<'a> Path<'a> {
         } = frame;
         let outcomes = self.outcomes(alloc, namer, formals, actuals)?;
         self.uncover(hidden)?;
-        for (name, worth) in outcomes {
-            let _ = self.replace(name.as_bytes(), Some(worth))?;
+        for (name, outcome) in outcomes {
+            let _ = self.replace(name.as_bytes(), Some(outcome))?;
         }
         self.stack.truncate(height);
         self.put(value)?;

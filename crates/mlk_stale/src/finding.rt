@@ -32,12 +32,12 @@ fn walk_entries<'a>(
     Ok(())
 }
 
-// Whether a label or the routine begins at `line`, which has this index.
+// Whether `line`, the line number `index` of its routine, is the routine's first one or has a label.
 fn is_entry(index: usize, line: &Line) -> bool {
     index == 0 || line.label.is_some()
 }
 
-// Walks from each label of `routines` to which no path has come, except those whose marks are among `others`.
+// Walks from each label of `routines` that no path has reached, except those whose marks are set in `others`.
 fn walk_labels<'a>(
     walk: &mut Walk<'_, 'a>,
     code: &Code<'a>,
@@ -53,7 +53,7 @@ fn walk_labels<'a>(
                 continue;
             };
             let is_other = others.get(mark.index).copied().unwrap_or(false);
-            if !is_other && !walk.has_come_to(mark) {
+            if !is_other && !walk.has_reached(mark) {
                 walk.walk_from(mark)?;
             }
         }
@@ -78,7 +78,7 @@ fn keep_if_stale<'a>(
     Ok(())
 }
 
-// Those of `found` that are stale.
+// Keeps the writes of `found` that are stale.
 fn keep_stale<'a>(
     alloc: Global,
     rules: &Rules,
@@ -93,8 +93,8 @@ fn keep_stale<'a>(
     Ok(kept)
 }
 
-/// The stale writes of `program` by `rules`, each by its place, on the paths that are followed: from the declared entries, then
-/// from labels to which no path has come, first those that nothing calls, then the others.
+/// Finds stale writes of `program` by `rules`, each at its place. Paths are followed from the declared entries, then from labels that
+/// no path has reached: first from those that nothing calls, then from the others.
 pub fn stale_writes<'a>(
     alloc: Global,
     program: &Program<'a>,

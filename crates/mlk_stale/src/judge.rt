@@ -1,15 +1,18 @@
 // Whether a write is stale.
 
-ghost use Rattle.std.specs.Prelude.{◌≡◌, ◌↔◌, [], IsTrue};
+ghost use Rattle.std.specs.Prelude.{◌≡◌, ◌≢◌, ◌↔◌, [], IsTrue};
 ghost use Rattle.std.specs.Bool.{Decides};
+ghost use Rattle.std.specs.List.{All};
+ghost use Rattle.mlk_names.specs.declared.symbol.Sym.TheVariants.{Unknown};
+ghost use Rattle.mlk_names.specs.References.{MayOverlap};
 ghost use Rattle.mlk_rules.specs.Coverage.{IsCovered};
 ghost use Rattle.mlk_stale.specs.Stale.{ReadsWritten, IsProtected, IsStale};
 
 use crate::stale::StaleWrite;
-use mlk_names::{Access, Extent, LockTerm, Reference};
+use mlk_names::{Access, Extent, LockTerm, Reference, Sym, may_overlap};
 use mlk_rules::{Rules, check_reference};
 
-// Whether `items` and `others` are equal.
+// Whether `items` and `others` are equal, element by element.
 fn are_equal<T: PartialEq>(items: &[T], others: &[T]) -> bool
     requires { (x y : T) → Decides (T.eq x y) (x ≡ y) }
     ensures { IsTrue result ↔ (items.now ≡ others.now) }
@@ -17,8 +20,15 @@ fn are_equal<T: PartialEq>(items: &[T], others: &[T]) -> bool
     items == others
 }
 
-// Whether `read` reads the node that `written` writes.
-fn reads_written(read: &Reference, written: &Reference) -> bool
+// Whether no symbol of `subs` is unknown.
+fn are_known(subs: &[Sym]) -> bool
+    ensures { IsTrue result ↔ All (λ s. s ≢ Unknown) subs.now }
+{
+    subs.iter().all(|sub| !matches!(sub, Sym::Unknown))
+}
+
+/// Whether `read` reads the node that `written` writes.
+pub(crate) fn reads_written(read: &Reference, written: &Reference) -> bool
     ensures { IsTrue result ↔ ReadsWritten read.now written.now }
 {
     matches!(read.access, Access::Reads)
@@ -27,6 +37,7 @@ fn reads_written(read: &Reference, written: &Reference) -> bool
         && matches!(written.extent, Extent::Node)
         && read.root == written.root
         && are_equal(read.subs.as_slice(), written.subs.as_slice())
+        && are_known(written.subs.as_slice())
 }
 
 // Whether the locks `held` cover `reference`.
@@ -43,7 +54,7 @@ fn needs_lock(rules: &Rules, reference: &Reference) -> bool
     !is_covered(rules, &[], reference)
 }
 
-// Whether the locks `held` cover `read`, which needs a lock.
+// Whether the locks `held` cover `read` and it needs a lock.
 fn is_locked(rules: &Rules, held: &[LockTerm], read: &Reference) -> bool
     ensures { IsTrue result ↔ IsCovered rules.now held.now read.now × ¬ IsCovered rules.now [] read.now }
 {
@@ -69,13 +80,25 @@ pub(crate) fn is_open(
     !is_protected(rules, held, read, written)
 }
 
+// Whether none of `reads` may reach the node that `written` writes.
+fn none_reaches(reads: &[Reference], written: &Reference) -> bool
+    ensures { IsTrue result ↔ All (λ r. ¬ MayOverlap r written.now) reads.now }
+{
+    for read in reads {
+        if may_overlap(read, written) {
+            return false;
+        }
+    }
+    true
+}
+
 /// Whether `write` is stale.
 pub fn is_stale(rules: &Rules, write: &StaleWrite<'_>) -> bool
     ensures { IsTrue result ↔ IsStale rules.now write.now }
 {
-    let read = &write.read.reference;
-    reads_written(read, &write.reference)
-        && write.last_read < write.gap.reads
-        && is_covered(rules, write.held.as_slice(), &write.reference)
-        && is_open(rules, write.gap.held.as_slice(), read, &write.reference)
+    let source = &write.source.reference;
+    reads_written(source, &write.written)
+        && is_open(rules, write.gap.held.as_slice(), source, &write.written)
+        && none_reaches(write.gap.later_reads.as_slice(), &write.written)
+        && is_covered(rules, write.held.as_slice(), &write.written)
 }

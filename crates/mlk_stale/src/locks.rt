@@ -1,9 +1,8 @@
-// Claims and releases on a path.
+// Claims and releases of locks on a path.
 
-use crate::path::{Holding, Path};
-use crate::stale::Moment;
+use crate::path::{Holding, Moment, Path};
+use crate::tracked::Tracked;
 use crate::walk::Walk;
-use crate::worth::Worth;
 use mlk_names::{KnownSym, LockTerm, Root, TermSubs};
 use mlk_syntax::{Expr, LockArgument, Sign, Variable};
 use mlk_text::push_sparing;
@@ -31,25 +30,25 @@ fn count_subscripts(argument: &LockArgument) -> usize {
     count
 }
 
-// The lock with the root `root` and the subscripts `worths`.
-fn term_of(alloc: Global, root: Root, worths: &[Worth]) -> Result<LockTerm, AllocError> {
+// The lock with the root `root` and the subscripts `values`.
+fn term_of(alloc: Global, root: Root, values: &[Tracked]) -> Result<LockTerm, AllocError> {
     let mut subs = TermSubs::new(alloc);
-    for worth in worths {
-        if let Some(symbol) = worth.symbol.to_known()? {
+    for value in values {
+        if let Some(symbol) = value.symbol.to_known()? {
             subs.push(symbol)?;
         }
     }
     Ok(LockTerm { root, subs })
 }
 
-// The locks of `argument`, whose names have the subscripts `worths`, one after another.
+// The locks of `argument`. `values` are the subscripts of its names, one after another.
 fn terms_of(
     alloc: Global,
     argument: &LockArgument,
-    worths: &[Worth],
+    values: &[Tracked],
 ) -> Result<Vec<LockTerm>, AllocError> {
     let mut terms = Vec::new(alloc);
-    let mut left = worths;
+    let mut left = values;
     for name in &argument.names {
         let Some((root, count)) = root_of(name)? else {
             continue;
@@ -68,8 +67,8 @@ impl<'a> Path<'a> {
         alloc: Global,
         argument: &LockArgument,
     ) -> Result<Vec<LockTerm>, AllocError> {
-        let worths = self.take(alloc, count_subscripts(argument))?;
-        terms_of(alloc, argument, worths.as_slice())
+        let values = self.take(alloc, count_subscripts(argument))?;
+        terms_of(alloc, argument, values.as_slice())
     }
 
     /// Claims `term`.
@@ -110,7 +109,7 @@ impl<'a> Path<'a> {
 }
 
 impl<'a> Walk<'_, 'a> {
-    // Notes which locks are held before they change.
+    // Adds the moment just before the held locks change.
     fn add_moment(&mut self, path: &mut Path<'a>) -> Result<(), AllocError> {
         let moment = Moment {
             reads: self.reads.len(),
@@ -127,7 +126,7 @@ impl<'a> Walk<'_, 'a> {
         Ok(())
     }
 
-    // Claims `terms`. A claim with a timeout may fail.
+    // Claims `terms`. A claim with a timeout may fail, and `$TEST` says whether it did.
     fn claim(
         &mut self,
         path: &mut Path<'a>,
@@ -153,7 +152,7 @@ impl<'a> Walk<'_, 'a> {
         Ok(())
     }
 
-    /// Claims or releases the names of `argument`.
+    /// Claims or releases the locks of `argument`, whose subscripts are on the stack.
     pub(crate) fn lock(
         &mut self,
         path: &mut Path<'a>,

@@ -1,6 +1,6 @@
 // Paths: what is known on one way through the steps.
 
-use crate::worth::{Namer, Worth};
+use crate::tracked::{Namer, Tracked};
 use mlk_names::{Access, LockTerm, Reference, ReferenceSubs};
 use mlk_stale_steps::{CallKind, Use};
 use mlk_syntax::Actual;
@@ -12,8 +12,8 @@ use std::mem;
 #[derive(Clone, Drop)]
 pub(crate) struct Local<'a> {
     pub(crate) name: &'a [u8],
-    /// `None` if it is not defined, or nothing is known of it yet
-    pub(crate) worth: Option<Worth>,
+    /// `None` if it is not defined, or if it has not been used yet
+    pub(crate) value: Option<Tracked>,
 }
 
 /// A call that has not returned.
@@ -22,9 +22,9 @@ pub(crate) struct Frame<'a> {
     pub(crate) kind: CallKind,
     pub(crate) formals: &'a [Name],
     pub(crate) actuals: &'a [Actual],
-    /// the index of the step after it
+    /// the index of the step after the call
     pub(crate) back: usize,
-    /// the locals that it or its NEWs hide, in the order in which they were hidden
+    /// the locals that are hidden by its formals and its NEWs, in the order in which they were hidden
     pub(crate) hidden: Vec<Local<'a>>,
     /// the number of values on the stack below it
     pub(crate) height: usize,
@@ -39,20 +39,30 @@ pub(crate) struct Holding {
     pub(crate) count: usize,
 }
 
-/// What is known on a path before the step at an index.
+/// A moment just before the held locks change.
+#[derive(Drop)]
+pub(crate) struct Moment {
+    /// the number of reads that were made before it
+    pub(crate) reads: usize,
+    /// the locks that are held at it
+    pub(crate) held: Vec<LockTerm>,
+}
+
+/// What is known on a path before its next step.
 #[derive(Clone, Drop)]
 pub(crate) struct Path<'a> {
+    /// the index of the next step
     pub(crate) at: usize,
-    pub(crate) stack: Vec<Worth>,
+    pub(crate) stack: Vec<Tracked>,
     pub(crate) locals: Vec<Local<'a>>,
     pub(crate) held: Vec<Holding>,
     /// the numbers of the reads made so far
     pub(crate) reads: Vec<usize>,
-    /// the numbers of the moments before which the held locks changed
+    /// the numbers of the moments just before the held locks changed
     pub(crate) moments: Vec<usize>,
     /// `$TEST`, if it is known
     pub(crate) test: Option<bool>,
-    /// for each FOR that has begun, whether this is a later round than the first
+    /// for each FOR that the path is in, whether this is a later round than the first
     pub(crate) rounds: Vec<bool>,
     pub(crate) frames: Vec<Frame<'a>>,
 }
@@ -74,16 +84,16 @@ impl<'a> Path<'a> {
     }
 
     /// Puts a value on the stack.
-    pub(crate) fn put(&mut self, worth: Worth) -> Result<(), AllocError> {
-        push_sparing(&mut self.stack, worth)
+    pub(crate) fn put(&mut self, value: Tracked) -> Result<(), AllocError> {
+        push_sparing(&mut self.stack, value)
     }
 
     /// Takes `count` values off the stack, and returns them in the order in which they were put there.
-    pub(crate) fn take(&mut self, alloc: Global, count: usize) -> Result<Vec<Worth>, AllocError> {
+    pub(crate) fn take(&mut self, alloc: Global, count: usize) -> Result<Vec<Tracked>, AllocError> {
         let mut taken = Vec::new(alloc);
         for _ in 0..count {
-            if let Some(worth) = self.stack.pop() {
-                push_sparing(&mut taken, worth)?;
+            if let Some(value) = self.stack.pop() {
+                push_sparing(&mut taken, value)?;
             }
         }
         taken.reverse();
@@ -104,8 +114,8 @@ impl<'a> Path<'a> {
         access: Access,
     ) -> Result<Reference, AllocError> {
         let mut subs = ReferenceSubs::new(alloc);
-        for worth in self.take(alloc, place.count)? {
-            let Worth { symbol, .. } = worth;
+        for value in self.take(alloc, place.count)? {
+            let Tracked { symbol, .. } = value;
             subs.push(symbol)?;
         }
         Ok(Reference {
@@ -122,7 +132,7 @@ impl<'a> Path<'a> {
             return Ok(index);
         }
         let index = self.locals.len();
-        push_sparing(&mut self.locals, Local { name, worth: None })?;
+        push_sparing(&mut self.locals, Local { name, value: None })?;
         Ok(index)
     }
 
@@ -130,34 +140,38 @@ impl<'a> Path<'a> {
     pub(crate) fn replace(
         &mut self,
         name: &'a [u8],
-        worth: Option<Worth>,
-    ) -> Result<Option<Worth>, AllocError> {
+        value: Option<Tracked>,
+    ) -> Result<Option<Tracked>, AllocError> {
         let index = self.local_index(name)?;
         match self.locals.get_mut(index) {
-            Some(local) => Ok(mem::replace(&mut local.worth, worth)),
+            Some(local) => Ok(mem::replace(&mut local.value, value)),
             None => Ok(None),
         }
     }
 
-    /// The value of the local `name`. If it is not known yet, it gets a symbol.
-    pub(crate) fn worth_of(
+    /// The value of the local `name`, which gets a symbol if it has none yet.
+    pub(crate) fn value_of(
         &mut self,
         namer: &mut Namer,
         name: &'a Name,
-    ) -> Result<Worth, AllocError> {
+    ) -> Result<Tracked, AllocError> {
         let known = self.replace(name.as_bytes(), None)?;
-        let worth = namer.known_or_made(known)?;
-        let copy = worth.clone()?;
-        let _ = self.replace(name.as_bytes(), Some(worth))?;
+        let value = namer.known_or_made(known)?;
+        let copy = value.clone()?;
+        let _ = self.replace(name.as_bytes(), Some(value))?;
         Ok(copy)
     }
 
     /// Hides the local `name` until the innermost call returns.
-    pub(crate) fn hide(&mut self, name: &'a Name, worth: Option<Worth>) -> Result<(), AllocError> {
+    pub(crate) fn hide(
+        &mut self,
+        name: &'a Name,
+        value: Option<Tracked>,
+    ) -> Result<(), AllocError> {
         let name = name.as_bytes();
-        let old = self.replace(name, worth)?;
+        let old = self.replace(name, value)?;
         if let Some(frame) = self.frames.last_mut() {
-            push_sparing(&mut frame.hidden, Local { name, worth: old })?;
+            push_sparing(&mut frame.hidden, Local { name, value: old })?;
         }
         Ok(())
     }

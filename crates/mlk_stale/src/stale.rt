@@ -3,31 +3,32 @@
 use mlk_names::{LockTerm, Reference};
 use mlk_survey_trees::Position;
 
-/// The locks that are held at a moment.
-#[derive(Clone, Drop)]
-pub struct Moment {
-    /// the number of reads that were made before it
-    pub reads: usize,
-    pub held: Vec<LockTerm>,
-}
-
-/// A read of a global, with its place.
+/// A read of a global on a path, with its place.
 #[derive(Clone, Drop)]
 pub struct ReadAt<'a> {
     pub position: Position<'a>,
     pub reference: Reference,
 }
 
-/// A write of a value that comes from a read, on a path.
+/// A moment on a path before a write.
+#[derive(Drop)]
+pub struct Gap {
+    /// the locks that are held at it
+    pub held: Vec<LockTerm>,
+    /// what is read between it and the write
+    pub later_reads: Vec<Reference>,
+}
+
+/// A write on a path, and why it is stale.
+///
+/// Locals in subscripts are names of values: each denotes one value on the whole path.
 #[derive(Drop)]
 pub struct StaleWrite<'a> {
-    pub reference: Reference,
-    /// the read that its value comes from
-    pub read: ReadAt<'a>,
-    /// the number of the last read before the write that may reach the written node; reads are counted from 0
-    pub last_read: usize,
-    /// a moment between that read and the write
-    pub gap: Moment,
+    pub written: Reference,
+    /// the read that the written value comes from
+    pub source: ReadAt<'a>,
+    /// a moment between the read and the write
+    pub gap: Gap,
     /// the locks that are held at the write
     pub held: Vec<LockTerm>,
 }

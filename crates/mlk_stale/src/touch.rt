@@ -1,16 +1,16 @@
 // Reads and writes on a path.
 
-use crate::judge::{is_open, is_stale};
-use crate::path::Path;
-use crate::stale::{Moment, ReadAt, StaleWrite};
+use crate::judge::{is_open, is_stale, reads_written};
+use crate::path::{Moment, Path};
+use crate::stale::{Gap, ReadAt, StaleWrite};
 use crate::walk::Walk;
-use mlk_names::{Access, Reference, may_overlap};
+use mlk_names::{Access, Reference};
 use mlk_stale_steps::{Amount, Use};
 use mlk_text::push_sparing;
 use std::alloc::AllocError;
 
 impl<'a> Walk<'_, 'a> {
-    // Makes a read, and returns its number.
+    // Adds a read of `reference` at `place`, and returns its number.
     fn make_read(
         &mut self,
         path: &mut Path<'a>,
@@ -33,60 +33,60 @@ impl<'a> Walk<'_, 'a> {
         let number = self.make_read(path, place, reference)?;
         let mut reads = Vec::new(self.alloc);
         push_sparing(&mut reads, number)?;
-        path.put(self.namer.make_worth(reads)?)
+        path.put(self.namer.make_value(reads)?)
     }
 
-    // The number of the last read on `path` that may reach `node`.
-    fn last_read(&self, path: &Path<'a>, node: &Reference) -> Option<usize> {
-        path.reads.iter().rev().copied().find(|number| match self.reads.get(*number) {
-            Some(read) => may_overlap(&read.reference, node),
-            None => false,
-        })
-    }
-
-    // The first moment on `path` after the read number `last_read` at which the held locks let other jobs write the node that `read`
-    // reads and `written` writes.
-    fn first_gap(
-        &self,
-        path: &Path<'a>,
-        read: &Reference,
-        written: &Reference,
-        last_read: usize,
-    ) -> Option<&Moment> {
-        for number in &path.moments {
+    // The last moment on `path` at which the held locks let other jobs write the node that `read` reads and `written` writes.
+    fn last_open(&self, path: &Path<'a>, read: &Reference, written: &Reference) -> Option<&Moment> {
+        for number in path.moments.iter().rev() {
             let Some(moment) = self.moments.get(*number) else {
                 continue;
             };
-            let held = moment.held.as_slice();
-            if moment.reads > last_read && is_open(self.rules, held, read, written) {
+            if is_open(self.rules, moment.held.as_slice(), read, written) {
                 return Some(moment);
             }
         }
         None
     }
 
-    // Adds the write at `place`, whose value comes from the read `number`, if it is stale.
+    // The gap before the next step of `path` that begins at `moment`.
+    fn gap_since(&self, path: &Path<'a>, moment: &Moment) -> Result<Gap, AllocError> {
+        let mut later_reads = Vec::new(self.alloc);
+        for number in &path.reads {
+            if *number < moment.reads {
+                continue;
+            }
+            if let Some(read) = self.reads.get(*number) {
+                push_sparing(&mut later_reads, read.reference.clone()?)?;
+            }
+        }
+        Ok(Gap {
+            held: moment.held.clone()?,
+            later_reads,
+        })
+    }
+
+    // Adds the write at `place` of the node `written`, whose value comes from the read `number`, if it is stale.
     fn add_stale(
         &mut self,
         path: &Path<'a>,
         place: &Use<'a>,
-        reference: &Reference,
+        written: &Reference,
         number: usize,
     ) -> Result<(), AllocError> {
-        let (Some(read), Some(last_read)) = (
-            self.reads.get(number),
-            self.last_read(path, reference),
-        ) else {
+        let Some(source) = self.reads.get(number) else {
             return Ok(());
         };
-        let Some(gap) = self.first_gap(path, &read.reference, reference, last_read) else {
+        if !reads_written(&source.reference, written) {
+            return Ok(());
+        }
+        let Some(moment) = self.last_open(path, &source.reference, written) else {
             return Ok(());
         };
         let write = StaleWrite {
-            reference: reference.clone()?,
-            read: read.clone()?,
-            last_read,
-            gap: gap.clone()?,
+            written: written.clone()?,
+            source: source.clone()?,
+            gap: self.gap_since(path, moment)?,
             held: path.held_locks(self.alloc)?,
         };
         if is_stale(self.rules, &write) {
@@ -95,27 +95,27 @@ impl<'a> Walk<'_, 'a> {
         Ok(())
     }
 
-    /// Writes the last value of the stack. If only a part of the node is written, the rest of it is read.
+    /// Writes the value below the subscripts on the stack. If only a part of the node is written, the rest of it is read first.
     pub(crate) fn write(
         &mut self,
         path: &mut Path<'a>,
         place: &Use<'a>,
         amount: Amount,
     ) -> Result<(), AllocError> {
-        let reference = path.take_reference(self.alloc, place, Access::Writes)?;
+        let written = path.take_reference(self.alloc, place, Access::Writes)?;
         let sources = match path.stack.last() {
-            Some(worth) => worth.reads.clone()?,
+            Some(value) => value.reads.clone()?,
             None => Vec::new(self.alloc),
         };
         for number in &sources {
             if !self.found.contains_key(&place.position()) {
-                self.add_stale(path, place, &reference, *number)?;
+                self.add_stale(path, place, &written, *number)?;
             }
         }
         if amount == Amount::Part {
             let read = Reference {
                 access: Access::Reads,
-                ..reference
+                ..written
             };
             let _ = self.make_read(path, place, read)?;
         }

@@ -1,25 +1,25 @@
 // Values on the stack and in locals.
 
 use crate::path::Path;
+use crate::tracked::Tracked;
 use crate::walk::Walk;
-use crate::worth::Worth;
 use mlk_names::Sym;
 use mlk_stale_steps::{Change, StackStep};
 use std::alloc::AllocError;
 
 impl<'a> Walk<'_, 'a> {
-    /// Puts values on the stack, and takes them off.
+    /// Does `step`, which pushes values on the stack and pops them.
     pub(crate) fn change_stack(
         &mut self,
         path: &mut Path<'a>,
         step: &StackStep<'a>,
     ) -> Result<(), AllocError> {
-        let worth = match step {
-            StackStep::Constant(value) => Worth::of(self.alloc, Sym::Const(value.copy()?)),
-            StackStep::JobNumber => Worth::of(self.alloc, Sym::Job),
-            StackStep::Local(name) => path.worth_of(&mut self.namer, name)?,
+        let value = match step {
+            StackStep::Constant(value) => Tracked::of(self.alloc, Sym::Const(value.copy()?)),
+            StackStep::JobNumber => Tracked::of(self.alloc, Sym::Job),
+            StackStep::Local(name) => path.value_of(&mut self.namer, name)?,
             StackStep::Copy => match path.stack.last() {
-                Some(worth) => worth.clone()?,
+                Some(value) => value.clone()?,
                 None => self.namer.make_unknown()?,
             },
             StackStep::Combine(count) => {
@@ -35,10 +35,10 @@ impl<'a> Walk<'_, 'a> {
                 return Ok(());
             }
         };
-        path.put(worth)
+        path.put(value)
     }
 
-    /// Changes a local or `$TEST`.
+    /// Does `change` of a local or of `$TEST`.
     pub(crate) fn change(
         &mut self,
         path: &mut Path<'a>,
@@ -46,8 +46,8 @@ impl<'a> Walk<'_, 'a> {
     ) -> Result<(), AllocError> {
         match change {
             Change::Assign(name) => {
-                let worth = path.stack.pop();
-                let _ = path.replace(name.as_bytes(), worth)?;
+                let value = path.stack.pop();
+                let _ = path.replace(name.as_bytes(), value)?;
             }
             Change::ForgetLocals => path.locals.clear(),
             Change::New(name) => path.hide(name, None)?,

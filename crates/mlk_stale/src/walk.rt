@@ -1,9 +1,9 @@
 // The walk over the steps, one path at a time.
 
-use crate::answer::{Tests, may_be};
-use crate::path::Path;
-use crate::stale::{Moment, ReadAt, StaleWrite};
-use crate::worth::{Namer, Worth};
+use crate::answer::{Tests, may_answer};
+use crate::path::{Moment, Path};
+use crate::stale::{ReadAt, StaleWrite};
+use crate::tracked::{Namer, Tracked};
 use mlk_rules::Rules;
 use mlk_stale_steps::{Call, Code, Condition, Jump, Mark, Rounds, Step};
 use mlk_survey_trees::Position;
@@ -14,7 +14,7 @@ use std::collections::BTreeMap;
 /// The maximum number of steps that are walked from one label.
 const MOST_STEPS: usize = 10_000;
 
-/// The maximum number of times that a path branches at one step, in the walk from one label.
+/// The maximum number of times that paths branch at one step, in the walk from one label.
 const MOST_BRANCHES: usize = 16;
 
 /// The maximum number of calls and blocks that a path is in.
@@ -36,7 +36,7 @@ pub(crate) struct Walk<'w, 'a> {
     pub(crate) namer: Namer,
     /// the reads in the walk from the current label
     pub(crate) reads: Vec<ReadAt<'a>>,
-    /// the moments of that walk before which held locks changed
+    /// the moments of that walk just before held locks change
     pub(crate) moments: Vec<Moment>,
     /// the paths that have not ended
     paths: Vec<Path<'a>>,
@@ -44,7 +44,7 @@ pub(crate) struct Walk<'w, 'a> {
     branches: Vec<usize>,
     /// the steps where a path has branched
     branched: Vec<usize>,
-    /// for each step, whether a path has come to it
+    /// for each step, whether a path has reached it
     visited: Vec<bool>,
     /// the stale writes that were found, by their places
     pub(crate) found: BTreeMap<Position<'a>, StaleWrite<'a>>,
@@ -72,7 +72,7 @@ impl<'w, 'a> Walk<'w, 'a> {
         })
     }
 
-    // Counts a branch of a path that is at `at`, and returns whether it is followed.
+    // Counts a branch at the step `at`, and returns whether it is followed.
     fn may_branch(&mut self, at: usize) -> Result<bool, AllocError> {
         let Some(count) = self.branches.get_mut(at) else {
             return Ok(false);
@@ -85,7 +85,7 @@ impl<'w, 'a> Walk<'w, 'a> {
         Ok(true)
     }
 
-    /// Begins a path that continues `path` at the step `target`, where `$TEST` is `test`.
+    /// Begins another path, which continues `path` at the step `target` with the `$TEST` `test`.
     pub(crate) fn branch(
         &mut self,
         path: &Path<'a>,
@@ -101,7 +101,7 @@ impl<'w, 'a> Walk<'w, 'a> {
         push_sparing(&mut self.paths, other)
     }
 
-    // Continues `path` with the next step if `condition` may hold, and at `mark` if it may fail, with the `$TEST` of `tests`.
+    // Continues `path` with the next step if `condition` may hold, and at `mark` if it may fail: by two paths if it may do both.
     fn decide(
         &mut self,
         path: &mut Path<'a>,
@@ -110,19 +110,19 @@ impl<'w, 'a> Walk<'w, 'a> {
         tests: Tests,
     ) -> Result<(), AllocError> {
         let target = self.code.address(mark);
-        if !may_be(condition, path.test, true) {
+        if !may_answer(condition, path.test, true) {
             path.at = target;
             path.test = tests.failed;
             return Ok(());
         }
-        if may_be(condition, path.test, false) {
+        if may_answer(condition, path.test, false) {
             self.branch(path, target, tests.failed)?;
         }
         path.test = tests.held;
         Ok(())
     }
 
-    // Ends a round of a FOR: a second one follows the first, and none follows the second.
+    // Ends a round of a FOR, whose rounds begin at `start`: a second one follows the first, and none follows the second.
     fn end_round(
         &mut self,
         path: &mut Path<'a>,
@@ -180,7 +180,7 @@ impl<'w, 'a> Walk<'w, 'a> {
         Ok(Fate::Continues)
     }
 
-    fn leave(&mut self, path: &mut Path<'a>, value: Option<Worth>) -> Result<Fate, AllocError> {
+    fn leave(&mut self, path: &mut Path<'a>, value: Option<Tracked>) -> Result<Fate, AllocError> {
         if path.leave(self.alloc, &mut self.namer, value)? {
             Ok(Fate::Continues)
         } else {
@@ -188,7 +188,7 @@ impl<'w, 'a> Walk<'w, 'a> {
         }
     }
 
-    // Does a step.
+    // Does `step`.
     fn act(&mut self, path: &mut Path<'a>, step: &Step<'a>) -> Result<Fate, AllocError> {
         match step {
             Step::Stack(step) => self.change_stack(path, step)?,
@@ -226,7 +226,7 @@ impl<'w, 'a> Walk<'w, 'a> {
         Ok(())
     }
 
-    // Forgets the walk from another label.
+    // Forgets the last walk.
     fn begin(&mut self) {
         self.namer = Namer::new(self.alloc);
         self.reads.clear();
@@ -239,15 +239,15 @@ impl<'w, 'a> Walk<'w, 'a> {
         }
     }
 
-    /// Whether a path has come to the step at `mark`.
-    pub(crate) fn has_come_to(&self, mark: Mark) -> bool {
+    /// Whether a path has reached the step at `mark`.
+    pub(crate) fn has_reached(&self, mark: Mark) -> bool {
         self.visited
             .get(self.code.address(mark))
             .copied()
             .unwrap_or(false)
     }
 
-    /// Walks from the step at `mark`, where nothing is held.
+    /// Walks from the step at `mark`, at which nothing is held.
     pub(crate) fn walk_from(&mut self, mark: Mark) -> Result<(), AllocError> {
         self.begin();
         let start = Path::new(self.alloc, self.code.address(mark));

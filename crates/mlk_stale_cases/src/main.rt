@@ -1,12 +1,13 @@
-//! Prints the stale writes of programs that are given in one text.
+//! Finds stale writes in programs that are given in one text, and prints them.
 //!
-//! The text comes on standard input. What comes before the first line that begins with `== ` is a comment. Each such line begins a
-//! case and describes it. Its rules follow, unless they are those of `RULES`, and its routines, each after a line of `-- ` and its
-//! name. For each case its first line is printed, and then a line for each stale write: its place, and that of the read from which
-//! its value comes.
+//! The text is read from standard input. Everything before the first line that begins with `== ` is a comment. Each such line
+//! begins a case and describes it. It is followed by the case's rules, unless they are those of `RULES`, and by its routines, each
+//! after a line of `-- ` and its name. For each case its first line is printed, and then a line for each stale write: its place, and
+//! the place of the read that its value comes from.
 #![tactic(auto)]
 
 use bstr::ByteSlice;
+use mlk_dialect::Dialect;
 use mlk_program::link;
 use mlk_routine::read_routine;
 use mlk_rules::Rules;
@@ -29,10 +30,10 @@ const RULES: &[u8] = b"lock = [{name = \"^PAT\", rank = 1}, {name = \"^WARD\", r
 cover = [{global = \"^PAT(id,...)\", lock = \"^PAT(id)\"}, {global = \"^WARD(w,...)\", lock = \"^WARD(w)\"}]\n\
 private = [{global = \"^TMP($J,...)\"}]\n";
 
-// The answer for a case that is not read.
-const NOT_READ: &[u8] = b"not read\n";
+// What is printed for a case whose routines or rules are refused.
+const REFUSED: &[u8] = b"refused\n";
 
-// The bytes before the first `mark`, or all of them if there is none.
+// The bytes of `text` before the first `mark`, or all of them if there is none.
 fn front_of<'a>(text: &'a [u8], mark: &[u8]) -> &'a [u8] {
     match text.split_once_str(mark) {
         None => text,
@@ -40,7 +41,7 @@ fn front_of<'a>(text: &'a [u8], mark: &[u8]) -> &'a [u8] {
     }
 }
 
-// The bytes after the first `mark`, or none if there is none.
+// The bytes of `text` after the first `mark`, or none if there is none.
 fn rest_of<'a>(text: &'a [u8], mark: &[u8]) -> &'a [u8] {
     match text.split_once_str(mark) {
         None => b"",
@@ -48,12 +49,12 @@ fn rest_of<'a>(text: &'a [u8], mark: &[u8]) -> &'a [u8] {
     }
 }
 
-// The routines of a case; `None` if one of them is not read.
+// The routines of a case, or `None` if one of them is refused.
 fn routines_of(alloc: Global, case: &[u8]) -> Result<Option<Vec<Routine>>, AllocError> {
     let mut routines = Vec::new(alloc);
     for part in case.split_str(ROUTINE).skip(1) {
         let name = front_of(part, b"\n");
-        match read_routine(alloc, name, rest_of(part, b"\n")) {
+        match read_routine(alloc, Dialect::Standard, name, rest_of(part, b"\n")) {
             Ok(routine) => push_sparing(&mut routines, routine)?,
             Err(_) => return Ok(None),
         }
@@ -61,14 +62,14 @@ fn routines_of(alloc: Global, case: &[u8]) -> Result<Option<Vec<Routine>>, Alloc
     Ok(Some(routines))
 }
 
-// Adds a place.
+// Adds the place `place` to `out`.
 fn push_place(alloc: Global, out: &mut Vec<u8>, place: &Position<'_>) -> Result<(), AllocError> {
     out.extend_from_slice(place.routine)?;
     let text = format!(in alloc; ":{}:{}", place.line, place.column)?;
     out.extend_from_slice(text.as_bytes())
 }
 
-// Adds the stale writes of these routines.
+// Adds the stale writes of `routines` by `rules` to `out`.
 fn push_writes(
     alloc: Global,
     out: &mut Vec<u8>,
@@ -76,18 +77,18 @@ fn push_writes(
     rules: &Rules,
 ) -> Result<(), AllocError> {
     let Ok(program) = link(alloc, routines) else {
-        return out.extend_from_slice(NOT_READ);
+        return out.extend_from_slice(REFUSED);
     };
     for (position, write) in stale_writes(alloc, &program, rules)? {
         push_place(alloc, out, &position)?;
         out.extend_from_slice(b" from ")?;
-        push_place(alloc, out, &write.read.position)?;
+        push_place(alloc, out, &write.source.position)?;
         out.extend_from_slice(b"\n")?;
     }
     Ok(())
 }
 
-// Adds the stale writes of a case.
+// Adds a case and its stale writes to `out`.
 fn push_case(alloc: Global, out: &mut Vec<u8>, case: &[u8]) -> Result<(), AllocError> {
     let heading = front_of(case, ROUTINE);
     out.extend_from_slice(b"== ")?;
@@ -96,11 +97,11 @@ fn push_case(alloc: Global, out: &mut Vec<u8>, case: &[u8]) -> Result<(), AllocE
     let own = rest_of(heading, b"\n");
     let text = if own.is_empty() { RULES } else { own };
     let Ok(rules) = read_rules(alloc, text) else {
-        return out.extend_from_slice(NOT_READ);
+        return out.extend_from_slice(REFUSED);
     };
     match routines_of(alloc, case)? {
         Some(routines) => push_writes(alloc, out, routines.as_slice(), &rules),
-        None => out.extend_from_slice(NOT_READ),
+        None => out.extend_from_slice(REFUSED),
     }
 }
 

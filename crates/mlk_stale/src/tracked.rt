@@ -1,27 +1,27 @@
-// Values on a path: what they are equal to, and which reads they come from.
+// Values on a path: which of them are equal, and which reads they come from.
 
 use mlk_names::Sym;
 use mlk_text::{Name, push_sparing};
 use std::alloc::{AllocError, Global};
 
-/// A value on a path.
+/// A value on a path, with what is known of it.
 #[derive(Clone, Drop)]
-pub(crate) struct Worth {
-    /// A constant, the number of the job, or a name of its own: values with one symbol are equal.
+pub(crate) struct Tracked {
+    /// A constant, the number of the job, or a name that is made for the value: values with the same symbol are equal.
     pub(crate) symbol: Sym,
     /// the numbers of the reads that it comes from
     pub(crate) reads: Vec<usize>,
 }
 
-impl Worth {
-    /// A value with the symbol `symbol`, which comes from no read.
-    pub(crate) fn of(alloc: Global, symbol: Sym) -> Worth {
+impl Tracked {
+    /// The value with the symbol `symbol`, which comes from no read.
+    pub(crate) fn of(alloc: Global, symbol: Sym) -> Tracked {
         let reads = Vec::new(alloc);
-        Worth { symbol, reads }
+        Tracked { symbol, reads }
     }
 }
 
-/// Makes symbols for unknown values.
+/// Makes names for values.
 #[derive(Drop)]
 pub(crate) struct Namer {
     alloc: Global,
@@ -40,27 +40,27 @@ impl Namer {
         Ok(Sym::Local(Name::of(self.alloc, text.as_bytes())?))
     }
 
-    /// Makes a value that comes from `reads`.
-    pub(crate) fn make_worth(&mut self, reads: Vec<usize>) -> Result<Worth, AllocError> {
+    /// Makes a value that comes from the reads with the numbers `reads`.
+    pub(crate) fn make_value(&mut self, reads: Vec<usize>) -> Result<Tracked, AllocError> {
         let symbol = self.make_symbol()?;
-        Ok(Worth { symbol, reads })
+        Ok(Tracked { symbol, reads })
     }
 
     /// Makes an unknown value.
-    pub(crate) fn make_unknown(&mut self) -> Result<Worth, AllocError> {
-        self.make_worth(Vec::new(self.alloc))
+    pub(crate) fn make_unknown(&mut self) -> Result<Tracked, AllocError> {
+        self.make_value(Vec::new(self.alloc))
     }
 
-    /// The value `known`, or an unknown one.
-    pub(crate) fn known_or_made(&mut self, known: Option<Worth>) -> Result<Worth, AllocError> {
+    /// The value `known`, or an unknown one if it is missing.
+    pub(crate) fn known_or_made(&mut self, known: Option<Tracked>) -> Result<Tracked, AllocError> {
         match known {
-            Some(worth) => Ok(worth),
+            Some(value) => Ok(value),
             None => self.make_unknown(),
         }
     }
 
     /// Makes a value that comes from all of `parts`.
-    pub(crate) fn combine(&mut self, parts: &[Worth]) -> Result<Worth, AllocError> {
+    pub(crate) fn combine(&mut self, parts: &[Tracked]) -> Result<Tracked, AllocError> {
         let mut reads = Vec::new(self.alloc);
         for part in parts {
             for read in &part.reads {
@@ -69,6 +69,6 @@ impl Namer {
                 }
             }
         }
-        self.make_worth(reads)
+        self.make_value(reads)
     }
 }
