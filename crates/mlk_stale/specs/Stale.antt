@@ -1,4 +1,5 @@
--- When a write is stale: another job may have written the node since its value was read. This project's own choice.
+-- When a write is stale: another job may have written the node since its value was read. A local in a subscript is the name of a
+-- value here, which is the same from the read to the write. This project's own choice.
 use Rattle.std.specs.Prelude.{◌≡◌, ◌≢◌, ◌⊎◌, List, []}
 use Rattle.std.specs.List.{All}
 use Rattle.mlk_names.specs.declared.symbol.Sym.TheVariants.{Unknown}

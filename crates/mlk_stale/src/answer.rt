@@ -17,27 +17,27 @@ pub(crate) fn may_answer(condition: Condition, test: Option<bool>, answer: bool)
 /// `$TEST` after a condition, for each of its answers.
 #[derive(Clone, Copy, Drop)]
 pub(crate) struct Tests {
-    pub(crate) held: Option<bool>,
-    pub(crate) failed: Option<bool>,
+    pub(crate) if_true: Option<bool>,
+    pub(crate) if_false: Option<bool>,
 }
 
 impl Tests {
     /// `$TEST` after IF: the answer.
     pub(crate) const ANSWER: Tests = Tests {
-        held: Some(true),
-        failed: Some(false),
+        if_true: Some(true),
+        if_false: Some(false),
     };
 
     /// `$TEST` after a postconditional: it stays as it is, and a condition on it shows what it is.
     pub(crate) fn after(condition: Condition, test: Option<bool>) -> Tests {
         match condition {
             Condition::Test(is_set) => Tests {
-                held: Some(is_set),
-                failed: Some(!is_set),
+                if_true: Some(is_set),
+                if_false: Some(!is_set),
             },
             _ => Tests {
-                held: test,
-                failed: test,
+                if_true: test,
+                if_false: test,
             },
         }
     }

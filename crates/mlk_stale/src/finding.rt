@@ -78,7 +78,7 @@ fn keep_if_stale<'a>(
     Ok(())
 }
 
-// Keeps the writes of `found` that are stale.
+// Keeps the writes of `found` that are stale. All of them are, but nothing is proved of the walk that found them.
 fn keep_stale<'a>(
     alloc: Global,
     rules: &Rules,

@@ -112,13 +112,13 @@ impl<'w, 'a> Walk<'w, 'a> {
         let target = self.code.address(mark);
         if !may_answer(condition, path.test, true) {
             path.at = target;
-            path.test = tests.failed;
+            path.test = tests.if_false;
             return Ok(());
         }
         if may_answer(condition, path.test, false) {
-            self.branch(path, target, tests.failed)?;
+            self.branch(path, target, tests.if_false)?;
         }
-        path.test = tests.held;
+        path.test = tests.if_true;
         Ok(())
     }
 
