@@ -65,7 +65,7 @@ fn walk_labels<'a>(
 fn keep_if_stale<'a>(
     rules: &Rules,
     kept: &mut BTreeMap<Position<'a>, StaleWrite<'a>>,
-    position: &Position<'a>,
+    position: Position<'a>,
     write: StaleWrite<'a>,
 ) -> Result<(), AllocError>
     requires { All (IsStale rules.now) (values kept.old) }
@@ -74,7 +74,7 @@ fn keep_if_stale<'a>(
     if !is_stale(rules, &write) {
         return Ok(());
     }
-    kept.insert(*position, write)?;
+    kept.insert(position, write)?;
     Ok(())
 }
 
@@ -88,7 +88,7 @@ fn keep_stale<'a>(
 {
     let mut kept = BTreeMap::new(alloc);
     for (position, write) in found {
-        keep_if_stale(rules, &mut kept, &position, write)?;
+        keep_if_stale(rules, &mut kept, position, write)?;
     }
     Ok(kept)
 }

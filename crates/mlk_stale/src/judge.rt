@@ -8,7 +8,7 @@ ghost use Rattle.mlk_names.specs.References.{MayOverlap};
 ghost use Rattle.mlk_rules.specs.Coverage.{IsCovered};
 ghost use Rattle.mlk_stale.specs.Stale.{ReadsWritten, IsProtected, IsStale};
 
-use crate::stale::StaleWrite;
+use crate::stale::{Gap, StaleWrite};
 use mlk_names::{Access, Extent, LockTerm, Reference, Sym, may_overlap};
 use mlk_rules::{Rules, check_reference};
 
@@ -92,13 +92,20 @@ fn none_reaches(reads: &[Reference], written: &Reference) -> bool
     true
 }
 
+// Whether other jobs may have written the node that `read` reads and `written` writes at `gap`, and it was not read after it.
+fn is_gap(rules: &Rules, gap: &Gap, read: &Reference, written: &Reference) -> bool
+    ensures { IsTrue result ↔ (¬ IsProtected rules.now gap.now.held.items read.now written.now) × All (λ r. ¬ MayOverlap r written.now) gap.now.later_reads.items }
+{
+    is_open(rules, gap.held.as_slice(), read, written)
+        && none_reaches(gap.later_reads.as_slice(), written)
+}
+
 /// Whether `write` is stale.
 pub fn is_stale(rules: &Rules, write: &StaleWrite<'_>) -> bool
     ensures { IsTrue result ↔ IsStale rules.now write.now }
 {
     let source = &write.source.reference;
     reads_written(source, &write.written)
-        && is_open(rules, write.gap.held.as_slice(), source, &write.written)
-        && none_reaches(write.gap.later_reads.as_slice(), &write.written)
+        && is_gap(rules, &write.gap, source, &write.written)
         && is_covered(rules, write.held.as_slice(), &write.written)
 }
