@@ -153,12 +153,12 @@ argument_reads d at (ReadFormat tab) s is = refl
 argument_reads d at (ReadLine v most timeout) s (front, rest, joined, (variable, of), more) = local v of
 argument_reads d at (ReadCharacter v timeout) s (after, star, (front, rest, joined, (variable, of), more)) = local v of
 
-next_reads : (d : Dialect) (reads : List ReadTree) (at : ℕ) (s : List ℕ) → AreNext (IsRead d) d at reads s → list_all reads_local reads ≡ true
+next_reads : (d : Dialect) (reads : List ReadTree) (at : ℕ) (s : List ℕ) → AreNext (IsRead d) at reads s → list_all reads_local reads ≡ true
 next_reads d [] at s is = refl
 next_reads d (r ∷ reads) at s (front, rest, joined, is, more) =
     and_from (reads_local r) (list_all reads_local reads) (argument_reads d _ r front is) (next_reads d reads _ rest more)
 
-list_reads : (d : Dialect) (reads : List ReadTree) (at : ℕ) (s : List ℕ) → IsList (IsRead d) d at reads s → list_all reads_local reads ≡ true
+list_reads : (d : Dialect) (reads : List ReadTree) (at : ℕ) (s : List ℕ) → IsList (IsRead d) at reads s → list_all reads_local reads ≡ true
 list_reads d reads at s (first, others, front, rest, same, joined, is, more) =
     subst (λ rs. list_all reads_local rs ≡ true) (sym same)
     (and_from (reads_local first) (list_all reads_local others) (argument_reads d at first front is) (next_reads d others _ rest more))
