@@ -5,7 +5,7 @@ use Rattle.mlk_pool.specs.Given.{is_certified}
 use Rattle.mlk_pool.specs.Boards.{IsSlotOf}
 use Rattle.mlk_pool.proofs.NextSlots.{added, not_added, rows_left, slot_left}
 use Rattle.mlk_pool.proofs.report.collect_report.Goals as goal
-use Rattle.mlk_pool.proofs.report.collect_report.Goals.{then-is_checked+in_ok-add, else-is_checked+in-Some+in-Posted+in-Done-1, else-is_checked+in-Some+in-Posted+in-NoMemory-1, else-is_checked+in-Some+in-Open-1, else-is_checked+in-None-1}
+use Rattle.mlk_pool.proofs.report.collect_report.Goals.{then-is_checked+in_ok-verdict+in_ok-add, else-is_checked+in-Some+in-Posted+in-Done-1, else-is_checked+in-Some+in-Posted+in-NoMemory-1, else-is_checked+in-Some+in-Open-1, else-is_checked+in-None-1}
 
 pub settled_verdict-requires-clause-slot : goal.settled_verdict-requires-clause-slot
 settled_verdict-requires-clause-slot g c =
@@ -23,7 +23,7 @@ loop-entry-preserved g c =
     λ no is. not_added checked before after _ (sym c.is_checked.ensures ∙ no) is in
     let settled : after ≡ before ++ rows entry =
     elim c.if-is_checked.branch [
-      | then-is_checked+in_ok-add w ↦ added checked before after _ (sym c.is_checked.ensures ∙ w.if-is_checked.true) (w.report-is ∙ w.in_ok-add.ensures ∙ ap (λ v. before ++ map (row_of entry) v) w.in_ok-settled_verdict-verdict.ensures.ok)
+      | then-is_checked+in_ok-verdict+in_ok-add w ↦ added checked before after _ (sym c.is_checked.ensures ∙ w.if-is_checked.true) (w.report-is ∙ w.in_ok-add.ensures ∙ ap (λ v. before ++ map (row_of entry) v) w.in_ok-verdict.ensures.ok)
       | else-is_checked+in-Some+in-Posted+in-Done-1 w ↦ skipped w.if-is_checked.false w.report-is
       | else-is_checked+in-Some+in-Posted+in-NoMemory-1 w ↦ skipped w.if-is_checked.false w.report-is
       | else-is_checked+in-Some+in-Open-1 w ↦ skipped w.if-is_checked.false w.report-is
