@@ -284,7 +284,7 @@ pub record IsUnwritten (program : ProgramRequest) (line : List ℕ) : Type 0 whe
   pub named : program.new_baseline ≡ Some path
   pub printed : line ≡ file_line path.now
 
--- the text in this format of the certificate whose text stands at the path
+-- the text in this format of the certificate whose text is at the path
 pub record IsConvertedThere (holds : Texts) (path : List ℕ) (format : CertFormat) (text : List ℕ) : Type 0 where
   pub given : List ℕ
   pub held : holds path given

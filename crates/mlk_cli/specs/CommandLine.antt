@@ -30,7 +30,7 @@ use Rattle.mlk_cli.specs.declared.words.Invocation.{Invocation}
 use Rattle.mlk_cli.specs.declared.words.UsageError.{UsageError}
 use Rattle.mlk_cli.specs.declared.words.UsageError.TheVariants as usage
 
--- the text is a number of 32 bits in decimal digits, before which a plus may stand
+-- the text is a number of 32 bits in decimal digits, perhaps after a plus
 abbrev pub IsNumber : Text → ℕ → Type 0
 IsNumber text number = IsNumeral 10 (without_leading_plus text) × (digits_value 10 (without_leading_plus text) ≡ number) × (number < 2 ^ 32)
 

@@ -74,7 +74,7 @@ named_word name (b ∷ xs) =
     else if is_variable name && may_end (b ∷ xs) then Some (word.Value (suc (length name)))
     else None
 
--- a word with `$`, of which the rest is given
+-- a word that is `$` and this rest
 abbrev pub dollar_word : List ℕ → Option Word
 dollar_word xs = named_word (take (letters xs) xs) (drop (letters xs) xs)
 

@@ -76,7 +76,6 @@ fn are_quiet_choices(choices: &[(Expr, Expr)]) -> bool
 }
 
 /// Whether the subscripts of the local or global `name` touch no global and call nothing.
-#[tactic(auto, using(crate::proofs::QuietParts::of_local))]
 pub fn are_subscripts_quiet(name: &Expr) -> bool
     ensures { result ≡ subs_stand NoTouches (tree_of name.now) }
 {

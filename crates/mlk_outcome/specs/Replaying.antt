@@ -55,6 +55,6 @@ pub record IsStoppedThere (trees : List RoutineTree) (rules : RuleLists) (events
   pub declared : AreDeclared trees rules.entries entries
   pub stopped : IsStopped routines entries events r
 
--- Why nothing is shown: the first declared entry that the routines lack, before what is wrong with the events.
+-- Why nothing is shown: the first declared entry that is not in the routines, before what is wrong with the events.
 abbrev pub IsUnreplayed : List RoutineTree → RuleLists → List ℕ → NoReport → Type 0
 IsUnreplayed trees rules events r = IsUndeclared trees rules.entries r ⊎ IsStoppedThere trees rules events r

@@ -70,7 +70,7 @@ many-more [] next (t ∷ trees) more read then = absurd read
 many-more (s ∷ front) next [] more read then = absurd read
 many-more (s ∷ front) next (t ∷ trees) more read then = (read.0, many-more front next trees more read.1 then)
 
--- a refusal is one whatever stands after it, and after what is read
+-- a refusal is one whatever comes after it, and after what is read
 more-after : (next after : List Source) (e : Failure Fault) → RefusesFirst next e → RefusesFirst (next ++ after) e
 more-after next after failure.OutOfMemory refused = record {}
 more-after next after (failure.Refused fault) refused = record {

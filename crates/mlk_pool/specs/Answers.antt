@@ -20,7 +20,7 @@ pub record IsFirst (answers : List (Result Routine (Failure Fault))) (failure : 
   pub after : List (Result Routine (Failure Fault))
   pub cut : answers ≡ map Ok read ++ Err failure ∷ after
 
--- the failure that is told. Want of memory says nothing.
+-- the failure that is reported. Out of memory promises nothing.
 abbrev pub IsFirstError : List (Result Routine (Failure Fault)) → Failure Fault → Type 0
 IsFirstError answers failure.OutOfMemory = Unit {0}
 IsFirstError answers (failure.Refused fault) = IsFirst answers (failure.Refused fault)

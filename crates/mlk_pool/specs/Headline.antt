@@ -62,7 +62,7 @@ IsUnreportedBy is_open workers trees rules blocks (error.Entry entry) = missing 
 IsUnreportedBy is_open workers trees rules blocks error.Workers = (missing trees rules blocks ≡ None) × AreTooFewOrMany workers
 IsUnreportedBy is_open workers trees rules blocks (error.GateShut task) = (missing trees rules blocks ≡ None) × (is_open → ⊥)
 
--- The stages from texts to a report, each with what it refuses: the reading of routines, of which the first that is refused is
+-- The stages from texts to a report, each with what it refuses: the reading of routines, where the first refusal is
 -- reported; their linking; the text of the rules; the text of the certificate; and the report by it. `from` is how the answer has
 -- the check's own error: as it is for `verify`. If memory runs out, nothing is said.
 abbrev pub RefusesRoutines : {R : Type 0} → (CheckError → R) → List Source → R → Type 0

@@ -16,7 +16,7 @@ use std::alloc::{AllocError, Global};
 use std::sync::Wait;
 use std::thread::Threads;
 
-/// Twelve entries, of which the first five write a global that no rule names.
+/// Twelve entries, the first five of which write a global that no rule names.
 pub(crate) const TWELVE: &[u8] = b"E1 SET ^ACCT(1)=1 QUIT\n\
 E2 SET ^ACCT(2)=1 QUIT\n\
 E3 SET ^ACCT(3)=1 QUIT\n\

@@ -17,7 +17,7 @@ pub(crate) const FOUR_LINES: &[u8] = b"E1 SET A=1\n SET A=2\n SET A=3\n QUIT\n";
 // How many times three lines a long routine has, besides its first.
 const TRIPLES: usize = 1365;
 
-/// A routine of 4,096 lines, of which each third is in a block, and has a fault.
+/// A routine of 4,096 lines, every third of which is in a block and has a fault.
 pub(crate) fn long_routine(alloc: Global) -> Result<Vec<u8>, AllocError> {
     let mut text = Vec::from_slice(alloc, b"E1 SET A=1\n")?;
     for _ in 0..TRIPLES {

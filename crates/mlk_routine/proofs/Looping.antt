@@ -249,7 +249,7 @@ module _ (d : Dialect) (level loops : ℕ) (line : List ℕ) where
     leads_more a end m f run = (
       run.0.within,
       λ rest n g.
-          let after = gap_found level loops line (has_own a) end m rest n f.0.within (own_stop a f.0.ended) run g in
+          let after = gap_found d level loops line (has_own a) end m rest n f.0.within (own_stop a f.0.ended) run g in
           subst (λ c. Found (AreCommands d level loops) CommandsEnd line at c n) (sym (more_from done a rest)) (l.1 (then_command a rest) n (both_found (then_parts next more_here no_for) (l.0) a rest end n f after)),
       λ none. l.2 (second_nowhere (then_parts next more_here no_for) (l.0) a end f (gap_nowhere d level loops line (has_own a) end m f.0.within run none)),
     )
@@ -385,7 +385,7 @@ module _ (d : Dialect) (level loops : ℕ) (line : List ℕ) (at : ℕ) (here : 
       go finished u after h is e = cc (no_word_end after e ∙ sym (ap (λ l. is_for (word_at l).0) (h ∙ ap (λ l. l ++ after) is)) ∙ here)
       go (then_command first rest) u after h (text, gap, following, is, one, g, more) e =
           let whole : drop at line ≡ text ++ ((gap ++ following) ++ after) = h ∙ ap (λ l. l ++ after) is ∙ append_assoc text (gap ++ following) after in
-          absurd (command_word level loops line at first text ((gap ++ following) ++ after) whole one (command_ended first gap following after g e) here)
+          absurd (command_word d level loops line at first text ((gap ++ following) ++ after) whole one (command_ended first gap following after g e) here)
       go (then_for column index control rest) u after h (text, gap, following, is, head, which, few, g, more) e =
           let same : column ≡ column_at (suc at) = head_column column (suc at) control text head in (
             control,
@@ -420,4 +420,4 @@ module _ (d : Dialect) (level loops : ℕ) (line : List ℕ) (at next : ℕ) (do
         → Found (AreCommands d level loops) CommandsEnd line at (commands_from done (then_for (column_at (next + 1)) (suc loops) control rest)) n
     loop_found rest n f =
         l.1 (then_for (column_at (next + 1)) (suc loops) control rest) n
-        (both_found (loop_parts d level loops line next here) (l.0) control rest end n head (gap_found level (suc loops) line (is_some control) end m rest n head.0.within head.0.ended run f))
+        (both_found (loop_parts d level loops line next here) (l.0) control rest end n head (gap_found d level (suc loops) line (is_some control) end m rest n head.0.within head.0.ended run f))

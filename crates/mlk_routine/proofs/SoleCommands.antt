@@ -78,7 +78,7 @@ action_alone word.Do d r line at less = sole_turned (opened word.Do (λ e. cc e)
 action_alone word.Else d r line at less = sole_turned (opened word.Else (λ e. cc e) d r line at) (nothing_alone line at less)
 action_alone word.Halt d r line at less = sole_turned (opened word.Halt (λ e. cc e) d r line at) (nothing_alone line at less)
 action_alone word.Hang d r line at less = sole_turned (opened word.Hang (λ e. cc e) d r line at) (values_alone line at less)
-action_alone word.HaltOrHang d r line at less = sole_turned (halting_turned r line at) (perhaps_values line at less)
+action_alone word.HaltOrHang d r line at less = sole_turned (halting_turned d r line at) (perhaps_values line at less)
 action_alone word.If d r line at less = sole_turned (opened word.If (λ e. cc e) d r line at) (perhaps_values line at less)
 action_alone word.Job d r line at less = sole_turned (opened word.Job (λ e. cc e) d r line at) (some_alone IsJob JobEnds job_stop job_begins job_alone line at less)
 action_alone word.Kill d r line at less = sole_turned (opened word.Kill (λ e. cc e) d r line at) (perhaps_alone IsKill KillEnds kill_stop kill_begins kill_alone line at less)
@@ -86,7 +86,7 @@ action_alone word.Lock d r line at less = sole_turned (opened word.Lock (λ e. c
 action_alone word.Merge d r line at less = sole_turned (opened word.Merge (λ e. cc e) d r line at) (some_alone IsMerge MergeEnds merge_stop merge_begins merge_alone line at less)
 action_alone word.New d r line at less = sole_turned (opened word.New (λ e. cc e) d r line at) (perhaps_alone IsNew NewEnds new_stop new_begins new_alone line at less)
 action_alone word.Quit d r line at less = sole_turned (opened word.Quit (λ e. cc e) d r line at) (quit_alone r line at less)
-action_alone word.Read r line at less = sole_turned (opened word.Read (λ e. cc e) d r line at) (some_alone (IsRead d) ReadEnds read_stop (read_begins d) (read_alone d) line at less)
+action_alone word.Read d r line at less = sole_turned (opened word.Read (λ e. cc e) d r line at) (some_alone (IsRead d) ReadEnds read_stop (read_begins d) (read_alone d) line at less)
 action_alone word.Set d r line at less = sole_turned (opened word.Set (λ e. cc e) d r line at) (some_alone IsSet SetEnds set_stop set_begins set_alone line at less)
 action_alone word.Write d r line at less = sole_turned (opened word.Write (λ e. cc e) d r line at) (some_alone IsWrite WriteEnds write_stop write_begins write_alone line at less)
 
@@ -165,13 +165,13 @@ module _ (d : Dialect) (level : ℕ) (line : List ℕ) where
 
       go : ((loops m : ℕ) → m ≤ length line → length line - m < f → Sole (AreCommands d level loops) CommandsEnd line m)
           → (is_commands_end (drop at line) ≡ true) ⊎ (is_commands_end (drop at line) ≡ false) → (is_for (word_at (drop at line)).0 ≡ true) ⊎ (is_for (word_at (drop at line)).0 ≡ false) → Sole (AreCommands d level loops) CommandsEnd line at
-      go ih (inl end) which = sole_found finished at (ended_found level loops line at less end)
+      go ih (inl end) which = sole_found finished at (ended_found d level loops line at less end)
       go ih (inr more) (inl here) =
           sole_both (loop_parts d level loops line at here) less (loop_alone loops line at less)
           (λ control m s. let far = next_far m s.text s.within s.joined (head_letter _ (suc at) control s.text s.spelled.0) in gap_sole (suc loops) (is_some control) m s.within (λ k high within. ih (suc loops) k within (omega (arith, far, high, few))))
       go ih (inr more) (inr no_for) =
-          sole_both (then_parts d level loops line at more no_for) less (command_alone (Returns d level loops line) line at less)
-          (λ first m s. let far = next_far m s.text s.within s.joined (command_letter (Returns d level loops line) (suc at) first s.text s.spelled) in gap_sole loops (has_own first) m s.within (λ k high within. ih loops k within (omega (arith, far, high, few))))
+          sole_both (then_parts d level loops line at more no_for) less (command_alone d (Returns d level loops line) line at less)
+          (λ first m s. let far = next_far m s.text s.within s.joined (command_letter d (Returns d level loops line) (suc at) first s.text s.spelled) in gap_sole loops (has_own first) m s.within (λ k high within. ih loops k within (omega (arith, far, high, few))))
 
 pub commands_alone : (d : Dialect) (level loops : ℕ) → Alone (AreCommands d level loops) CommandsEnd
 commands_alone d level loops line at less = commands_sole d level line (suc (length line - at)) loops at less (omega arith)

@@ -3,8 +3,7 @@
 ghost use Rattle.std.specs.Prelude.{◌≡◌, if◌then◌else◌, option_map};
 ghost use Rattle.mlk_syntax.specs.ExprTrees.{tree_of};
 ghost use Rattle.mlk_syntax.specs.Views.{variable_of};
-ghost use Rattle.mlk_expr.specs.declared.context.Allows.TheVariants.{Everything, NoCalls, NoTouches};
-ghost use Rattle.mlk_expr.specs.Touches.{subs_stand};
+ghost use Rattle.mlk_expr.specs.declared.context.Allows.TheVariants.{Everything, NoCalls};
 ghost use Rattle.mlk_routine_arguments.specs.CommandGrammar.{is_quiet, is_quiet_value};
 
 use mlk_expr::{Allows, are_subscripts_quiet, is_quiet_expr};

@@ -8,7 +8,7 @@ use Rattle.std.proofs.lemmas.Bool.Decides.{nat_tests}
 use Rattle.std.proofs.lemmas.List.Elements.{Contains-append_left, Contains-append_right}
 use Rattle.mlk_dialect.specs.declared.dialect.Dialect.{Dialect}
 use Rattle.mlk_text.specs.Spellings.{IsLabel}
-use Rattle.mlk_expr.specs.Grammar.{AreNext, IsList}
+use Rattle.mlk_expr.specs.Grammar.{Spelled, AreNext, IsList}
 use Rattle.mlk_syntax.specs.Distinct.{AreDistinct}
 use Rattle.mlk_syntax.specs.ExprTrees.{LocalName}
 use Rattle.mlk_syntax.specs.Trees.{VariableTree, Named, ReadTree, ReadText, ReadFormat, ReadLine, ReadCharacter}
@@ -31,7 +31,7 @@ labelled (Some label) None s l h is = subst IsLabel (one label l is) h.1
 labelled (Some label) (Some formals) s l h is = subst IsLabel (one label l is) h.2
 
 -- what holds of each line that is written holds of each line of a routine
-each_line : (d : Dialect) (P : HeadTree → Type 0) → ((n : ℕ) (head : HeadTree) (s : List ℕ) → IsLine d n head s → P head)
+pub each_line : (d : Dialect) (P : HeadTree → Type 0) → ((n : ℕ) (head : HeadTree) (s : List ℕ) → IsLine d n head s → P head)
     → (n : ℕ) (heads : List HeadTree) (texts : List (List ℕ)) → AreLines d n heads texts → (head : HeadTree) → Contains heads head → P head
 each_line d P written n [] texts h head c = let low = c.1 in absurd (omega (arith, low))
 each_line d P written n (first ∷ heads) texts (s, rest, is, good, more) head (zero, low, same) =
@@ -142,6 +142,19 @@ leveled level (line head block rest) low (at, reached, below, more) each = (
     deeper : (level : ℕ) → 0 < level → (suc level == 1) ≡ false
     deeper level low = grind (arith, nat_tests, low)
 
+-- what holds of each item that is written holds of all items of a list
+next_hold : {A : Type 0} (Is : Spelled A) (holds : A → Bool) → ((at : ℕ) (a : A) (s : List ℕ) → Is at a s → holds a ≡ true)
+    → (items : List A) (at : ℕ) (s : List ℕ) → AreNext Is at items s → list_all holds items ≡ true
+next_hold Is holds each [] at s is = refl
+next_hold Is holds each (a ∷ items) at s (front, rest, joined, is, more) =
+    and_from (holds a) (list_all holds items) (each _ a front is) (next_hold Is holds each items _ rest more)
+
+pub list_holds : {A : Type 0} (Is : Spelled A) (holds : A → Bool) → ((at : ℕ) (a : A) (s : List ℕ) → Is at a s → holds a ≡ true)
+    → (items : List A) (at : ℕ) (s : List ℕ) → IsList Is at items s → list_all holds items ≡ true
+list_holds Is holds each items at s (first, others, front, rest, same, joined, is, more) =
+    subst (λ xs. list_all holds xs ≡ true) (sym same)
+    (and_from (holds first) (list_all holds others) (each at first front is) (next_hold Is holds each others _ rest more))
+
 -- READ is into locals only
 local : (v : VariableTree) → grammar.is_local v ≡ true → is_local v ≡ true
 local (Named column (LocalName name subs)) h = refl
@@ -153,18 +166,8 @@ argument_reads d at (ReadFormat tab) s is = refl
 argument_reads d at (ReadLine v most timeout) s (front, rest, joined, (variable, of), more) = local v of
 argument_reads d at (ReadCharacter v timeout) s (after, star, (front, rest, joined, (variable, of), more)) = local v of
 
-next_reads : (d : Dialect) (reads : List ReadTree) (at : ℕ) (s : List ℕ) → AreNext (IsRead d) d at reads s → list_all reads_local reads ≡ true
-next_reads d [] at s is = refl
-next_reads d (r ∷ reads) at s (front, rest, joined, is, more) =
-    and_from (reads_local r) (list_all reads_local reads) (argument_reads d _ r front is) (next_reads d reads _ rest more)
-
-list_reads : (d : Dialect) (reads : List ReadTree) (at : ℕ) (s : List ℕ) → IsList (IsRead d) d at reads s → list_all reads_local reads ≡ true
-list_reads d reads at s (first, others, front, rest, same, joined, is, more) =
-    subst (λ rs. list_all reads_local rs ≡ true) (sym same)
-    (and_from (reads_local first) (list_all reads_local others) (argument_reads d at first front is) (next_reads d others _ rest more))
-
 command_reads : (d : Dialect) (may : Bool) (at : ℕ) (c : CommandTree) (s : List ℕ) → IsCommand d may at c s → reads_locals c ≡ true
-command_reads d may at (Does column condition (Read reads)) s (is, conditioned, (front, rest, joined, word, (front', rest', joined', cond, (after, space, list)))) = list_reads d reads _ after list
+command_reads d may at (Does column condition (Read reads)) s (is, conditioned, (front, rest, joined, word, (front', rest', joined', cond, (after, space, list)))) = list_holds (IsRead d) reads_local (argument_reads d) reads _ after list
 command_reads d may at (Does column condition (Do calls)) s is = refl
 command_reads d may at (Does column condition Else) s is = refl
 command_reads d may at (Does column condition Halt) s is = refl

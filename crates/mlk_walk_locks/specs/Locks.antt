@@ -138,8 +138,8 @@ module _ (hold : List LockTerm → State → State) where
   by_sign p sign.None timed names terms s = claim_after p timed names terms (release_all p.scope s)
   by_sign p sign.Minus timed names terms s = give_back p names terms s
 
-  -- No subscript is unknown here, since 714 and 715 were checked and a timeout contains no calls; so the second case does not
-  -- occur.
+  -- 715 if a call in the timeout may have changed a local in a name. Without such a call no subscript is unknown here, since 714 and
+  -- 715 were checked before it.
   abbrev pub lock_terms : Spot → Sign → Bool → List VariableTree → State → Option (List LockTerm) → List Outcome
   lock_terms p s timed names state (Some terms) = by_sign p s timed names terms state
   lock_terms p s timed names state None = Refused p.line p.word UnknownSubscript ∷ []

@@ -1,4 +1,4 @@
-use Rattle.std.proofs.Common.{None, map, option_map, sym, ◌∙◌, ◌+◌, drop, ap, subst, add-one}
+use Rattle.std.proofs.Common.{None, map, option_map, sym, ◌∙◌, ◌+◌, ap, subst, add-one}
 use Rattle.mlk_text.specs.Places.{column_at}
 use Rattle.std.proofs.lemmas.Result.{err_from_is_err_and}
 use Rattle.mlk_syntax.specs.Trees.{CommandTrees, finished, then_for}
@@ -7,7 +7,7 @@ use Rattle.mlk_routine_arguments.specs.Ends.{CommandsEnd}
 use Rattle.mlk_syntax.specs.Views.{command_of, control_of, commands_of, commands_from, commands_step, for_step}
 use Rattle.mlk_syntax.specs.declared.command.Commands.{fold-roll-Commands}
 use Rattle.mlk_routine_arguments.specs.CommandGrammar.{AreCommands}
-use Rattle.mlk_routine.proofs.Looping.{ended_found, for_stands, loop_denied, rest_denied, loop_found}
+use Rattle.mlk_routine.proofs.Looping.{ended_found, loop_denied, rest_denied, loop_found}
 use Rattle.mlk_routine.proofs.commands.+commanding.Goals as goal
 
 pub commands-returns-then-is_commands_end : goal.commands-returns-then-is_commands_end
