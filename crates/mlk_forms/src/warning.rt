@@ -27,12 +27,12 @@ fn add_stale_writes<'a>(
     grounds: &Grounds<'a>,
 ) -> Result<(), AllocError> {
     let found = stale_writes(alloc, grounds.program, grounds.rules)?;
-    for position in found.keys() {
-        let write = HazardAt {
-            position: *position,
+    for write in &found {
+        let hazard = HazardAt {
+            position: write.position,
             hazard: Hazard::StaleWrite,
         };
-        push_sparing(hazards, write)?;
+        push_sparing(hazards, hazard)?;
     }
     hazards.sort_by(|hazard, other| hazard.position.cmp(&other.position))
 }

@@ -1,7 +1,6 @@
 // The stale writes of a program.
 
-ghost use Rattle.std.specs.Prelude.{IfOk, OnOk, All};
-ghost use Rattle.std.specs.BTreeMap.{values};
+ghost use Rattle.std.specs.Prelude.{IfOk, All};
 ghost use Rattle.mlk_stale.specs.Stale.{IsStale};
 
 use crate::judge::is_stale;
@@ -10,10 +9,9 @@ use crate::walk::Walk;
 use mlk_program::{EntryId, Program};
 use mlk_rules::{Rules, entries};
 use mlk_stale_steps::{Code, code_of};
-use mlk_survey_trees::Position;
 use mlk_syntax::{Line, Routine};
+use mlk_text::push_sparing;
 use std::alloc::{AllocError, Global};
-use std::collections::BTreeMap;
 
 // Walks from the entries that `rules` declare.
 fn walk_entries<'a>(
@@ -61,46 +59,31 @@ fn walk_labels<'a>(
     Ok(())
 }
 
-// Adds `write` at `position` to `kept`, if it is stale.
-fn keep_if_stale<'a>(
-    rules: &Rules,
-    kept: &mut BTreeMap<Position<'a>, StaleWrite<'a>>,
-    position: Position<'a>,
-    write: StaleWrite<'a>,
-) -> Result<(), AllocError>
-    requires { All (IsStale rules.now) (values kept.old) }
-    ensures { OnOk result (All (IsStale rules.now) (values kept.new)) }
-{
-    if !is_stale(rules, &write) {
-        return Ok(());
-    }
-    kept.insert(position, write)?;
-    Ok(())
-}
-
 // Keeps the writes of `found` that are stale. All of them are, but nothing is proved of the walk that found them.
 fn keep_stale<'a>(
     alloc: Global,
     rules: &Rules,
-    found: BTreeMap<Position<'a>, StaleWrite<'a>>,
-) -> Result<BTreeMap<Position<'a>, StaleWrite<'a>>, AllocError>
-    ensures { IfOk result (λ kept. All (IsStale rules.now) (values kept)) }
+    found: Vec<StaleWrite<'a>>,
+) -> Result<Vec<StaleWrite<'a>>, AllocError>
+    ensures { IfOk result (λ kept. All (IsStale rules.now) kept.items) }
 {
-    let mut kept = BTreeMap::new(alloc);
-    for (position, write) in found {
-        keep_if_stale(rules, &mut kept, position, write)?;
+    let mut kept = Vec::new(alloc);
+    for write in found {
+        if is_stale(rules, &write) {
+            push_sparing(&mut kept, write)?;
+        }
     }
     Ok(kept)
 }
 
-/// Finds stale writes of `program` by `rules`, each at its place. Paths are followed from the declared entries, then from labels that
+/// Finds stale writes of `program` by `rules`, at most one at each place. Paths are followed from the declared entries, then from labels that
 /// no path has reached: first from those that nothing calls, then from the others.
 pub fn stale_writes<'a>(
     alloc: Global,
     program: &Program<'a>,
     rules: &Rules,
-) -> Result<BTreeMap<Position<'a>, StaleWrite<'a>>, AllocError>
-    ensures { IfOk result (λ found. All (IsStale rules.now) (values found)) }
+) -> Result<Vec<StaleWrite<'a>>, AllocError>
+    ensures { IfOk result (λ found. All (IsStale rules.now) found.items) }
 {
     let code = code_of(alloc, program)?;
     let called = code.called_marks(alloc)?;

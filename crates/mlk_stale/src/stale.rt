@@ -24,6 +24,7 @@ pub struct Gap {
 /// Locals in subscripts are names of values: each denotes one value on the whole path.
 #[derive(Drop)]
 pub struct StaleWrite<'a> {
+    pub position: Position<'a>,
     pub written: Reference,
     /// the read that the written value comes from
     pub source: ReadAt<'a>,

@@ -6,6 +6,7 @@ use crate::stale::{Gap, ReadAt, StaleWrite};
 use crate::walk::Walk;
 use mlk_names::{Access, Reference};
 use mlk_stale_steps::{Amount, Use};
+use mlk_survey_trees::Position;
 use mlk_text::push_sparing;
 use std::alloc::AllocError;
 
@@ -84,34 +85,52 @@ impl<'a> Walk<'_, 'a> {
             return Ok(());
         };
         let write = StaleWrite {
+            position: place.position(),
             written: written.clone()?,
             source: source.clone()?,
             gap: self.gap_since(path, moment)?,
             held: path.held_locks(self.alloc)?,
         };
         if is_stale(self.rules, &write) {
-            self.found.insert(place.position(), write)?;
+            push_sparing(&mut self.found, write)?;
         }
         Ok(())
     }
 
-    /// Writes the value below the subscripts on the stack. If only a part of the node is written, the rest of it is read first.
+    // Whether a stale write at `position` was found.
+    fn has_found(&self, position: &Position<'a>) -> bool {
+        self.found.iter().any(|write| write.position == *position)
+    }
+
+    // Adds the write at `place` of the node `written`, whose value comes from `sources`, if it is stale by one of them.
+    fn check_write(
+        &mut self,
+        path: &Path<'a>,
+        place: &Use<'a>,
+        written: &Reference,
+        sources: &[usize],
+    ) -> Result<(), AllocError> {
+        let position = place.position();
+        for number in sources {
+            if !self.has_found(&position) {
+                self.add_stale(path, place, written, *number)?;
+            }
+        }
+        Ok(())
+    }
+
+    /// Writes the last value on the stack, which is above the subscripts. If only a part of the node is written, the rest of it is
+    /// read first.
     pub(crate) fn write(
         &mut self,
         path: &mut Path<'a>,
         place: &Use<'a>,
         amount: Amount,
     ) -> Result<(), AllocError> {
+        let last = path.stack.pop();
+        let value = self.namer.known_or_made(last)?;
         let written = path.take_reference(self.alloc, place, Access::Writes)?;
-        let sources = match path.stack.last() {
-            Some(value) => value.reads.clone()?,
-            None => Vec::new(self.alloc),
-        };
-        for number in &sources {
-            if !self.found.contains_key(&place.position()) {
-                self.add_stale(path, place, &written, *number)?;
-            }
-        }
+        self.check_write(path, place, &written, value.reads.as_slice())?;
         if amount == Amount::Part {
             let read = Reference {
                 access: Access::Reads,
@@ -119,6 +138,6 @@ impl<'a> Walk<'_, 'a> {
             };
             let _ = self.make_read(path, place, read)?;
         }
-        Ok(())
+        path.put(value)
     }
 }

@@ -6,10 +6,8 @@ use crate::stale::{ReadAt, StaleWrite};
 use crate::tracked::{Namer, Tracked};
 use mlk_rules::Rules;
 use mlk_stale_steps::{Call, Code, Condition, Jump, Mark, Rounds, Step};
-use mlk_survey_trees::Position;
 use mlk_text::push_sparing;
 use std::alloc::{AllocError, Global};
-use std::collections::BTreeMap;
 
 /// The maximum number of steps that are walked from one label.
 const MOST_STEPS: usize = 10_000;
@@ -46,8 +44,8 @@ pub(crate) struct Walk<'w, 'a> {
     branched: Vec<usize>,
     /// for each step, whether a path has reached it
     visited: Vec<bool>,
-    /// the stale writes that were found, by their places
-    pub(crate) found: BTreeMap<Position<'a>, StaleWrite<'a>>,
+    /// the stale writes that were found, one for each place
+    pub(crate) found: Vec<StaleWrite<'a>>,
 }
 
 impl<'w, 'a> Walk<'w, 'a> {
@@ -68,7 +66,7 @@ impl<'w, 'a> Walk<'w, 'a> {
             branches: vec![in alloc; 0; code.steps.len()]?,
             branched: Vec::new(alloc),
             visited: vec![in alloc; false; code.steps.len()]?,
-            found: BTreeMap::new(alloc),
+            found: Vec::new(alloc),
         })
     }
 

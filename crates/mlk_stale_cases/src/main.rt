@@ -79,8 +79,10 @@ fn push_writes(
     let Ok(program) = link(alloc, routines) else {
         return out.extend_from_slice(REFUSED);
     };
-    for (position, write) in stale_writes(alloc, &program, rules)? {
-        push_place(alloc, out, &position)?;
+    let mut writes = stale_writes(alloc, &program, rules)?;
+    writes.sort_by(|write, other| write.position.cmp(&other.position))?;
+    for write in &writes {
+        push_place(alloc, out, &write.position)?;
         out.extend_from_slice(b" from ")?;
         push_place(alloc, out, &write.source.position)?;
         out.extend_from_slice(b"\n")?;

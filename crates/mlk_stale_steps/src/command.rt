@@ -8,7 +8,7 @@ use mlk_syntax::{
     Action, Actual, Command, DoArgument, Expr, KillArgument, LockArgument, MergeArgument,
     NewArgument, ReadArgument, SetArgument, Subscript, Target, Variable, WriteArgument,
 };
-use mlk_text::push_sparing;
+use mlk_text::{Name, push_sparing};
 use std::alloc::AllocError;
 
 /// Where the commands of a line may jump to.
@@ -27,6 +27,30 @@ fn subscripts_of(variable: &Variable) -> &[Subscript] {
     match &variable.name {
         Expr::Local(_, subscripts) | Expr::Global(_, _, subscripts) => subscripts.as_slice(),
         _ => &[],
+    }
+}
+
+// The variable that `target` writes.
+fn variable_in(target: &Target) -> &Variable {
+    match target {
+        Target::Whole(variable) => variable,
+        Target::Part(_, variable, _) => variable,
+    }
+}
+
+// The arguments of a target after its variable.
+fn arguments_in(target: &Target) -> &[Expr] {
+    match target {
+        Target::Whole(_) => &[],
+        Target::Part(_, _, arguments) => arguments.as_slice(),
+    }
+}
+
+// How much of its variable `target` writes.
+fn amount_of(target: &Target) -> Amount {
+    match target {
+        Target::Whole(_) => Amount::Whole,
+        Target::Part(_, _, _) => Amount::Part,
     }
 }
 
@@ -142,6 +166,15 @@ fn add_kills<'a>(writer: &mut Writer<'_, 'a>, kills: &'a [KillArgument]) -> Resu
     Ok(())
 }
 
+// Adds a claim or a release. The timeout is evaluated after the subscripts of the names.
+fn add_lock<'a>(writer: &mut Writer<'_, 'a>, argument: &'a LockArgument) -> Result<(), AllocError> {
+    for name in &argument.names {
+        add_subscripts(writer, subscripts_of(name))?;
+    }
+    add_unused(writer, &argument.timeout)?;
+    push_sparing(&mut writer.steps, Step::Lock(argument))
+}
+
 fn add_locks<'a>(
     writer: &mut Writer<'_, 'a>,
     arguments: &'a [LockArgument],
@@ -150,11 +183,7 @@ fn add_locks<'a>(
         return push_sparing(&mut writer.steps, Step::ReleaseAll);
     }
     for argument in arguments {
-        add_unused(writer, &argument.timeout)?;
-        for name in &argument.names {
-            add_subscripts(writer, subscripts_of(name))?;
-        }
-        push_sparing(&mut writer.steps, Step::Lock(argument))?;
+        add_lock(writer, argument)?;
     }
     Ok(())
 }
@@ -228,53 +257,57 @@ fn add_reads<'a>(writer: &mut Writer<'_, 'a>, reads: &'a [ReadArgument]) -> Resu
     Ok(())
 }
 
-// Adds the write of the last value to `variable`; the value remains on the stack.
-fn add_whole<'a>(writer: &mut Writer<'_, 'a>, variable: &'a Variable) -> Result<(), AllocError> {
-    match &variable.name {
+// Adds the subscripts of a target of SET, and the further arguments of `$PIECE` and `$EXTRACT`, before the value is evaluated. Only
+// those of a global remain on the stack.
+fn begin_target<'a>(writer: &mut Writer<'_, 'a>, target: &'a Target) -> Result<(), AllocError> {
+    let variable = variable_in(target);
+    let subscripts = subscripts_of(variable);
+    add_subscripts(writer, subscripts)?;
+    if !matches!(variable.name, Expr::Global(_, _, _)) {
+        writer.push_discard(subscripts.len())?;
+    }
+    let arguments = arguments_in(target);
+    add_exprs(writer, arguments)?;
+    writer.push_discard(arguments.len())
+}
+
+// Adds the change of the local `name` to the last value, which remains on the stack. A part of it comes from its old value too.
+fn add_assignment<'a>(
+    writer: &mut Writer<'_, 'a>,
+    name: &'a Name,
+    amount: Amount,
+) -> Result<(), AllocError> {
+    writer.push_value(StackStep::Copy)?;
+    if amount == Amount::Part {
+        writer.push_value(StackStep::Local(name))?;
+        writer.push_value(StackStep::Combine(2))?;
+    }
+    writer.push_change(Change::Assign(name))
+}
+
+// Adds the write of the last value to `target`. The value remains on the stack, and the subscripts below it are taken off.
+fn end_target<'a>(writer: &mut Writer<'_, 'a>, target: &'a Target) -> Result<(), AllocError> {
+    let amount = amount_of(target);
+    match &variable_in(target).name {
         Expr::Local(name, subscripts) if subscripts.is_empty() => {
-            writer.push_value(StackStep::Copy)?;
-            writer.push_change(Change::Assign(name))
+            add_assignment(writer, name, amount)
         }
         Expr::Global(column, name, subscripts) => {
-            add_subscripts(writer, subscripts)?;
-            writer.push_write(*column, name, subscripts.len(), Amount::Whole)
+            writer.push_write(*column, name, subscripts.len(), amount)
         }
-        _ => add_change(writer, variable),
+        _ => Ok(()),
     }
 }
 
-// Adds the write of the last value to a part of `variable`; the value remains on the stack.
-fn add_part<'a>(writer: &mut Writer<'_, 'a>, variable: &'a Variable) -> Result<(), AllocError> {
-    match &variable.name {
-        Expr::Local(name, subscripts) if subscripts.is_empty() => {
-            writer.push_value(StackStep::Copy)?;
-            writer.push_value(StackStep::Local(name))?;
-            writer.push_value(StackStep::Combine(2))?;
-            writer.push_change(Change::Assign(name))
-        }
-        Expr::Global(column, name, subscripts) => {
-            add_subscripts(writer, subscripts)?;
-            writer.push_write(*column, name, subscripts.len(), Amount::Part)
-        }
-        _ => add_change(writer, variable),
-    }
-}
-
-fn add_target<'a>(writer: &mut Writer<'_, 'a>, target: &'a Target) -> Result<(), AllocError> {
-    match target {
-        Target::Whole(variable) => add_whole(writer, variable),
-        Target::Part(_, variable, arguments) => {
-            add_exprs(writer, arguments)?;
-            writer.push_discard(arguments.len())?;
-            add_part(writer, variable)
-        }
-    }
-}
-
+// Adds a SET. The subscripts that were added last are the next on the stack, so the targets are written from the last to the first.
 fn add_set<'a>(writer: &mut Writer<'_, 'a>, set: &'a SetArgument) -> Result<(), AllocError> {
+    let targets = set.targets.as_slice();
+    for target in targets {
+        begin_target(writer, target)?;
+    }
     add_expr(writer, &set.value)?;
-    for target in set.targets.as_slice() {
-        add_target(writer, target)?;
+    for target in targets.iter().rev() {
+        end_target(writer, target)?;
     }
     writer.push_discard(1)
 }

@@ -163,7 +163,7 @@ pub enum Step<'a> {
     Jump(Jump),
     /// pops the subscripts, and pushes the value that is read
     Read(Use<'a>),
-    /// pops the subscripts, and writes the value below them, which remains
+    /// pops a value and the subscripts below it, writes the value, and pushes it again
     Write(Use<'a>, Amount),
     /// pops the subscripts of all names of an argument of LOCK, and claims or releases these names
     Lock(&'a LockArgument),
