@@ -67,22 +67,22 @@ impl<'a> Walk<'_, 'a> {
         })
     }
 
-    // Adds the write at `place` of the node `written`, whose value comes from the read `number`, if it is stale.
-    fn add_stale(
-        &mut self,
+    // The write at `place` of the node `written`, whose value comes from the read `number`, or `None` if it is not stale.
+    fn stale_write(
+        &self,
         path: &Path<'a>,
         place: &Use<'a>,
         written: &Reference,
         number: usize,
-    ) -> Result<(), AllocError> {
+    ) -> Result<Option<StaleWrite<'a>>, AllocError> {
         let Some(source) = self.reads.get(number) else {
-            return Ok(());
+            return Ok(None);
         };
         if !reads_written(&source.reference, written) {
-            return Ok(());
+            return Ok(None);
         }
         let Some(moment) = self.last_open(path, &source.reference, written) else {
-            return Ok(());
+            return Ok(None);
         };
         let write = StaleWrite {
             position: place.position(),
@@ -92,9 +92,10 @@ impl<'a> Walk<'_, 'a> {
             held: path.held_locks(self.alloc)?,
         };
         if is_stale(self.rules, &write) {
-            push_sparing(&mut self.found, write)?;
+            Ok(Some(write))
+        } else {
+            Ok(None)
         }
-        Ok(())
     }
 
     // Whether a stale write at `position` was found.
@@ -102,7 +103,7 @@ impl<'a> Walk<'_, 'a> {
         self.found.iter().any(|write| write.position == *position)
     }
 
-    // Adds the write at `place` of the node `written`, whose value comes from `sources`, if it is stale by one of them.
+    // Adds the write at `place` of the node `written`, whose value comes from the reads `sources`, if it is stale by one of them.
     fn check_write(
         &mut self,
         path: &Path<'a>,
@@ -112,8 +113,11 @@ impl<'a> Walk<'_, 'a> {
     ) -> Result<(), AllocError> {
         let position = place.position();
         for number in sources {
-            if !self.has_found(&position) {
-                self.add_stale(path, place, written, *number)?;
+            if self.has_found(&position) {
+                return Ok(());
+            }
+            if let Some(write) = self.stale_write(path, place, written, *number)? {
+                push_sparing(&mut self.found, write)?;
             }
         }
         Ok(())

@@ -2,7 +2,7 @@
 //!
 //! The text is read from standard input. Everything before the first line that begins with `== ` is a comment. Each such line
 //! begins a case and describes it. It is followed by the case's rules, unless they are those of `RULES`, and by its routines, each
-//! after a line of `-- ` and its name. For each case its first line is printed, and then a line for each stale write: its place, and
+//! after a line of `-- ` and its name; they are read in the extended dialect. For each case its first line is printed, and then a line for each stale write: its place, and
 //! the place of the read that its value comes from.
 #![tactic(auto)]
 
@@ -54,7 +54,7 @@ fn routines_of(alloc: Global, case: &[u8]) -> Result<Option<Vec<Routine>>, Alloc
     let mut routines = Vec::new(alloc);
     for part in case.split_str(ROUTINE).skip(1) {
         let name = front_of(part, b"\n");
-        match read_routine(alloc, Dialect::Standard, name, rest_of(part, b"\n")) {
+        match read_routine(alloc, Dialect::Extended, name, rest_of(part, b"\n")) {
             Ok(routine) => push_sparing(&mut routines, routine)?,
             Err(_) => return Ok(None),
         }

@@ -263,7 +263,7 @@ fn begin_target<'a>(writer: &mut Writer<'_, 'a>, target: &'a Target) -> Result<(
     let variable = variable_in(target);
     let subscripts = subscripts_of(variable);
     add_subscripts(writer, subscripts)?;
-    if !matches!(variable.name, Expr::Global(_, _, _)) {
+    if !matches!(&variable.name, Expr::Global(_, _, _)) {
         writer.push_discard(subscripts.len())?;
     }
     let arguments = arguments_in(target);
