@@ -76,29 +76,31 @@ impl<'a> Path<'a> {
         Ok(())
     }
 
-    // The values of the formals to which names are passed by reference, each with the name.
+    // The names that are passed by reference, each with the value of its formal.
     fn outcomes(
         &mut self,
         alloc: Global,
         namer: &mut Namer,
         formals: &'a [Name],
         actuals: &'a [Actual],
-    ) -> Result<Vec<(&'a Name, Tracked)>, AllocError> {
+    ) -> Result<Vec<Local<'a>>, AllocError> {
         let mut outcomes = Vec::new(alloc);
         for (index, formal) in formals.iter().enumerate() {
             if let Some(name) = passed_name(actuals, index) {
-                let value = self.value_of(namer, formal)?;
-                push_sparing(&mut outcomes, (name, value))?;
+                let outcome = Local {
+                    name: name.as_bytes(),
+                    value: Some(self.value_of(namer, formal)?),
+                };
+                push_sparing(&mut outcomes, outcome)?;
             }
         }
         Ok(outcomes)
     }
 
-    // Gives the locals of `hidden` back the values that they had, the last one first.
-    fn uncover(&mut self, hidden: Vec<Local<'a>>) -> Result<(), AllocError> {
-        let mut hidden = hidden;
-        hidden.reverse();
-        for Local { name, value } in hidden {
+    // Gives each of `locals` its value, in order.
+    fn replace_all(&mut self, locals: Vec<Local<'a>>) -> Result<(), AllocError> {
+        for local in locals {
+            let Local { name, value } = local;
             let _ = self.replace(name, value)?;
         }
         Ok(())
@@ -125,14 +127,13 @@ impl<'a> Path<'a> {
             test,
         } = frame;
         let outcomes = self.outcomes(alloc, namer, formals, actuals)?;
-        self.uncover(hidden)?;
-        for (name, outcome) in outcomes {
-            let _ = self.replace(name.as_bytes(), Some(outcome))?;
-        }
+        let mut hidden = hidden;
+        hidden.reverse();
+        self.replace_all(hidden)?;
+        self.replace_all(outcomes)?;
         self.stack.truncate(height);
-        self.put(value)?;
-        if kind != CallKind::Extrinsic {
-            self.discard(1);
+        if kind == CallKind::Extrinsic {
+            self.put(value)?;
         }
         if kind != CallKind::Do {
             self.test = test;
