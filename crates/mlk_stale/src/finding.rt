@@ -10,7 +10,6 @@ use mlk_program::{EntryId, Program};
 use mlk_rules::{Rules, entries};
 use mlk_stale_steps::{Code, code_of};
 use mlk_syntax::{Line, Routine};
-use mlk_text::push_sparing;
 use std::alloc::{AllocError, Global};
 
 // Walks from the entries that `rules` declare.
@@ -60,20 +59,10 @@ fn walk_labels<'a>(
 }
 
 // Keeps the writes of `found` that are stale. All of them are, but nothing is proved of the walk that found them.
-fn keep_stale<'a>(
-    alloc: Global,
-    rules: &Rules,
-    found: Vec<StaleWrite<'a>>,
-) -> Result<Vec<StaleWrite<'a>>, AllocError>
-    ensures { IfOk result (λ kept. All (IsStale rules.now) kept.items) }
+fn keep_stale(rules: &Rules, found: &mut Vec<StaleWrite<'_>>)
+    ensures { All (IsStale rules.now) found.new.items }
 {
-    let mut kept = Vec::new(alloc);
-    for write in found {
-        if is_stale(rules, &write) {
-            push_sparing(&mut kept, write)?;
-        }
-    }
-    Ok(kept)
+    found.retain(|write| is_stale(rules, write));
 }
 
 /// Finds stale writes of `program` by `rules`, at most one at each place. Paths are followed from the declared entries, then from labels that
@@ -92,5 +81,7 @@ pub fn stale_writes<'a>(
     walk_labels(&mut walk, &code, program.routines(), called.as_slice())?;
     walk_labels(&mut walk, &code, program.routines(), &[])?;
     let Walk { found, .. } = walk;
-    keep_stale(alloc, rules, found)
+    let mut found = found;
+    keep_stale(rules, &mut found);
+    Ok(found)
 }
