@@ -65,8 +65,8 @@ fn keep_stale(rules: &Rules, found: &mut Vec<StaleWrite<'_>>)
     found.retain(|write| is_stale(rules, write));
 }
 
-/// Finds stale writes of `program` by `rules`, at most one at each place. Paths are followed from the declared entries, then from labels that
-/// no path has reached: first from those that nothing calls, then from the others.
+/// Finds stale writes of `program` by `rules`, at most one at each place. Paths are followed from the declared entries, then from
+/// labels that no path has reached: first from those that nothing calls, then from the others.
 pub fn stale_writes<'a>(
     alloc: Global,
     program: &Program<'a>,
