@@ -2,8 +2,8 @@
 //!
 //! The text is read from standard input. Everything before the first line that begins with `== ` is a comment. Each such line
 //! begins a case and describes it. It is followed by the case's rules, unless they are those of `RULES`, and by its routines, each
-//! after a line of `-- ` and its name; they are read in the extended dialect. For each case its first line is printed, and then a line for each stale write: its place, and
-//! the place of the read that its value comes from.
+//! after a line of `-- ` and its name; they are read in the extended dialect. For each case its first line is printed, and then a
+//! line for each stale write: its place, and the place of the read that its value comes from.
 #![tactic(auto)]
 
 use bstr::ByteSlice;

@@ -1,5 +1,5 @@
-//! Routines as steps of a machine with a stack of values, for the search for stale writes. Nothing that is proved of a `yes` depends on
-//! this crate.
+//! Routines as steps of a machine with a stack of values, for the search for stale writes. Nothing that is proved of a `yes`
+//! depends on this crate.
 #![tactic(auto)]
 
 mod command;
