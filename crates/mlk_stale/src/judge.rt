@@ -94,7 +94,8 @@ fn none_reaches(reads: &[Reference], written: &Reference) -> bool
 
 // Whether other jobs may have written the node that `read` reads and `written` writes at `gap`, and it was not read after it.
 fn is_gap(rules: &Rules, gap: &Gap, read: &Reference, written: &Reference) -> bool
-    ensures { IsTrue result ↔ (¬ IsProtected rules.now gap.now.held.items read.now written.now) × All (λ r. ¬ MayOverlap r written.now) gap.now.later_reads.items }
+    ensures { IsTrue result ↔ (¬ IsProtected rules.now gap.now.held.items read.now written.now)
+        × All (λ r. ¬ MayOverlap r written.now) gap.now.later_reads.items }
 {
     is_open(rules, gap.held.as_slice(), read, written)
         && none_reaches(gap.later_reads.as_slice(), written)
