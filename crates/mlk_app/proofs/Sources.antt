@@ -87,10 +87,10 @@ loses-past holds unreadable (asked.Check path workers style) (work.Verify given)
 loses-past holds unreadable (asked.Check path workers style) (work.Replay text) paths e held lost = absurd held
 loses-past holds unreadable (asked.Make format) w paths e held lost = lost
 loses-past holds unreadable (asked.Verify workers style) w paths e held lost = lost
-loses-past holds unreadable (asked.Replay path) (work.Check text given) paths e held lost = absurd held
-loses-past holds unreadable (asked.Replay path) (work.Make format) paths e held lost = absurd held
-loses-past holds unreadable (asked.Replay path) (work.Verify given) paths e held lost = absurd held
-loses-past holds unreadable (asked.Replay path) (work.Replay text) paths e held lost = loses-after holds unreadable path.now text.items paths e held lost
+loses-past holds unreadable (asked.Replay path style) (work.Check text given) paths e held lost = absurd held
+loses-past holds unreadable (asked.Replay path style) (work.Make format) paths e held lost = absurd held
+loses-past holds unreadable (asked.Replay path style) (work.Verify given) paths e held lost = absurd held
+loses-past holds unreadable (asked.Replay path style) (work.Replay text) paths e held lost = loses-after holds unreadable path.now text.items paths e held lost
 
 -- what is lost after the texts of routines were had
 pub loses-behind : (holds : Texts) (unreadable : List ℕ → Type 0) (paths : List (Bor (List ℕ))) (sources : List Source) (more : List (List ℕ)) (e : FileError) → AreSources holds paths sources → LosesFirst holds unreadable more e

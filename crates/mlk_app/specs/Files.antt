@@ -71,10 +71,10 @@ IsWork holds (asked.Check path workers style) (work.Verify given) = ⊥
 IsWork holds (asked.Check path workers style) (work.Replay text) = ⊥
 IsWork holds (asked.Make format) w = w ≡ work.Make (cert_format format)
 IsWork holds (asked.Verify workers style) w = w ≡ work.Verify workers
-IsWork holds (asked.Replay path) (work.Check text given) = ⊥
-IsWork holds (asked.Replay path) (work.Make format) = ⊥
-IsWork holds (asked.Replay path) (work.Verify given) = ⊥
-IsWork holds (asked.Replay path) (work.Replay text) = holds path.now text.items
+IsWork holds (asked.Replay path style) (work.Check text given) = ⊥
+IsWork holds (asked.Replay path style) (work.Make format) = ⊥
+IsWork holds (asked.Replay path style) (work.Verify given) = ⊥
+IsWork holds (asked.Replay path style) (work.Replay text) = holds path.now text.items
 
 -- the path of a file that may be given
 abbrev pub given_path : Option (Bor (List ℕ)) → List (List ℕ)
@@ -99,7 +99,7 @@ abbrev pub work_path : Asked → List (List ℕ)
 work_path (asked.Check path workers style) = path.now ∷ []
 work_path (asked.Make format) = []
 work_path (asked.Verify workers style) = []
-work_path (asked.Replay path) = path.now ∷ []
+work_path (asked.Replay path style) = path.now ∷ []
 
 -- the paths that a command names, in the order of its words, and that of the known faults last
 abbrev pub program_paths : ProgramRequest → List (List ℕ)

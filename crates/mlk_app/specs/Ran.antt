@@ -54,14 +54,14 @@ use Rattle.mlk_outcome.specs.Replaying.{IsReplayed, IsUnreplayed}
 use Rattle.mlk_outcome.specs.Conversion.{IsConverted, IsUnconverted}
 
 -- how a report is printed: as text, without hazards and explanations, unless the words say otherwise
-abbrev pub plain_style : ReportStyle
-plain_style = record { output = Plain; is_strict = false; is_explained = false; is_quiet = false; exits_zero = false }
+abbrev pub text_style : Bool → ReportStyle
+text_style explained = record { output = Plain; is_strict = false; is_explained = explained; is_quiet = false; exits_zero = false }
 
 abbrev pub style_in : Asked → ReportStyle
 style_in (asked.Check certificate workers style) = style
-style_in (asked.Make format) = plain_style
+style_in (asked.Make format) = text_style false
 style_in (asked.Verify workers style) = style
-style_in (asked.Replay path) = plain_style
+style_in (asked.Replay path style) = text_style style.is_explained
 
 abbrev pub output_in : Request → Output
 output_in (request.Program program) = (style_in program.asked).output
@@ -138,7 +138,7 @@ abbrev pub IsPrinted : ProgramRequest → Option (Bor Baseline) → List Routine
 IsPrinted program known trees rules (work.Check given workers) text status = IsReportByText program known trees rules given.items text status
 IsPrinted program known trees rules (work.Verify workers) text status = IsReportOfMade program known trees rules text status
 IsPrinted program known trees rules (work.Make format) text status = IsMade trees rules format text × (status ≡ 0)
-IsPrinted program known trees rules (work.Replay events) text status = IsReplayed trees rules events.items text × (status ≡ 0)
+IsPrinted program known trees rules (work.Replay events) text status = IsReplayed (style_in program.asked).is_explained trees rules events.items text × (status ≡ 0)
 
 -- why there is no report by a certificate that is made
 abbrev pub RefusesMade : ℕ → List RoutineTree → RuleLists → NoReport → Type 0

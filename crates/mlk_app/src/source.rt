@@ -183,7 +183,7 @@ fn read_work<'a, F: Files>(
             format: cert_format(*format),
         }),
         Asked::Verify { workers, .. } => Ok(Work::Verify { workers: *workers }),
-        Asked::Replay(path) => Ok(Work::Replay(read_file(alloc, files, *path)?)),
+        Asked::Replay { events, .. } => Ok(Work::Replay(read_file(alloc, files, *events)?)),
     }
 }
 

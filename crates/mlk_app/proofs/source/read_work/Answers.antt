@@ -9,5 +9,5 @@ returns-in_err-read_file-in-Check-clause-lost g c =
 
 pub returns-in_err-read_file-in-Replay-clause-lost : goal.returns-in_err-read_file-in-Replay-clause-lost
 returns-in_err-read_file-in-Replay-clause-lost g c =
-    let lost = loses-front (g.F.Files.holds c.args.files.now) (g.F.Files.unreadable c.args.files.now) c.in-Replay.path.now [] c.in_err-read_file-in-Replay.field-0.0 c.in_err-read_file-in-Replay.ensures.lost in
+    let lost = loses-front (g.F.Files.holds c.args.files.now) (g.F.Files.unreadable c.args.files.now) c.in-Replay.events.now [] c.in_err-read_file-in-Replay.field-0.0 c.in_err-read_file-in-Replay.ensures.lost in
     grind rules
