@@ -40,7 +40,7 @@ use Rattle.mlk_baseline.specs.declared.baseline.BaselineFault.{BaselineFault}
 use Rattle.mlk_baseline.specs.Known.{IsComparison}
 use Rattle.mlk_forms.specs.Rendering.{IsRendered, IsNoticed, printed_rows}
 use Rattle.mlk_app.specs.Printed.{fault_line, rules_line, certificate_line, missing_line, workers_line, stuck_line, events_line, baseline_line, file_line, no_page_line}
-use Rattle.mlk_app.specs.Files.{Texts, Folders, AreFound, AreTexts, AreSources, IsFirstLost, given_path, cert_format, paths_of, program_paths}
+use Rattle.mlk_app.specs.Files.{Texts, Folders, AreFound, AreTexts, AreSources, IsFirstLost, given_path, written_path, cert_format, paths_of, program_paths}
 use Rattle.mlk_cli.specs.CommandLine.{IsRequest, AsksNothing, bytes_of}
 use Rattle.mlk_program.specs.Program.{IsProgram}
 use Rattle.mlk_rules.specs.declared.rules.RuleLists.{RuleLists}
@@ -261,11 +261,11 @@ pub record IsBaselineRefused (holds : Texts) (program : ProgramRequest) (line : 
   pub fault : BaselineFault
   pub printed : line ≡ baseline_line fault
 
--- the file can't be written in which the faults of a report were to be listed as known ones
+-- the file can't be written in which the faults of a report were to be listed as known ones, or events that are asked for
 pub record IsUnwritten (program : ProgramRequest) (line : List ℕ) : Type 0 where
-  pub path : Bor (List ℕ)
-  pub named : program.new_baseline ≡ Some path
-  pub printed : line ≡ file_line path.now
+  pub path : List ℕ
+  pub named : (given_path program.new_baseline ≡ path ∷ []) ⊎ (written_path program.asked ≡ path ∷ [])
+  pub printed : line ≡ file_line path
 
 -- the text in this format of the certificate whose text stands at the path
 pub record IsConvertedThere (holds : Texts) (path : List ℕ) (format : CertFormat) (text : List ℕ) : Type 0 where

@@ -3,6 +3,7 @@
 ghost use Rattle.std.specs.Prelude.{◌≡◌, ◌≢◌, List, ℕ, IfOk, IfErr, length};
 ghost use Rattle.std.specs.IoError.{error_kind};
 ghost use Rattle.mlk_app.specs.Files.{IsFileName, IsNameStem, IsPathStem, IsSource, AreSources, IsWork, AreTexts, cert_format, work_path, program_paths, Loses, LosesFirst};
+ghost use Rattle.mlk_app.specs.declared.source.FileError.TheVariants as error;
 ghost use Rattle.mlk_cli.specs.CommandLine.{bytes_of};
 
 use mlk_cert::CertFormat;
@@ -38,6 +39,10 @@ pub trait Files {
 
     /// Writes a file at a path. Nothing says what it holds then.
     fn write(&self, path: &str, text: &[u8]) -> io::Result<()>;
+
+    /// Shows a text to a person, and returns the line that is entered, without its end; `None` at the end of the input. Nothing
+    /// says which line it is.
+    fn ask(&self, alloc: Global, shown: &[u8]) -> io::Result<Option<Vec<u8>>>;
 }
 
 /// What is to be done with a program, with the texts that it takes.
@@ -161,6 +166,26 @@ pub(crate) fn cert_format(format: Format) -> CertFormat
     }
 }
 
+// The events at a path that were entered before; none if there is no such file.
+fn read_begun<'a, F: Files>(
+    alloc: Global,
+    files: &F,
+    path: &'a str,
+) -> Result<Vec<u8>, FileError<'a>>
+    ensures { IfErr result (λ e. e ≡ error.OutOfMemory) }
+{
+    match files.read(alloc, path) {
+        Ok(text) => Ok(text),
+        Err(error) => {
+            if error.kind() == ErrorKind::OutOfMemory {
+                Err(FileError::OutOfMemory)
+            } else {
+                Ok(Vec::new(alloc))
+            }
+        }
+    }
+}
+
 // The text of the certificate, or of the events, where one is named, and the number of workers or the format.
 fn read_work<'a, F: Files>(
     alloc: Global,
@@ -183,6 +208,9 @@ fn read_work<'a, F: Files>(
             format: cert_format(*format),
         }),
         Asked::Verify { workers, .. } => Ok(Work::Verify { workers: *workers }),
+        Asked::Replay { events, style } if style.is_interactive => {
+            Ok(Work::Replay(read_begun(alloc, files, *events)?))
+        }
         Asked::Replay { events, .. } => Ok(Work::Replay(read_file(alloc, files, *events)?)),
     }
 }

@@ -178,7 +178,14 @@ fn print_explained<R: Threads + Wait + Sync, W: Watch>(
     let request = subject.request;
     let beside = compare_faults(alloc, &grounds, report, subject.known, request)?;
     let is_compared = subject.known.is_some();
-    let behind = find_behind(runner, subject.sources, &grounds, report, style, is_compared)?;
+    let behind = find_behind(
+        runner,
+        subject.sources,
+        &grounds,
+        report,
+        style,
+        is_compared,
+    )?;
     let explanations = Explanations {
         grounds: &grounds,
         behind: &behind,
@@ -264,14 +271,14 @@ fn print_certificate<W: Watch>(
     })
 }
 
-// The texts of the routines, with their paths.
-fn routine_texts<'t>(
+/// The texts of the routines, with their paths.
+pub(crate) fn routine_texts_of<'t>(
     alloc: Global,
-    subject: &Subject<'t>,
+    request: &'t ProgramRequest<'t>,
+    sources: &'t Sources<'t>,
 ) -> Result<Vec<RoutineText<'t>>, AllocError> {
-    let paths = subject.request.routines.as_slice();
     let mut texts = Vec::new(alloc);
-    for (source, path) in subject.sources.routines.iter().zip(paths) {
+    for (source, path) in sources.routines.iter().zip(request.routines.as_slice()) {
         texts.push(RoutineText {
             path: *path,
             text: source.text.as_slice(),
@@ -296,8 +303,11 @@ fn print_jobs(alloc: Global, subject: &Subject<'_>, events: &[u8]) -> Result<Pri
     ensures ok { IfOk result (λ p. IsReplayed (style_in subject.now.request.now.asked).is_explained (map routine_of subject.now.program.now) subject.now.rules.now events.now p.text × (p.status ≡ 0)) }
     ensures refused { IfErr result (IsUnreplayed (map routine_of subject.now.program.now) subject.now.rules.now events.now) }
 {
-    let texts = routine_texts(alloc, subject)?;
-    let showing = showing_of(style_in(&subject.request.asked).is_explained, texts.as_slice());
+    let texts = routine_texts_of(alloc, subject.request, subject.sources)?;
+    let showing = showing_of(
+        style_in(&subject.request.asked).is_explained,
+        texts.as_slice(),
+    );
     let text = jobs_text(alloc, subject.program, subject.rules, events, showing)?;
     Ok(Printed {
         text: ReportText::of(text),

@@ -5,5 +5,6 @@ mod words;
 
 pub use words::{
     Asked, Format, Invocation, Output, ProgramRequest, ReplayStyle, ReportStyle, Request,
-    StubsRequest, SuggestRequest, SurveyOutput, SurveyRequest, UsageError, WantedStubs, read_request,
+    StubsRequest, SuggestRequest, SurveyOutput, SurveyRequest, UsageError, WantedStubs,
+    read_request,
 };

@@ -6,8 +6,8 @@ use mlk_syntax::{
     Action, Actual, Call, Command, DoArgument, Expr, KillArgument, LockArgument, MergeArgument,
     NewArgument, Parameter, ReadArgument, SetArgument, Subscript, Target, Variable, WriteArgument,
 };
-use mlk_text::{Column, push_sparing};
 use mlk_text::lexeme::letters;
+use mlk_text::{Column, push_sparing};
 use std::alloc::{AllocError, Global};
 
 /// A part of a command, and the column where its text begins.

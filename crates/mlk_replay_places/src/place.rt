@@ -54,11 +54,7 @@ fn is_after(rest: &Rest<'_>, next: &For) -> bool {
 }
 
 // The commands of `commands`, which are after the FOR `before`, among which `rest` begins.
-fn stretch_of<'a>(
-    before: Option<&'a For>,
-    commands: &'a Commands,
-    rest: &Rest<'a>,
-) -> Stretch<'a> {
+fn stretch_of<'a>(before: Option<&'a For>, commands: &'a Commands, rest: &Rest<'a>) -> Stretch<'a> {
     match &commands.last {
         Some(next) if !is_after(rest, next) => {
             let next: &'a For = next;
@@ -93,11 +89,15 @@ fn column_of_rest(rest: &Rest<'_>) -> Column {
 // How many parameters are left after the one of a FOR whose rounds `task` continues.
 fn parameters_left(task: Option<&Pending<'_>>) -> Option<usize> {
     match task {
-        Some(Pending::Task(Task::Line(
-            LineTask::Parameters(_, left, _)
-            | LineTask::FirstRound(_, left, _)
-            | LineTask::LaterRound(_, left, _),
-        ))) => Some(left.len()),
+        Some(
+            Pending::Task(
+                Task::Line(
+                    LineTask::Parameters(_, left, _)
+                    | LineTask::FirstRound(_, left, _)
+                    | LineTask::LaterRound(_, left, _),
+                ),
+            ),
+        ) => Some(left.len()),
         _ => None,
     }
 }

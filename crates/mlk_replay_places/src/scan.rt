@@ -28,7 +28,10 @@ fn is_of_word(byte: u8) -> bool {
 // The rest of `text` after the word at its front, whose first byte is skipped in any case.
 fn after_word(text: &[u8]) -> &[u8] {
     let rest = from(text, 1);
-    from(rest, rest.iter().take_while(|byte| is_of_word(**byte)).count())
+    from(
+        rest,
+        rest.iter().take_while(|byte| is_of_word(**byte)).count(),
+    )
 }
 
 // The rest of `text` after a quoted text, whose quotes are doubled inside.

@@ -135,7 +135,10 @@ fn innermost<'a>(
             return Ok(None);
         };
         let (_, tokens) = size_of_branches(alloc, before)?;
-        let token = found.token.saturating_add(tokens).saturating_add(step.token);
+        let token = found
+            .token
+            .saturating_add(tokens)
+            .saturating_add(step.token);
         found = Step {
             part: step.part,
             token,
@@ -201,7 +204,10 @@ fn items_of_parameter<'a, 't>(
     let (Some(control), Some(left)) = (&found.control, left) else {
         return Ok(None);
     };
-    let count = control.parameters.len().saturating_sub(left.saturating_add(1));
+    let count = control
+        .parameters
+        .len()
+        .saturating_sub(left.saturating_add(1));
     match control.parameters.get(count) {
         Some(parameter) => {
             let items = parameter_items(alloc, parameter, count, control.column, line)?;
@@ -218,7 +224,10 @@ pub fn spot_of<'a>(
     place: &Place<'a>,
     line: &[u8],
 ) -> Result<Spot<'a>, AllocError> {
-    let (_, own) = job.pending.as_slice().split_at(place.later.min(job.pending.len()));
+    let (_, own) = job
+        .pending
+        .as_slice()
+        .split_at(place.later.min(job.pending.len()));
     let Some((next, after)) = own.split_last() else {
         return Ok(Spot {
             column: begin_of(place),

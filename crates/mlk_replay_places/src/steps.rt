@@ -234,10 +234,7 @@ fn add_reading<'a>(
 
 // Adds `$SELECT`: which of its conditions and values are computed is not known, so all their steps have its token.
 #[cycle(stepping)]
-fn add_select<'a>(
-    steps: &mut Steps<'a>,
-    branches: &'a [(Expr, Expr)],
-) -> Result<(), AllocError> {
+fn add_select<'a>(steps: &mut Steps<'a>, branches: &'a [(Expr, Expr)]) -> Result<(), AllocError> {
     let token = steps.take_token();
     let part = Part::Select(branches);
     let first = steps.steps.len();

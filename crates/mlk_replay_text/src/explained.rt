@@ -39,11 +39,7 @@ fn notes_of(
 }
 
 // Appends the first line of `left`, and `note` below it; returns the rest. Nothing is appended if no line ends.
-fn push_noted<'p>(
-    text: &mut Vec<u8>,
-    left: &'p [u8],
-    note: &[u8],
-) -> Result<&'p [u8], AllocError>
+fn push_noted<'p>(text: &mut Vec<u8>, left: &'p [u8], note: &[u8]) -> Result<&'p [u8], AllocError>
     ensures { IfOk result (λ rest. GoesOn text.old.items left.now text.new.items rest.now) }
 {
     let (line, end) = left.split_at(line_length(left));

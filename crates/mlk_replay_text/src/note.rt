@@ -55,15 +55,27 @@ fn push_question(
     match question_of(program, job) {
         Question::Value => push_all(
             text,
-            &[Words("asks for a value: what `"), Bytes(token), Words("` gives")],
+            &[
+                Words("asks for a value: what `"),
+                Bytes(token),
+                Words("` gives"),
+            ],
         ),
         Question::Truth => push_all(
             text,
-            &[Words("asks for a truth, yes or no: whether `"), Bytes(token), Words("` is true")],
+            &[
+                Words("asks for a truth, yes or no: whether `"),
+                Bytes(token),
+                Words("` is true"),
+            ],
         ),
         Question::Time => push_all(
             text,
-            &[Words("asks for a truth, yes or no: whether `"), Bytes(token), Words("` is in time")],
+            &[
+                Words("asks for a truth, yes or no: whether `"),
+                Bytes(token),
+                Words("` is in time"),
+            ],
         ),
         Question::Nothing => match state(program, job) {
             State::Stuck => push_all(text, &[Words("can't continue")]),
