@@ -261,10 +261,16 @@ pub record IsBaselineRefused (holds : Texts) (program : ProgramRequest) (line : 
   pub fault : BaselineFault
   pub printed : line ≡ baseline_line fault
 
--- the file can't be written in which the faults of a report were to be listed as known ones, or events that are asked for
+-- the file can't be written in which the faults of a report were to be listed as known ones
 pub record IsUnwritten (program : ProgramRequest) (line : List ℕ) : Type 0 where
+  pub path : Bor (List ℕ)
+  pub named : program.new_baseline ≡ Some path
+  pub printed : line ≡ file_line path.now
+
+-- the file can't be written that was to have the events that are asked for
+pub record AreUnwritten (program : ProgramRequest) (line : List ℕ) : Type 0 where
   pub path : List ℕ
-  pub named : (given_path program.new_baseline ≡ path ∷ []) ⊎ (written_path program.asked ≡ path ∷ [])
+  pub named : written_path program.asked ≡ path ∷ []
   pub printed : line ≡ file_line path
 
 -- the text in this format of the certificate whose text stands at the path
@@ -345,7 +351,7 @@ IsRefusedSo holds request line notice = IsRefusedThere holds request line × IsN
 
 -- the first path of a request that can't be read; of a program also the one that can't be written
 abbrev pub IsUnread : Texts → (List ℕ → Type 0) → Request → List ℕ → Type 0
-IsUnread holds unreadable (request.Program program) line = IsFirstUnread holds unreadable (program_paths program) line ⊎ IsUnwritten program line
+IsUnread holds unreadable (request.Program program) line = IsFirstUnread holds unreadable (program_paths program) line ⊎ (IsUnwritten program line ⊎ AreUnwritten program line)
 IsUnread holds unreadable (request.Convert certificate format) line = IsFirstUnread holds unreadable (paths_of (request.Convert certificate format)) line
 IsUnread holds unreadable (request.Survey survey) line = IsFirstUnread holds unreadable (paths_of (request.Survey survey)) line
 IsUnread holds unreadable (request.Suggest suggestion) line = IsFirstUnread holds unreadable (paths_of (request.Suggest suggestion)) line

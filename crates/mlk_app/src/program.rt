@@ -4,7 +4,8 @@ ghost use Rattle.std.specs.Prelude.{◌≡◌, ◌≢◌, IfOk};
 ghost use Rattle.std.specs.IoError.{error_kind};
 ghost use Rattle.mlk_cli.specs.declared.words.Request.TheVariants as wanted;
 ghost use Rattle.mlk_app.specs.Ran.{style_in, IsErrorLine, IsRefusalLine, TellsRefusal, TellsFault, TellsBaseline, TellsUnread, TellsUnfound, TellsPage, Answers, AnswersFound, AnswersLine, AnswersWords, Ran};
-ghost use Rattle.mlk_app.specs.Files.{AreTexts, LosesPath};
+ghost use Rattle.mlk_app.specs.Files.{AreTexts, LosesPath, given_path, written_path};
+ghost use Rattle.mlk_app.specs.declared.source.Work.TheVariants as work;
 ghost use Rattle.mlk_app.specs.Printing.{IsReportAnswer};
 ghost use Rattle.mlk_cli.specs.CommandLine.{bytes_of};
 ghost use Rattle.mlk_forms.specs.Rendering.{IsNoticed};
@@ -266,11 +267,9 @@ fn written_events<'a>(program: &ProgramRequest<'a>) -> Option<&'a str>
 }
 
 // The texts of the files of a program with these events, which are asked for.
-fn with_events<'a>(
-    program: &ProgramRequest<'a>,
-    sources: Sources<'a>,
-    events: Vec<u8>,
-) -> Sources<'a> {
+fn with_events<'a>(sources: Sources<'a>, events: Vec<u8>) -> Sources<'a>
+    ensures { result ≡ record sources.entry { work = work.Replay events.entry } }
+{
     Sources {
         work: Work::Replay(events),
         ..sources
@@ -278,6 +277,7 @@ fn with_events<'a>(
 }
 
 // What is answered where a person is asked for the events, which are then written at `path`.
+#[tactic(auto, using(crate::proofs::Saying::unwritten_answers, crate::proofs::Sources::asked_texts))]
 fn answer_dialogue<'a, R: Threads + Wait + Sync, F: Files, W: Watch>(
     runner: &Runner<'_, R, W>,
     program: &ProgramRequest<'a>,
@@ -300,7 +300,7 @@ fn answer_dialogue<'a, R: Threads + Wait + Sync, F: Files, W: Watch>(
     if files.write(path, events.as_slice()).is_err() {
         return unwritten_answer(alloc, path);
     }
-    let sources = with_events(program, sources, events);
+    let sources = with_events(sources, events);
     answer_sources(runner, program, &sources, files, explaining)
 }
 

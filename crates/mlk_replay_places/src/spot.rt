@@ -148,10 +148,9 @@ fn innermost<'a>(
 }
 
 // Whether a job that is at `part` does `item` next.
-fn fits(part: Part<'_>, item: Option<&Pending<'_>>) -> bool {
-    match (part, item) {
-        (Part::Select(_), Some(Pending::Task(Task::Value(ValueTask::Select(_))))) => true,
-        (Part::Select(_), _) => false,
+fn fits(part: Part<'_>, item: &Pending<'_>) -> bool {
+    match part {
+        Part::Select(_) => matches!(item, Pending::Task(Task::Value(ValueTask::Select(_)))),
         _ => true,
     }
 }
@@ -251,11 +250,13 @@ pub fn spot_of<'a>(
         return Ok(Spot { column, part: None });
     };
     let spot = spot_within(alloc, &items, stages.as_slice(), line, column)?;
-    let part = spot.part.filter(|part| fits(*part, Some(next)));
-    Ok(Spot {
-        column: spot.column,
-        part,
-    })
+    match spot.part {
+        Some(part) if !fits(part, next) => Ok(Spot {
+            column: spot.column,
+            part: None,
+        }),
+        _ => Ok(spot),
+    }
 }
 
 // The column that a job begins at, if it begins something.

@@ -63,6 +63,15 @@ impl<'a> Steps<'a> {
         token
     }
 
+    // Replaces each step from the index `first` on by `step`.
+    fn replace_from(&mut self, first: usize, step: Step<'a>) {
+        let mut at = first;
+        while at < self.steps.len() {
+            self.steps[at] = step;
+            at += 1;
+        }
+    }
+
     // Adds a step.
     fn push(&mut self, part: Part<'a>, token: usize) -> Result<(), AllocError> {
         push_sparing(&mut self.steps, Step { part, token })
@@ -244,10 +253,7 @@ fn add_select<'a>(steps: &mut Steps<'a>, branches: &'a [(Expr, Expr)]) -> Result
         steps.push(part, token)?;
         add_expression(steps, value)?;
     }
-    let same = Step { part, token };
-    for step in steps.steps.iter_mut().skip(first) {
-        *step = same;
-    }
+    steps.replace_from(first, Step { part, token });
     Ok(())
 }
 
