@@ -1,5 +1,8 @@
 // Events that a person enters.
 
+ghost use Rattle.std.specs.Prelude.{IfOk};
+ghost use Rattle.mlk_replay_dialogue.specs.Entering.{AreReplayed};
+
 use crate::source::{Files, Sources};
 use crate::work::routine_texts_of;
 use bstr::ByteSlice;
@@ -39,7 +42,7 @@ fn declared(
 }
 
 // A dialogue: the program, the entries at which jobs begin, and the texts of the routines.
-#[derive(Clone, Copy, Drop)]
+#[derive(Drop)]
 struct Stage<'a> {
     program: &'a Program<'a>,
     entries: &'a [EntryId],
@@ -49,9 +52,11 @@ struct Stage<'a> {
 // The events of `given`, as far as they can be followed, and what came of the last of its lines.
 fn entered_before<'a>(
     alloc: Global,
-    stage: Stage<'a>,
+    stage: &Stage<'a>,
     given: &[u8],
-) -> Result<(Entered<'a>, Reply), AllocError> {
+) -> Result<(Entered<'a>, Reply), AllocError>
+    ensures { IfOk result (λ e. AreReplayed stage.now.program.now stage.now.entries.now e.0) }
+{
     let mut entered = start(alloc, stage.program, stage.entries)?;
     let mut reply = Reply::Taken;
     for line in given.lines() {
@@ -66,7 +71,7 @@ fn entered_before<'a>(
 fn ask_events<F: Files>(
     alloc: Global,
     files: &F,
-    stage: Stage<'_>,
+    stage: &Stage<'_>,
     given: &[u8],
 ) -> Result<Vec<u8>, AllocError> {
     let (mut entered, mut reply) = entered_before(alloc, stage, given)?;
@@ -114,7 +119,7 @@ fn ask_of_routines<F: Files>(
         entries: entries.as_slice(),
         texts: texts.as_slice(),
     };
-    ask_events(alloc, files, stage, given)
+    ask_events(alloc, files, &stage, given)
 }
 
 /// Asks a person for events after those of `given`, and returns all of them. Nothing is asked if the routines or the rules are

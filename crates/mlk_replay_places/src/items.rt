@@ -134,11 +134,13 @@ trait HasItems {
 impl HasItems for DoArgument {
     fn add_to<'a>(&'a self, items: &mut Items<'a, '_>, at: usize) -> Result<(), AllocError> {
         items.add_actuals(&self.call.actuals, at)?;
-        if let Some(condition) = &self.condition {
-            let start = items.after(at, b':');
-            items.add_value(condition, start)?;
+        match &self.condition {
+            Some(condition) => {
+                let start = items.after(at, b':');
+                items.add_used(condition, start)
+            }
+            None => items.add_steps(1, self.call.column),
         }
-        items.add_steps(1, self.call.column)
     }
 }
 
@@ -351,8 +353,8 @@ pub(crate) fn command_items<'a, 't>(
     let word = letters(from(line, start));
     if let Some(condition) = &command.condition {
         let condition: &Expr = condition;
-        items.add_value(condition, behind(start, word))?;
-        items.add_steps(1, command.column)?;
+        let at = behind(start, word);
+        items.add_used(condition, at)?;
     }
     let first = items.after(start, b' ');
     add_action(&mut items, &command.action, has_block, first)?;

@@ -54,6 +54,7 @@ fn size_of_pending(alloc: Global, item: &Pending<'_>) -> Result<usize, AllocErro
             let size = size_of_action(alloc, *action, !block.is_empty())?;
             Ok(size.saturating_add(1))
         }
+        Pending::EndBlock(_, _) | Pending::EndFrame(_, _, _) => Ok(0),
         _ => Ok(1),
     }
 }

@@ -3,7 +3,7 @@
 use crate::explained::RoutineText;
 use mlk_excerpts::{Excerpt, TextLines, margin_of, push_excerpt, push_labelled, token_at};
 use mlk_machine_asks::{Question, question_of};
-use mlk_machine_jobs::Job;
+use mlk_machine_jobs::{Job, LineTask, Pending, Task};
 use mlk_machine_view::{State, state};
 use mlk_program::Program;
 use mlk_replay_places::{Place, place_of, spot_of};
@@ -45,6 +45,16 @@ fn push_position(
     push_all(text, &[Words("^"), Bytes(routine.name.as_bytes())])
 }
 
+// Whether a job decides next on a round of FOR.
+fn decides_round(job: &Job<'_>) -> bool {
+    matches!(
+        job.pending.last(),
+        Some(Pending::Task(Task::Line(
+            LineTask::FirstRound(_, _, _) | LineTask::LaterRound(_, _, _)
+        )))
+    )
+}
+
 // Appends what the next step of a job asks for, whose token is `token`.
 fn push_question(
     text: &mut Vec<u8>,
@@ -61,25 +71,23 @@ fn push_question(
                 Words("` gives"),
             ],
         ),
+        Question::Truth if decides_round(job) => {
+            text.extend_from_slice(b"asks for a truth, yes or no: whether a round is run")
+        }
         Question::Truth => push_all(
             text,
             &[
-                Words("asks for a truth, yes or no: whether `"),
+                Words("asks for a truth, yes or no: whether what begins with `"),
                 Bytes(token),
                 Words("` is true"),
             ],
         ),
-        Question::Time => push_all(
-            text,
-            &[
-                Words("asks for a truth, yes or no: whether `"),
-                Bytes(token),
-                Words("` is in time"),
-            ],
-        ),
+        Question::Time => {
+            text.extend_from_slice(b"asks for a truth, yes or no: whether it is done in time")
+        }
         Question::Nothing => match state(program, job) {
-            State::Stuck => push_all(text, &[Words("can't continue")]),
-            _ => push_all(text, &[Words("is next")]),
+            State::Stuck => text.extend_from_slice(b"can't continue"),
+            _ => text.extend_from_slice(b"is next"),
         },
     }
 }
