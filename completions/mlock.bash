@@ -32,7 +32,7 @@ _mlock() {
             check) words="--files-from --workers --output --strict --explain --quiet --exit-zero --baseline --write-baseline --help" ;;
             make) words="--files-from --format --help" ;;
             verify) words="--files-from --workers --output --strict --explain --quiet --exit-zero --baseline --write-baseline --help" ;;
-            replay) words="--files-from --help" ;;
+            replay) words="--files-from --explain --interactive --help" ;;
             convert) words="--format --help" ;;
             survey) words="--files-from --output --help" ;;
             suggest) words="--files-from --beside --stubs --help" ;;
