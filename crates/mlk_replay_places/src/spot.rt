@@ -59,9 +59,21 @@ fn size_of_pending(alloc: Global, item: &Pending<'_>) -> Result<usize, AllocErro
     }
 }
 
-// The stages of `items`, the first of which is the last one that is done.
-fn stages_of(alloc: Global, items: &[Pending<'_>]) -> Result<Vec<Stage>, AllocError> {
+// The stages of `items`, the first of which is the last one that is done, behind `next`. If that decides on a condition of `$SELECT`,
+// no step of the condition is left.
+fn stages_of(
+    alloc: Global,
+    next: &Pending<'_>,
+    items: &[Pending<'_>],
+) -> Result<Vec<Stage>, AllocError> {
     let mut stages = Vec::new(alloc);
+    if let Pending::Task(Task::Value(ValueTask::Selected(_, others))) = next {
+        let stage = Stage {
+            left: usize::MAX,
+            branches: Some(others.len()),
+        };
+        push_sparing(&mut stages, stage)?;
+    }
     let mut left: usize = 0;
     for item in items.iter().rev() {
         if let Pending::Task(Task::Value(ValueTask::Selected(_, others))) = item {
@@ -132,17 +144,17 @@ fn innermost<'a>(
         let Some((condition, _)) = rest.first() else {
             return Ok(None);
         };
-        let Some(step) = step_within(alloc, condition, stage.left)? else {
-            return Ok(None);
-        };
         let (_, tokens) = size_of_branches(alloc, before)?;
-        let token = found
-            .token
-            .saturating_add(tokens)
-            .saturating_add(step.token);
-        found = Step {
-            part: step.part,
-            token,
+        let start = found.token.saturating_add(tokens);
+        found = match step_within(alloc, condition, stage.left)? {
+            Some(step) => Step {
+                part: step.part,
+                token: start.saturating_add(step.token),
+            },
+            None => Step {
+                part: Part::Constant,
+                token: start,
+            },
         };
     }
     Ok(Some(found))
@@ -234,7 +246,7 @@ pub fn spot_of<'a>(
             part: None,
         });
     };
-    let stages = stages_of(alloc, after)?;
+    let stages = stages_of(alloc, next, after)?;
     let has_block = !place.line.block.is_empty();
     let (items, column) = match place.work {
         Work::Begins(column) => return Ok(Spot { column, part: None }),

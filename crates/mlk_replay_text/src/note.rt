@@ -74,14 +74,9 @@ fn push_question(
         Question::Truth if decides_round(job) => {
             text.extend_from_slice(b"asks for a truth, yes or no: whether a round is run")
         }
-        Question::Truth => push_all(
-            text,
-            &[
-                Words("asks for a truth, yes or no: whether what begins with `"),
-                Bytes(token),
-                Words("` is true"),
-            ],
-        ),
+        Question::Truth => {
+            text.extend_from_slice(b"asks for a truth, yes or no: whether this is true")
+        }
         Question::Time => {
             text.extend_from_slice(b"asks for a truth, yes or no: whether it is done in time")
         }
