@@ -17,6 +17,6 @@ pub record IsExplained (plain text : List ℕ) : Type 0 where
   pub whole : text ≡ lines_and_notes_of noted ++ rest
 
 -- What is left of the plain text, and of the text: however the rest goes on, the whole does. For private clauses only.
-abbrev pub GoesOn : List ℕ → List ℕ → List ℕ → List ℕ → Type 0
-GoesOn old left new rest = (later : List ℕ) → IsExplained rest later
-    → (more : List ℕ) × IsExplained left more × (new ++ later ≡ old ++ more)
+pub record GoesOn (old left new rest : List ℕ) : Type 0 where
+  pub goes : (later : List ℕ) → IsExplained rest later
+      → (more : List ℕ) × IsExplained left more × (new ++ later ≡ old ++ more)

@@ -39,6 +39,7 @@ fn notes_of(
 }
 
 // Appends the first line of `left`, and `note` below it; returns the rest. Nothing is appended if no line ends.
+#[tactic(auto, using(crate::proofs::ExplainedLemmas::same_goes_on, crate::proofs::ExplainedLemmas::line_goes_on))]
 fn push_noted<'p>(text: &mut Vec<u8>, left: &'p [u8], note: &[u8]) -> Result<&'p [u8], AllocError>
     ensures { IfOk result (λ rest. GoesOn text.old.items left.now text.new.items rest.now) }
 {
@@ -56,6 +57,7 @@ fn push_noted<'p>(text: &mut Vec<u8>, left: &'p [u8], note: &[u8]) -> Result<&'p
 }
 
 // The text `plain`, with a note below each of its first lines.
+#[tactic(auto, using(crate::proofs::ExplainedLemmas::same_goes_on, crate::proofs::ExplainedLemmas::goes_further, crate::proofs::ExplainedLemmas::goes_to_end))]
 fn with_notes(alloc: Global, plain: &[u8], notes: &[Vec<u8>]) -> Result<Vec<u8>, AllocError>
     ensures { IfOk result (λ text. IsExplained plain.now text.items) }
 {
