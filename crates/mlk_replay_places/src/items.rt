@@ -318,23 +318,23 @@ fn add_action<'a>(
         Action::Do(calls) if calls.is_empty() => {
             items.add_steps(if has_block { 1 } else { 0 }, column_at(at))
         }
-        Action::Do(calls) => add_each(items, calls, at),
+        Action::Do(calls) => add_each(items, calls.as_slice(), at),
         Action::Else | Action::Halt | Action::Quit(None) => items.add_steps(1, column_at(at)),
-        Action::Hang(times) => add_each(items, times, at),
+        Action::Hang(times) => add_each(items, times.as_slice(), at),
         Action::If(conditions) if conditions.is_empty() => items.add_steps(1, column_at(at)),
-        Action::If(conditions) => add_conditions(items, conditions, at),
-        Action::Job(calls) => add_each(items, calls, at),
+        Action::If(conditions) => add_conditions(items, conditions.as_slice(), at),
+        Action::Job(calls) => add_each(items, calls.as_slice(), at),
         Action::Kill(kills) if kills.is_empty() => items.add_steps(1, column_at(at)),
-        Action::Kill(kills) => add_each(items, kills, at),
+        Action::Kill(kills) => add_each(items, kills.as_slice(), at),
         Action::Lock(locks) if locks.is_empty() => items.add_steps(1, column_at(at)),
-        Action::Lock(locks) => add_each(items, locks, at),
-        Action::Merge(merges) => add_each(items, merges, at),
+        Action::Lock(locks) => add_each(items, locks.as_slice(), at),
+        Action::Merge(merges) => add_each(items, merges.as_slice(), at),
         Action::New(news) if news.is_empty() => items.add_steps(1, column_at(at)),
-        Action::New(news) => add_each(items, news, at),
+        Action::New(news) => add_each(items, news.as_slice(), at),
         Action::Quit(Some(value)) => items.add_used(value, at),
-        Action::Read(reads) => add_each(items, reads, at),
-        Action::Set(sets) => add_each(items, sets, at),
-        Action::Write(writes) => add_each(items, writes, at),
+        Action::Read(reads) => add_each(items, reads.as_slice(), at),
+        Action::Set(sets) => add_each(items, sets.as_slice(), at),
+        Action::Write(writes) => add_each(items, writes.as_slice(), at),
     }
 }
 

@@ -63,15 +63,6 @@ impl<'a> Steps<'a> {
         token
     }
 
-    // Replaces each step from the index `first` on by `step`.
-    fn replace_from(&mut self, first: usize, step: Step<'a>) {
-        let mut at = first;
-        while at < self.steps.len() {
-            self.steps[at] = step;
-            at += 1;
-        }
-    }
-
     // Adds a step.
     fn push(&mut self, part: Part<'a>, token: usize) -> Result<(), AllocError> {
         push_sparing(&mut self.steps, Step { part, token })
@@ -206,22 +197,37 @@ fn add_function<'a>(
     arguments: &'a [Expr],
 ) -> Result<(), AllocError> {
     let token = steps.take_token();
-    let part = Part::Function(function, arguments.len());
+    if takes_name(function) {
+        add_named(steps, function, arguments, token)?;
+    } else {
+        add_arguments(steps, arguments)?;
+    }
+    steps.push(Part::Function(function, arguments.len()), token)
+}
+
+// Adds the steps of a function whose first argument is a name, up to its last one.
+#[cycle(stepping)]
+fn add_named<'a>(
+    steps: &mut Steps<'a>,
+    function: Function,
+    arguments: &'a [Expr],
+    token: usize,
+) -> Result<(), AllocError> {
     match arguments {
-        [Expr::Global(_, _, subscripts), more @ ..] if takes_name(function) => {
+        [Expr::Global(_, _, subscripts), more @ ..] => {
+            let part = Part::Function(function, arguments.len());
             steps.take_token();
             add_subscripts(steps, subscripts)?;
             add_reading(steps, function, part, token)?;
-            add_arguments(steps, more)?;
+            add_arguments(steps, more)
         }
-        [Expr::Local(_, subscripts), more @ ..] if takes_name(function) => {
+        [Expr::Local(_, subscripts), more @ ..] => {
             steps.take_token();
             add_subscripts(steps, subscripts)?;
-            add_arguments(steps, more)?;
+            add_arguments(steps, more)
         }
-        _ => add_arguments(steps, arguments)?,
+        _ => add_arguments(steps, arguments),
     }
-    steps.push(part, token)
 }
 
 // Adds what a function of a global does once the subscripts are known: some drop subscripts, and all but `$NAME` read.
@@ -241,23 +247,32 @@ fn add_reading<'a>(
     }
 }
 
+// Adds the conditions and values of `$SELECT`, each condition with the decision on it.
+#[cycle(stepping)]
+fn add_branches<'a>(steps: &mut Steps<'a>, branches: &'a [(Expr, Expr)]) -> Result<(), AllocError> {
+    for (condition, value) in branches {
+        add_expression(steps, condition)?;
+        steps.push(Part::Constant, 0)?;
+        add_expression(steps, value)?;
+    }
+    Ok(())
+}
+
 // Adds `$SELECT`: which of its conditions and values are computed is not known, so all their steps have its token.
 #[cycle(stepping)]
 fn add_select<'a>(steps: &mut Steps<'a>, branches: &'a [(Expr, Expr)]) -> Result<(), AllocError> {
     let token = steps.take_token();
-    let part = Part::Select(branches);
-    let first = steps.steps.len();
-    steps.push(part, token)?;
-    for (condition, value) in branches {
-        add_expression(steps, condition)?;
-        steps.push(part, token)?;
-        add_expression(steps, value)?;
+    let mut inside = Steps::new(*steps.steps.allocator());
+    add_branches(&mut inside, branches)?;
+    steps.push(Part::Select(branches), token)?;
+    for _ in 0..inside.steps.len() {
+        steps.push(Part::Select(branches), token)?;
     }
-    steps.replace_from(first, Step { part, token });
+    steps.tokens = steps.tokens.saturating_add(inside.tokens);
     Ok(())
 }
 
-/// How many steps `branches` of `$SELECT` are counted as, and how many tokens they have.
+/// How many steps `branches` of `$SELECT` are counted as, with its own, and how many tokens they have, with its own.
 pub(crate) fn size_of_branches(
     alloc: Global,
     branches: &[(Expr, Expr)],
