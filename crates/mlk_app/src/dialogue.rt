@@ -79,10 +79,12 @@ fn ask_events<F: Files>(
     for _ in 0..u64::MAX {
         let prompt = prompt_for(alloc, stage.program, &entered, reply, stage.texts)?;
         shown.extend_from_slice(prompt.as_slice())?;
-        let line = match files.ask(alloc, shown.as_slice()) {
-            Ok(Some(line)) if line.as_slice() != END => line,
-            _ => break,
+        let Ok(Some(line)) = files.ask(alloc, shown.as_slice()) else {
+            break;
         };
+        if line.as_slice() == END {
+            break;
+        }
         let (next, answer) = enter(
             alloc,
             stage.program,
@@ -106,10 +108,10 @@ fn ask_of_routines<F: Files>(
     routines: &[Routine],
     given: &[u8],
 ) -> Result<Vec<u8>, AllocError> {
-    let (Ok(program), Ok(rules)) = (
-        link(alloc, routines),
-        read_rules(alloc, sources.rules.as_slice()),
-    ) else {
+    let Ok(program) = link(alloc, routines) else {
+        return Vec::from_slice(alloc, given);
+    };
+    let Ok(rules) = read_rules(alloc, sources.rules.as_slice()) else {
         return Vec::from_slice(alloc, given);
     };
     let entries = declared(alloc, &program, &rules)?;

@@ -22,20 +22,20 @@ fn last_line(events: &[u8]) -> &[u8] {
     line
 }
 
+// The job of an event.
+fn job_of(event: &EventLine) -> u32 {
+    match event {
+        EventLine::Begin(beginning) => beginning.job,
+        EventLine::Go(job) | EventLine::Run(job) | EventLine::Abort(job) => *job,
+        EventLine::GoValue(job, _) => *job,
+        EventLine::GoTruth(job, _) => *job,
+    }
+}
+
 /// The job of the last event; `None` if there is no event.
 pub(crate) fn last_job(alloc: Global, events: &[u8]) -> Result<Option<u32>, AllocError> {
     match read_line(alloc, last_line(events)) {
-        Ok((EventLine::Begin(beginning), _)) => Ok(Some(beginning.job)),
-        Ok(
-            (
-                EventLine::Go(job)
-                | EventLine::GoValue(job, _)
-                | EventLine::GoTruth(job, _)
-                | EventLine::Run(job)
-                | EventLine::Abort(job),
-                _,
-            ),
-        ) => Ok(Some(job)),
+        Ok((event, _)) => Ok(Some(job_of(&event))),
         Err(Failure::OutOfMemory) => Err(AllocError),
         Err(Failure::Refused(_)) => Ok(None),
     }

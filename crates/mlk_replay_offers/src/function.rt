@@ -105,11 +105,13 @@ pub(crate) fn value_of_function(
     function: Function,
     arguments: &[Value],
 ) -> Result<Option<Value>, AllocError> {
-    match (function, arguments) {
-        (Function::Length, [text]) => length(alloc, text.as_bytes(), None),
-        (Function::Length, [text, part]) => length(alloc, text.as_bytes(), Some(part)),
-        (Function::Piece, _) => piece(alloc, arguments),
-        (Function::Extract, _) => extract(alloc, arguments),
+    match function {
+        Function::Length => match arguments.split_first() {
+            Some((text, more)) => length(alloc, text.as_bytes(), more.first()),
+            None => Ok(None),
+        },
+        Function::Piece => piece(alloc, arguments),
+        Function::Extract => extract(alloc, arguments),
         _ => Ok(None),
     }
 }

@@ -4,6 +4,7 @@ use bstr::ByteSlice;
 use mlk_numbers::{known_truth, whole_number};
 use mlk_text::{Op, Relation, Value};
 use std::alloc::{AllocError, Global};
+use std::cmp::Ordering;
 
 // Whether a relation holds between two texts; `None` if that is not known, as for numbers that are not whole.
 fn holds(relation: Relation, first: &Value, second: &Value) -> Option<bool> {
@@ -13,7 +14,7 @@ fn holds(relation: Relation, first: &Value, second: &Value) -> Option<bool> {
         Relation::Less => Some(whole_number(left)? < whole_number(right)?),
         Relation::Greater => Some(whole_number(left)? > whole_number(right)?),
         Relation::Contains => Some(left.contains_str(right)),
-        Relation::Follows => Some(left > right),
+        Relation::Follows => Some(left.cmp(right) == Ordering::Greater),
         Relation::And => Some(known_truth(first)? && known_truth(second)?),
         Relation::Or => Some(known_truth(first)? || known_truth(second)?),
         Relation::SortsAfter | Relation::Matches => None,
