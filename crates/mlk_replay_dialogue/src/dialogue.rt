@@ -31,7 +31,7 @@ pub enum Reply {
     Ignored,
 }
 
-// The jobs after all lines of `events`; `None` if one of them can't be followed, which is why.
+// `events`, and the jobs after all of their lines; or why one of these can't be followed.
 fn followed<'a>(
     alloc: Global,
     program: &'a Program<'a>,
@@ -72,7 +72,7 @@ fn length_before_last(events: &[u8]) -> usize {
     }
 }
 
-// `entered` and what comes of one event more, which is `events` with the line that was entered last.
+// What comes of other events: they and `reply`, or `entered` and why they can't be followed.
 fn changed<'a>(
     alloc: Global,
     program: &'a Program<'a>,
@@ -107,7 +107,8 @@ pub fn enter<'a>(
     }
     let mut events = Vec::from_slice(alloc, entered.events.as_slice())?;
     if line == b"undo".as_slice() {
-        events.truncate(length_before_last(events.as_slice()));
+        let kept = length_before_last(events.as_slice());
+        events.truncate(kept);
         return changed(alloc, program, entries, entered, events, Reply::Undone);
     }
     let Some(whole) = whole_line(alloc, program, &entered, line)? else {

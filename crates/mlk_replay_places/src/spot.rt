@@ -12,8 +12,8 @@ use mlk_syntax::{Expr, For};
 use mlk_text::{Column, push_sparing};
 use std::alloc::{AllocError, Global};
 
-/// A column of a line, and what is computed there; `None` for what is no part of an expression, or where several parts may be
-/// meant.
+/// A column of a line, and what is computed there; `None` for what is no operator, function or global, or where several parts may
+/// be meant.
 #[derive(Clone, Copy, Drop)]
 pub struct Spot<'a> {
     pub column: Column,
@@ -160,11 +160,24 @@ fn innermost<'a>(
     Ok(Some(found))
 }
 
-// Whether a job that is at `part` does `item` next.
+// Whether a job that does `task` next computes `part`.
+fn is_computed_by(part: Part<'_>, task: &ValueTask<'_>) -> bool {
+    match (part, task) {
+        (Part::Operator(op), ValueTask::ApplyBinary(found)) => op == *found,
+        (Part::Prefix(op), ValueTask::ApplyUnary(found)) => op == *found,
+        (Part::Function(_, count), ValueTask::AskValue(found)) => count == *found,
+        (Part::Match(_, _), ValueTask::AskValue(found)) => *found == 1,
+        (Part::Select(_), ValueTask::Select(_)) => true,
+        (Part::Global, ValueTask::DoTouch(_)) => true,
+        _ => false,
+    }
+}
+
+// Whether a job that has `item` next computes `part`.
 fn fits(part: Part<'_>, item: &Pending<'_>) -> bool {
-    match part {
-        Part::Select(_) => matches!(item, Pending::Task(Task::Value(ValueTask::Select(_)))),
-        _ => true,
+    match item {
+        Pending::Task(Task::Value(task)) => is_computed_by(part, task),
+        _ => false,
     }
 }
 

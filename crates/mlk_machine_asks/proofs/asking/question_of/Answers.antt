@@ -6,4 +6,4 @@ use Rattle.mlk_machine_asks.proofs.asking.question_of.Goals as goal
 
 pub returns : goal.returns
 returns c = asked_so (map routine_of c.args.program.now) (job_of c.args.job.now) _ _ _
-    c.next_asked.ensures c.state.ensures c.asked_if.ensures
+    c.next_asked-asked.ensures c.state.ensures c.asked_if.ensures
