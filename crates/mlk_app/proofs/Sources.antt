@@ -1,6 +1,6 @@
 -- Reading files in the order of their paths.
 use Rattle.std.proofs.Common.{◌≡◌, ℕ, Bool, true, false, ◌<◌, ◌≤◌, ◌+◌, ◌++◌, List, [], ◌∷◌, length, take, drop, slice_index_or, sym, ap, ◌∙◌, subst, Bor, take-append-drop, append_assoc, append-nil}
-use Rattle.std.specs.Prelude.{if◌then◌else◌, Vec}
+use Rattle.std.specs.Prelude.{Vec}
 use Rattle.std.specs.Global.{Global}
 use Rattle.std.proofs.lemmas.List.{drop_all, drop_more, take_more, map-append}
 use Rattle.mlk_app.specs.declared.source.FileError.{FileError}
@@ -12,7 +12,7 @@ use Rattle.mlk_app.specs.declared.source.Work.TheVariants as work
 use Rattle.mlk_cli.specs.declared.words.Asked.{Asked}
 use Rattle.mlk_cli.specs.declared.words.Asked.TheVariants as asked
 use Rattle.mlk_cli.specs.declared.words.ProgramRequest.{ProgramRequest}
-use Rattle.mlk_app.specs.Files.{Texts, IsSource, AreSources, AreTexts, AreHeld, AreEvents, IsWork, Loses, LosesFirst, work_path, written_path}
+use Rattle.mlk_app.specs.Files.{Texts, IsSource, AreSources, AreTexts, AreHeld, AreEvents, IsWork, Loses, LosesFirst, events_path, new_path, work_path, written_path}
 use Rattle.mlk_cli.specs.CommandLine.{bytes_of}
 
 -- what stands before a path, the path, and what stands after it
@@ -84,12 +84,21 @@ loses-within holds unreadable paths more (error.Unread path) lost = record {
 
 -- what is lost after the events were had, or if they are asked for
 loses-past-events : (holds : Texts) (unreadable : List ℕ → Type 0) (interactive : Bool) (path text : List ℕ) (paths : List (List ℕ)) (e : FileError) → AreEvents interactive (holds path text) → LosesFirst holds unreadable paths e
-    → LosesFirst holds unreadable ((if interactive then [] else path ∷ []) ++ paths) e
+    → LosesFirst holds unreadable (events_path interactive path ++ paths) e
 loses-past-events holds unreadable true path text paths e held lost = lost
 loses-past-events holds unreadable false path text paths e held lost = loses-after holds unreadable path text paths e held lost
 
+-- what is lost of events alone
+pub events_lost : (holds : Texts) (unreadable : List ℕ → Type 0) (interactive : Bool) (path : List ℕ) (e : FileError) → interactive ≡ false → Loses unreadable path e → LosesFirst holds unreadable (events_path interactive path) e
+events_lost holds unreadable true path e not lost = cc
+events_lost holds unreadable false path e not lost = loses-front holds unreadable path [] e lost
+
+pub no_events_lost : (holds : Texts) (unreadable : List ℕ → Type 0) (paths : List (List ℕ)) (e : FileError) → e ≡ error.OutOfMemory → LosesFirst holds unreadable paths e
+no_events_lost holds unreadable paths error.OutOfMemory is = record {}
+no_events_lost holds unreadable paths (error.Unread path) is = cc
+
 -- events that are asked for may be any
-any-events : (interactive : Bool) (read : Type 0) (path other : List ℕ) → (if interactive then path ∷ [] else []) ≡ other ∷ [] → AreEvents interactive read
+any-events : (interactive : Bool) (read : Type 0) (path other : List ℕ) → new_path interactive path ≡ other ∷ [] → AreEvents interactive read
 any-events true read path other named = record {}
 any-events false read path other named = cc
 

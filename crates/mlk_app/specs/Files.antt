@@ -1,6 +1,6 @@
 -- The texts that a command reads: those of the files that it names, and a routine's name from its file's. This
 -- project's own choice.
-use Rattle.std.specs.Prelude.{Bool, true, false, if◌then◌else◌, Option, None, Some, option_map, map, String, string_bytes, Vec, ℕ, ◌≡◌, ◌<◌, ◌⊎◌, List, [], ◌∷◌, ◌++◌, length, slice_index}
+use Rattle.std.specs.Prelude.{Bool, true, false, Option, None, Some, option_map, map, String, string_bytes, Vec, ℕ, ◌≡◌, ◌<◌, ◌⊎◌, List, [], ◌∷◌, ◌++◌, length, slice_index}
 use Rattle.std.specs.Borrow.{Bor}
 use Rattle.std.specs.Global.{Global}
 use Rattle.mlk_app.specs.declared.source.FileError.{FileError}
@@ -100,18 +100,27 @@ pub record AreTexts (holds : Texts) (program : ProgramRequest) (sources : Source
   pub routines : AreSources holds program.routines.items sources.routines.items
   pub baseline : IsGivenText holds program.baseline sources.baseline
 
+-- the path of events that are read: none if a person is asked for them
+abbrev pub events_path : Bool → List ℕ → List (List ℕ)
+events_path true path = []
+events_path false path = path ∷ []
+
 abbrev pub work_path : Asked → List (List ℕ)
 work_path (asked.Check path workers style) = path.now ∷ []
 work_path (asked.Make format) = []
 work_path (asked.Verify workers style) = []
-work_path (asked.Replay path style) = if style.is_interactive then [] else path.now ∷ []
+work_path (asked.Replay path style) = events_path style.is_interactive path.now
 
 -- the path of the events that are asked for and written
+abbrev pub new_path : Bool → List ℕ → List (List ℕ)
+new_path true path = path ∷ []
+new_path false path = []
+
 abbrev pub written_path : Asked → List (List ℕ)
 written_path (asked.Check path workers style) = []
 written_path (asked.Make format) = []
 written_path (asked.Verify workers style) = []
-written_path (asked.Replay path style) = if style.is_interactive then path.now ∷ [] else []
+written_path (asked.Replay path style) = new_path style.is_interactive path.now
 
 -- the paths that a command names, in the order of its words, and that of the known faults last
 abbrev pub program_paths : ProgramRequest → List (List ℕ)

@@ -2,7 +2,7 @@
 
 ghost use Rattle.std.specs.Prelude.{◌≡◌, ◌≢◌, List, ℕ, IfOk, IfErr, length};
 ghost use Rattle.std.specs.IoError.{error_kind};
-ghost use Rattle.mlk_app.specs.Files.{IsFileName, IsNameStem, IsPathStem, IsSource, AreSources, IsWork, AreTexts, cert_format, work_path, program_paths, Loses, LosesFirst};
+ghost use Rattle.mlk_app.specs.Files.{IsFileName, IsNameStem, IsPathStem, IsSource, AreSources, IsWork, AreTexts, cert_format, AreEvents, events_path, work_path, program_paths, Loses, LosesFirst};
 ghost use Rattle.mlk_app.specs.declared.source.FileError.TheVariants as error;
 ghost use Rattle.mlk_cli.specs.CommandLine.{bytes_of};
 
@@ -186,6 +186,23 @@ fn read_begun<'a, F: Files>(
     }
 }
 
+// The events at a path; if a person is asked for them, those that were entered before.
+#[tactic(auto, using(crate::proofs::Sources::events_lost, crate::proofs::Sources::no_events_lost))]
+fn read_events<'a, F: Files>(
+    alloc: Global,
+    files: &F,
+    path: &'a str,
+    is_interactive: bool,
+) -> Result<Vec<u8>, FileError<'a>>
+    ensures ok { IfOk result (λ text. AreEvents is_interactive (F.holds files.now path.now text.items)) }
+    ensures lost { IfErr result (LosesFirst (F.holds files.now) (F.unreadable files.now) (events_path is_interactive path.now)) }
+{
+    if is_interactive {
+        return read_begun(alloc, files, path);
+    }
+    read_file(alloc, files, path)
+}
+
 // The text of the certificate, or of the events, where one is named, and the number of workers or the format.
 fn read_work<'a, F: Files>(
     alloc: Global,
@@ -208,10 +225,12 @@ fn read_work<'a, F: Files>(
             format: cert_format(*format),
         }),
         Asked::Verify { workers, .. } => Ok(Work::Verify { workers: *workers }),
-        Asked::Replay { events, style } if style.is_interactive => {
-            Ok(Work::Replay(read_begun(alloc, files, *events)?))
-        }
-        Asked::Replay { events, .. } => Ok(Work::Replay(read_file(alloc, files, *events)?)),
+        Asked::Replay { events, style } => Ok(Work::Replay(read_events(
+            alloc,
+            files,
+            *events,
+            style.is_interactive,
+        )?)),
     }
 }
 
