@@ -4,7 +4,8 @@ ghost use Rattle.std.specs.Prelude.{◌≡◌, ◌≢◌, IfOk};
 ghost use Rattle.std.specs.IoError.{error_kind};
 ghost use Rattle.mlk_cli.specs.declared.words.Request.TheVariants as wanted;
 ghost use Rattle.mlk_app.specs.Ran.{style_in, IsErrorLine, IsRefusalLine, PrintsSurvey, TellsRefusal, TellsFault, TellsBaseline, TellsUnread, TellsUnfound, TellsPage, Answers, AnswersFound, AnswersLine, AnswersWords, Ran};
-ghost use Rattle.mlk_app.specs.Files.{AreTexts, LosesPath};
+ghost use Rattle.mlk_app.specs.Files.{AreTexts, LosesPath, given_path, written_path};
+ghost use Rattle.mlk_app.specs.declared.source.Work.TheVariants as work;
 ghost use Rattle.mlk_app.specs.Printing.{IsReportAnswer};
 ghost use Rattle.mlk_cli.specs.CommandLine.{bytes_of};
 ghost use Rattle.mlk_forms.specs.Rendering.{IsNoticed};
@@ -13,6 +14,7 @@ ghost use Rattle.mlk_outcome.specs.Refusals.{IsOfOpenGate, IsNotShut};
 use crate::answer::{Answer, REFUSED, YES, print_answer, write_error, write_memory_error};
 use crate::baseline::known_faults;
 use crate::dialect::read_in;
+use crate::dialogue::asked_events;
 use crate::help::{Explaining, certificate_help, is_refusal_explained, refusal_help, why_unread};
 use crate::notice::notice_of;
 use crate::printed::{
@@ -22,7 +24,7 @@ use crate::printed::{
 use crate::refused::{refused_file, rule_file, spot_in};
 use crate::routines::{all_paths, find_routines, found_paths, list_of, with_routines};
 use crate::source::{
-    FileError, Files, Sources, cert_format, read_file, read_files, read_given, read_sources,
+    FileError, Files, Sources, Work, cert_format, read_file, read_files, read_given, read_sources,
 };
 use crate::stubs::answer_stubs;
 use crate::stuck::render_refusal;
@@ -31,7 +33,7 @@ use crate::work::{Printed, print_sources, style_in};
 use mlk_baseline::BaselineFault;
 use mlk_cert::CertFault;
 use mlk_cli::{
-    Format, Invocation, ProgramRequest, Request, SurveyRequest, UsageError, read_request,
+    Asked, Format, Invocation, ProgramRequest, Request, SurveyRequest, UsageError, read_request,
 };
 use mlk_forms::{render_pages, render_survey};
 use mlk_outcome::{NoReport, convert};
@@ -257,6 +259,54 @@ fn answer_sources<R: Threads + Wait + Sync, F: Files, W: Watch>(
     }
 }
 
+// The path of the events that are asked for and written; `None` if they are only read.
+fn written_events<'a>(program: &ProgramRequest<'a>) -> Option<&'a str>
+    ensures { given_path result ≡ written_path program.now.asked }
+{
+    match &program.asked {
+        Asked::Replay { events, style } if style.is_interactive => Some(*events),
+        _ => None,
+    }
+}
+
+// The texts of the files of a program with these events, which are asked for.
+fn with_events<'a>(sources: Sources<'a>, events: Vec<u8>) -> Sources<'a>
+    ensures { result ≡ record sources.entry { work = work.Replay events.entry } }
+{
+    Sources {
+        work: Work::Replay(events),
+        ..sources
+    }
+}
+
+// What is answered where a person is asked for the events, which are then written at `path`.
+#[tactic(auto, using(crate::proofs::Saying::unwritten_answers, crate::proofs::Sources::asked_texts))]
+fn answer_dialogue<'a, R: Threads + Wait + Sync, F: Files, W: Watch>(
+    runner: &Runner<'_, R, W>,
+    program: &ProgramRequest<'a>,
+    sources: Sources<'a>,
+    path: &str,
+    files: &F,
+    explaining: Explaining,
+) -> Answer
+    requires texts { AreTexts (F.holds files.now) program.now sources.entry }
+    requires written { written_path program.now.asked ≡ path.now ∷ [] }
+    ensures { Answers (F.holds files.now) (F.unreadable files.now) (wanted.Program program.now) result }
+{
+    let alloc = runner.alloc;
+    let Work::Replay(given) = &sources.work else {
+        return answer_sources(runner, program, &sources, files, explaining);
+    };
+    let Ok(events) = asked_events(runner, files, program, &sources, given.as_slice()) else {
+        return Answer::OutOfMemory;
+    };
+    if files.write(path, events.as_slice()).is_err() {
+        return unwritten_answer(alloc, path);
+    }
+    let sources = with_events(sources, events);
+    answer_sources(runner, program, &sources, files, explaining)
+}
+
 // What is answered to a request for a program, from the texts of its files.
 fn answer_program<R: Threads + Wait + Sync, F: Files, W: Watch>(
     runner: &Runner<'_, R, W>,
@@ -268,7 +318,10 @@ fn answer_program<R: Threads + Wait + Sync, F: Files, W: Watch>(
 {
     let alloc = runner.alloc;
     match read_files(alloc, files, program) {
-        Ok(sources) => answer_sources(runner, program, &sources, files, explaining),
+        Ok(sources) => match written_events(program) {
+            Some(path) => answer_dialogue(runner, program, sources, path, files, explaining),
+            None => answer_sources(runner, program, &sources, files, explaining),
+        },
         Err(FileError::OutOfMemory) => Answer::OutOfMemory,
         Err(FileError::Unread(path)) => {
             let is_explained = is_refusal_explained(program, explaining);

@@ -2,8 +2,9 @@
 
 ghost use Rattle.std.specs.Prelude.{◌≡◌, ◌≢◌, List, ℕ, Option, IfOk, IfErr, length};
 ghost use Rattle.std.specs.IoError.{error_kind};
-ghost use Rattle.mlk_app.specs.Files.{IsFileName, IsNameStem, IsPathStem, IsSource, AreSources, IsWork, IsGivenText, AreTexts, cert_format, given_path, work_path, program_paths, texts_below, Loses, LosesFirst};
+ghost use Rattle.mlk_app.specs.Files.{IsFileName, IsNameStem, IsPathStem, IsSource, AreSources, IsWork, IsGivenText, AreTexts, cert_format, given_path, work_path, program_paths, texts_below, Loses, LosesFirst, AreEvents, events_path};
 ghost use Rattle.mlk_app.specs.Dialects.{as_read, rests_of};
+ghost use Rattle.mlk_app.specs.declared.source.FileError.TheVariants as error;
 ghost use Rattle.mlk_cli.specs.CommandLine.{bytes_of};
 
 use crate::dialect::{PlainSources, plain_in};
@@ -40,6 +41,10 @@ pub trait Files {
 
     /// Writes a file at a path. Nothing says what it holds then.
     fn write(&self, path: &str, text: &[u8]) -> io::Result<()>;
+
+    /// Shows a text to a person, and returns the line that is entered, without its end; `None` at the end of the input. Nothing
+    /// says which line it is.
+    fn ask(&self, alloc: Global, shown: &[u8]) -> io::Result<Option<Vec<u8>>>;
 }
 
 /// What is to be done with a program, with the texts that it takes.
@@ -195,6 +200,43 @@ pub(crate) fn cert_format(format: Format) -> CertFormat
     }
 }
 
+// The events at a path that were entered before; none if there is no such file.
+fn read_begun<'a, F: Files>(
+    alloc: Global,
+    files: &F,
+    path: &'a str,
+) -> Result<Vec<u8>, FileError<'a>>
+    ensures { IfErr result (λ e. e ≡ error.OutOfMemory) }
+{
+    match files.read(alloc, path) {
+        Ok(text) => Ok(text),
+        Err(error) => {
+            if error.kind() == ErrorKind::OutOfMemory {
+                Err(FileError::OutOfMemory)
+            } else {
+                Ok(Vec::new(alloc))
+            }
+        }
+    }
+}
+
+// The events at a path; if a person is asked for them, those that were entered before.
+#[tactic(auto, using(crate::proofs::Sources::events_lost, crate::proofs::Sources::no_events_lost))]
+fn read_events<'a, F: Files>(
+    alloc: Global,
+    files: &F,
+    path: &'a str,
+    is_interactive: bool,
+) -> Result<Vec<u8>, FileError<'a>>
+    ensures ok { IfOk result (λ text. AreEvents is_interactive (F.holds files.now path.now text.items)) }
+    ensures lost { IfErr result (LosesFirst (F.holds files.now) (F.unreadable files.now) (events_path is_interactive path.now)) }
+{
+    if is_interactive {
+        return read_begun(alloc, files, path);
+    }
+    read_file(alloc, files, path)
+}
+
 // The text of the certificate, or of the events, where one is named, and the number of workers or the format.
 fn read_work<'a, F: Files>(
     alloc: Global,
@@ -217,7 +259,12 @@ fn read_work<'a, F: Files>(
             format: cert_format(*format),
         }),
         Asked::Verify { workers, .. } => Ok(Work::Verify { workers: *workers }),
-        Asked::Replay(path) => Ok(Work::Replay(read_file(alloc, files, *path)?)),
+        Asked::Replay { events, style } => Ok(Work::Replay(read_events(
+            alloc,
+            files,
+            *events,
+            style.is_interactive,
+        )?)),
     }
 }
 

@@ -6,10 +6,10 @@ mod progress;
 
 use crate::folder::{is_folder, routines_below};
 use crate::progress::Progress;
-use mlk_app::{Explaining, Files, Runner, read_whole, run, wrong_words};
+use mlk_app::{Explaining, Files, Runner, read_line, read_whole, run, wrong_words};
 use std::alloc::Global;
 use std::fs::{self, File};
-use std::io::{self, IsTerminal};
+use std::io::{self, IsTerminal, Write};
 use std::process::ExitCode;
 
 // The files of the system.
@@ -32,6 +32,11 @@ impl Files for Disk<'_> {
 
     fn write(&self, path: &str, text: &[u8]) -> io::Result<()> {
         fs::write(self.rt, path, text)
+    }
+
+    fn ask(&self, alloc: Global, shown: &[u8]) -> io::Result<Option<Vec<u8>>> {
+        self.rt.stderr().write_all(shown)?;
+        read_line(alloc, &mut self.rt.stdin())
     }
 }
 

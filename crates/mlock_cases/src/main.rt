@@ -1,10 +1,12 @@
 //! Runs command lines of `mlock` over files given beside them in one text, and prints what each answers.
 //!
 //! The text comes on standard input, as `mlk_case_text` reads it. For each command line its words are printed and what it shows,
-//! then what it prints, then what it writes to the error stream, then the files that it writes, each after `-- ` and its path, then
+//! then what it prints, then what it writes to the error stream, then what it shows before it reads a line of the file `stdin`, with
+//! that line, and the files that it writes, each after `-- ` and its path, then
 //! `= ` and its status. A path that ends with a slash is that of a folder.
 #![tactic(auto)]
 
+use bstr::ByteSlice;
 use mlk_app::{Explaining, Files, Runner, Unwatched, run};
 use mlk_case_text::{Case, cases_of};
 use std::alloc::{AllocError, Global};
@@ -18,6 +20,19 @@ use std::thread::Threads;
 struct CaseFiles<'a> {
     case: &'a Case<'a>,
     written: RefCell<Vec<u8>>,
+    // how many lines of the file `stdin` were entered
+    asked: RefCell<usize>,
+}
+
+// The line number `count`, from 0, of the file `stdin`, which a person enters; `None` after the last one.
+fn nth_line(alloc: Global, case: &Case<'_>, count: usize) -> io::Result<Option<Vec<u8>>> {
+    let Ok(text) = case.read(alloc, "stdin") else {
+        return Ok(None);
+    };
+    match text.as_slice().lines().nth(count) {
+        Some(line) => Ok(Some(Vec::from_slice(alloc, line)?)),
+        None => Ok(None),
+    }
 }
 
 // Adds the paths of the routines below a folder.
@@ -58,6 +73,19 @@ impl Files for CaseFiles<'_> {
         written.extend_from_slice(text)?;
         Ok(())
     }
+
+    fn ask(&self, alloc: Global, shown: &[u8]) -> io::Result<Option<Vec<u8>>> {
+        let mut written = self.written.try_borrow_mut()?;
+        written.extend_from_slice(shown)?;
+        let mut asked = self.asked.try_borrow_mut()?;
+        let line = nth_line(alloc, self.case, *asked)?;
+        *asked = asked.saturating_add(1);
+        if let Some(line) = &line {
+            written.extend_from_slice(line.as_slice())?;
+        }
+        written.push(b'\n')?;
+        Ok(line)
+    }
 }
 
 // Adds what a command line answers.
@@ -73,6 +101,7 @@ fn push_answer<R: Threads + Wait + Sync>(
     let files = CaseFiles {
         case,
         written: RefCell::new(Vec::new(alloc)),
+        asked: RefCell::new(0),
     };
     let runner = Runner {
         rt,

@@ -2,6 +2,7 @@ use Rattle.std.proofs.Common.{map, refl, subst, sym, ◌∙◌}
 use Rattle.mlk_syntax.specs.Views.{routine_of}
 use Rattle.mlk_pool.proofs.PassedOn.{passed-on}
 use Rattle.mlk_outcome.specs.Replaying.{IsReplayed, IsUnreplayed}
+use Rattle.mlk_app.specs.Ran.{style_in}
 use Rattle.mlk_app.proofs.work.print_jobs.Goals as goal
 
 pub returns-in_err-text-clause-refused : goal.returns-in_err-text-clause-refused
@@ -11,4 +12,4 @@ returns-in_err-text-clause-refused c =
 
 pub returns-clause-ok : goal.returns-clause-ok
 returns-clause-ok c =
-    (subst (IsReplayed (map routine_of c.args.subject.now.program.now) c.args.subject.now.rules.now c.args.events.now) (sym (c.of.ensures ∙ c.into_bytes.ensures)) c.in_ok-text.ensures.ok, refl)
+    (subst (IsReplayed (style_in c.args.subject.now.request.now.asked).is_explained (map routine_of c.args.subject.now.program.now) c.args.subject.now.rules.now c.args.events.now) (sym c.of.ensures) c.in_ok-text.ensures.ok, refl)

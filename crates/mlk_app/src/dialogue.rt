@@ -1,0 +1,142 @@
+// Events that a person enters.
+
+ghost use Rattle.std.specs.Prelude.{IfOk};
+ghost use Rattle.mlk_replay_dialogue.specs.Entering.{AreReplayed};
+
+use crate::source::{Files, Sources};
+use crate::work::routine_texts_of;
+use bstr::ByteSlice;
+use mlk_cli::ProgramRequest;
+use mlk_pool::read_routines;
+use mlk_program::{EntryId, Program, link};
+use mlk_replay_dialogue::{Entered, Reply, enter, prompt_for, start};
+use mlk_replay_text::RoutineText;
+use mlk_rules::{Rules, entries};
+use mlk_rules_file::read_rules;
+use mlk_syntax::Routine;
+use mlk_watch::{Runner, Watch};
+use std::alloc::{AllocError, Global};
+use std::sync::Wait;
+use std::thread::Threads;
+
+// What is shown at the begin of a dialogue.
+const WELCOME: &[u8] =
+    b"Enter an event on each line: begin JOB ENTRY TEST VALUE.., go, run, abort; or only the value, yes or no that is asked\nfor. An empty line enters the event in brackets, `undo` removes the last one, `end` writes the file.\n";
+
+// What ends a dialogue.
+const END: &[u8] = b"end";
+
+// The entries that the rules declare, as far as the program has them.
+fn declared(
+    alloc: Global,
+    program: &Program<'_>,
+    rules: &Rules,
+) -> Result<Vec<EntryId>, AllocError> {
+    let mut found = Vec::new(alloc);
+    for text in entries(rules) {
+        if let Some(entry) = program.entry(text.as_bytes()) {
+            found.push(entry)?;
+        }
+    }
+    Ok(found)
+}
+
+// A dialogue: the program, the entries at which jobs begin, and the texts of the routines.
+#[derive(Drop)]
+struct Stage<'a> {
+    program: &'a Program<'a>,
+    entries: &'a [EntryId],
+    texts: &'a [RoutineText<'a>],
+}
+
+// The events of `given`, as far as they can be followed, and what came of the last of its lines.
+fn entered_before<'a>(
+    alloc: Global,
+    stage: &Stage<'a>,
+    given: &[u8],
+) -> Result<(Entered<'a>, Reply), AllocError>
+    ensures { IfOk result (λ e. AreReplayed stage.now.program.now stage.now.entries.now e.0) }
+{
+    let mut entered = start(alloc, stage.program, stage.entries)?;
+    let mut reply = Reply::Taken;
+    for line in given.lines() {
+        let (next, answer) = enter(alloc, stage.program, stage.entries, entered, line)?;
+        entered = next;
+        reply = answer;
+    }
+    Ok((entered, reply))
+}
+
+// Asks for events after those of `given`, until the input ends.
+fn ask_events<F: Files>(
+    alloc: Global,
+    files: &F,
+    stage: &Stage<'_>,
+    given: &[u8],
+) -> Result<Vec<u8>, AllocError> {
+    let (mut entered, mut reply) = entered_before(alloc, stage, given)?;
+    let mut shown = Vec::from_slice(alloc, WELCOME)?;
+    for _ in 0..u64::MAX {
+        let prompt = prompt_for(alloc, stage.program, &entered, reply, stage.texts)?;
+        shown.extend_from_slice(prompt.as_slice())?;
+        let Ok(Some(line)) = files.ask(alloc, shown.as_slice()) else {
+            break;
+        };
+        if line.as_slice() == END {
+            break;
+        }
+        let (next, answer) = enter(
+            alloc,
+            stage.program,
+            stage.entries,
+            entered,
+            line.as_slice(),
+        )?;
+        entered = next;
+        reply = answer;
+        shown = Vec::new(alloc);
+    }
+    Ok(entered.events)
+}
+
+// Asks for events of these routines, if they can be linked and their rules be read; otherwise `given` is returned.
+fn ask_of_routines<F: Files>(
+    alloc: Global,
+    files: &F,
+    request: &ProgramRequest<'_>,
+    sources: &Sources<'_>,
+    routines: &[Routine],
+    given: &[u8],
+) -> Result<Vec<u8>, AllocError> {
+    let Ok(program) = link(alloc, routines) else {
+        return Vec::from_slice(alloc, given);
+    };
+    let Ok(rules) = read_rules(alloc, sources.rules.as_slice()) else {
+        return Vec::from_slice(alloc, given);
+    };
+    let entries = declared(alloc, &program, &rules)?;
+    let texts = routine_texts_of(alloc, request, sources)?;
+    let stage = Stage {
+        program: &program,
+        entries: entries.as_slice(),
+        texts: texts.as_slice(),
+    };
+    ask_events(alloc, files, &stage, given)
+}
+
+/// Asks a person for events after those of `given`, and returns all of them. Nothing is asked if the routines or the rules are
+/// refused.
+pub(crate) fn asked_events<R: Threads + Wait + Sync, F: Files, W: Watch>(
+    runner: &Runner<'_, R, W>,
+    files: &F,
+    request: &ProgramRequest<'_>,
+    sources: &Sources<'_>,
+    given: &[u8],
+) -> Result<Vec<u8>, AllocError> {
+    let alloc = runner.alloc;
+    let Ok(routines) = read_routines(runner, sources.routines.as_slice()) else {
+        return Vec::from_slice(alloc, given);
+    };
+    runner.watch.end();
+    ask_of_routines(alloc, files, request, sources, routines.as_slice(), given)
+}

@@ -1,0 +1,120 @@
+// Events that are entered one after another.
+
+ghost use Rattle.std.specs.Prelude.{IfOk};
+ghost use Rattle.mlk_replay_dialogue.specs.Entering.{AreReplayed};
+
+use crate::line::whole_line;
+use mlk_machine::{EventsRefusal, System, replay_events};
+use mlk_program::{EntryId, Program};
+use mlk_text::Failure;
+use std::alloc::{AllocError, Global};
+
+/// The events that were entered, as a file has them, and the jobs after them.
+#[derive(Drop)]
+pub struct Entered<'a> {
+    pub events: Vec<u8>,
+    pub system: System<'a>,
+}
+
+/// What a line does that a person enters.
+#[derive(Clone, Copy, Debug, Drop, PartialEq, Eq)]
+pub enum Reply {
+    /// it is one event more
+    Taken,
+    /// it removes the last event
+    Undone,
+    /// it can't be followed
+    Refused(EventsRefusal),
+    /// it asks for what is offered, and nothing is
+    NothingOffered,
+    /// it is blank or a comment
+    Ignored,
+}
+
+// `events`, and the jobs after all of their lines; or why one of these can't be followed.
+fn followed<'a>(
+    alloc: Global,
+    program: &'a Program<'a>,
+    entries: &'a [EntryId],
+    events: Vec<u8>,
+) -> Result<Result<Entered<'a>, EventsRefusal>, AllocError>
+    ensures { IfOk result (λ answer. IfOk answer (AreReplayed program.now entries.now)) }
+{
+    match replay_events(alloc, program, entries, events.as_slice()) {
+        Ok(system) => Ok(Ok(Entered { events, system })),
+        Err(Failure::OutOfMemory) => Err(AllocError),
+        Err(Failure::Refused(fault)) => Ok(Err(fault.why)),
+    }
+}
+
+/// No events. Jobs begin at `entries`.
+pub fn start<'a>(
+    alloc: Global,
+    program: &'a Program<'a>,
+    entries: &'a [EntryId],
+) -> Result<Entered<'a>, AllocError>
+    ensures { IfOk result (AreReplayed program.now entries.now) }
+{
+    match followed(alloc, program, entries, Vec::new(alloc))? {
+        Ok(entered) => Ok(entered),
+        Err(_) => Err(AllocError),
+    }
+}
+
+// The number of bytes of `events` without its last line.
+fn length_before_last(events: &[u8]) -> usize {
+    let Some((_, front)) = events.split_last() else {
+        return 0;
+    };
+    match front.iter().rposition(|byte| *byte == b'\n') {
+        Some(place) => place.saturating_add(1),
+        None => 0,
+    }
+}
+
+// What comes of other events: they and `reply`, or `entered` and why they can't be followed.
+fn changed<'a>(
+    alloc: Global,
+    program: &'a Program<'a>,
+    entries: &'a [EntryId],
+    entered: Entered<'a>,
+    events: Vec<u8>,
+    reply: Reply,
+) -> Result<(Entered<'a>, Reply), AllocError>
+    requires { AreReplayed program.now entries.now entered.entry }
+    ensures { IfOk result (λ next. AreReplayed program.now entries.now next.0) }
+{
+    match followed(alloc, program, entries, events)? {
+        Ok(next) => Ok((next, reply)),
+        Err(why) => Ok((entered, Reply::Refused(why))),
+    }
+}
+
+/// What comes of `line`: an event, a choice of the job that went last, nothing for the event that is offered, or `undo`. The jobs
+/// are always those after the events.
+pub fn enter<'a>(
+    alloc: Global,
+    program: &'a Program<'a>,
+    entries: &'a [EntryId],
+    entered: Entered<'a>,
+    line: &[u8],
+) -> Result<(Entered<'a>, Reply), AllocError>
+    requires { AreReplayed program.now entries.now entered.entry }
+    ensures { IfOk result (λ next. AreReplayed program.now entries.now next.0) }
+{
+    if line.starts_with(b"#") {
+        return Ok((entered, Reply::Ignored));
+    }
+    let mut events = Vec::from_slice(alloc, entered.events.as_slice())?;
+    if line == b"undo".as_slice() {
+        let kept = length_before_last(events.as_slice());
+        events.truncate(kept);
+        return changed(alloc, program, entries, entered, events, Reply::Undone);
+    }
+    let Some(whole) = whole_line(alloc, program, &entered, line)? else {
+        return Ok((entered, Reply::NothingOffered));
+    };
+    events.extend_from_slice(whole.as_slice())?;
+    events.push(b'\n')?;
+    changed(alloc, program, entries, entered, events, Reply::Taken)
+}

@@ -1,0 +1,79 @@
+// What a person enters in short, as a line of a file of events.
+
+use crate::dialogue::Entered;
+use crate::offer::offered_line;
+use mlk_machine::{EventLine, read_line};
+use mlk_program::Program;
+use mlk_report_text::Piece::{Bytes, Number, Words};
+use mlk_report_text::push_all;
+use mlk_text::Failure;
+use std::alloc::{AllocError, Global};
+
+// The last line of `events`, with its end.
+fn last_line(events: &[u8]) -> &[u8] {
+    let Some((_, front)) = events.split_last() else {
+        return &[];
+    };
+    let start = match front.iter().rposition(|byte| *byte == b'\n') {
+        Some(place) => place.saturating_add(1),
+        None => 0,
+    };
+    let (_, line) = events.split_at(start.min(events.len()));
+    line
+}
+
+// The job of an event.
+fn job_of(event: &EventLine) -> u32 {
+    match event {
+        EventLine::Begin(beginning) => beginning.job,
+        EventLine::Go(job) | EventLine::Run(job) | EventLine::Abort(job) => *job,
+        EventLine::GoValue(job, _) => *job,
+        EventLine::GoTruth(job, _) => *job,
+    }
+}
+
+/// The job of the last event; `None` if there is no event.
+pub(crate) fn last_job(alloc: Global, events: &[u8]) -> Result<Option<u32>, AllocError> {
+    match read_line(alloc, last_line(events)) {
+        Ok((event, _)) => Ok(Some(job_of(&event))),
+        Err(Failure::OutOfMemory) => Err(AllocError),
+        Err(Failure::Refused(_)) => Ok(None),
+    }
+}
+
+// Whether `line` is only what a job chooses.
+fn is_choice(line: &[u8]) -> bool {
+    line == b"yes".as_slice() || line == b"no".as_slice() || line.starts_with(b"\"")
+}
+
+// Whether `line` is the word of an event without its job.
+fn is_word(line: &[u8]) -> bool {
+    line == b"go".as_slice() || line == b"run".as_slice() || line == b"abort".as_slice()
+}
+
+/// The line of a file of events that `line` stands for: what is offered if it is empty, else what it says of the job that went
+/// last, or the line itself; `None` if it is empty and nothing is offered.
+pub(crate) fn whole_line(
+    alloc: Global,
+    program: &Program<'_>,
+    entered: &Entered<'_>,
+    line: &[u8],
+) -> Result<Option<Vec<u8>>, AllocError> {
+    if line.is_empty() {
+        return offered_line(alloc, program, entered);
+    }
+    let mut whole = Vec::new(alloc);
+    match last_job(alloc, entered.events.as_slice())? {
+        Some(job) if is_choice(line) => {
+            push_all(
+                &mut whole,
+                &[Words("go "), Number(job as usize), Words(" "), Bytes(line)],
+            )?;
+        }
+        Some(job) if is_word(line) => {
+            push_all(&mut whole, &[Bytes(line), Words(" "), Number(job as usize)])?;
+        }
+        _ => whole.extend_from_slice(line)?,
+    }
+    Ok(Some(whole))
+}

@@ -1,0 +1,137 @@
+// A note on a job: where it is, and what its next step asks for.
+
+use crate::explained::RoutineText;
+use mlk_excerpts::{Excerpt, TextLines, margin_of, push_excerpt, push_labelled, token_at};
+use mlk_machine_asks::{Question, question_of};
+use mlk_machine_jobs::{Job, LineTask, Pending, Task};
+use mlk_machine_view::{State, state};
+use mlk_program::Program;
+use mlk_replay_places::{Place, place_of, spot_of};
+use mlk_report_text::Piece::{Bytes, Number, Words};
+use mlk_report_text::push_all;
+use mlk_syntax::{Line, Routine};
+use mlk_text::LineNumber;
+use std::alloc::{AllocError, Global};
+
+// The last line of `routine` with a label that is not after the line `number`.
+fn labelled_line(routine: &Routine, number: LineNumber) -> Option<&Line> {
+    let mut found = None;
+    for line in &routine.lines {
+        if line.number <= number && line.label.is_some() {
+            found = Some(line);
+        }
+    }
+    found
+}
+
+// Appends a line as M names it: a label, and how many lines are from it to this one; and the routine.
+fn push_position(
+    text: &mut Vec<u8>,
+    routine: &Routine,
+    number: LineNumber,
+) -> Result<(), AllocError> {
+    let (label, start) = match labelled_line(routine, number) {
+        Some(line) => match line.label.as_ref() {
+            Some(label) => (label.as_bytes(), line.number.number()),
+            None => (b"".as_slice(), 1),
+        },
+        None => (b"".as_slice(), 1),
+    };
+    text.extend_from_slice(label)?;
+    let offset = number.number().saturating_sub(start);
+    if offset > 0 || label.is_empty() {
+        push_all(text, &[Words("+"), Number(offset as usize)])?;
+    }
+    push_all(text, &[Words("^"), Bytes(routine.name.as_bytes())])
+}
+
+// Whether a job decides next on a round of FOR.
+fn decides_round(job: &Job<'_>) -> bool {
+    matches!(
+        job.pending.last(),
+        Some(Pending::Task(Task::Line(
+            LineTask::FirstRound(_, _, _) | LineTask::LaterRound(_, _, _)
+        )))
+    )
+}
+
+// Appends what the next step of a job asks for, whose token is `token`.
+fn push_question(
+    text: &mut Vec<u8>,
+    program: &Program<'_>,
+    job: &Job<'_>,
+    token: &[u8],
+) -> Result<(), AllocError> {
+    match question_of(program, job) {
+        Question::Value => push_all(
+            text,
+            &[
+                Words("asks for a value: what `"),
+                Bytes(token),
+                Words("` gives"),
+            ],
+        ),
+        Question::Truth if decides_round(job) => {
+            text.extend_from_slice(b"asks for a truth, yes or no: whether a round is run")
+        }
+        Question::Truth => {
+            text.extend_from_slice(b"asks for a truth, yes or no: whether this is true")
+        }
+        Question::Time => {
+            text.extend_from_slice(b"asks for a truth, yes or no: whether it is done in time")
+        }
+        Question::Nothing => match state(program, job) {
+            State::Stuck => text.extend_from_slice(b"can't continue"),
+            _ => text.extend_from_slice(b"is next"),
+        },
+    }
+}
+
+// Appends the line of a job at `place`, which is in `routine`, and what is asked there.
+fn push_place(
+    alloc: Global,
+    text: &mut Vec<u8>,
+    program: &Program<'_>,
+    job: &Job<'_>,
+    place: &Place<'_>,
+    given: &RoutineText<'_>,
+) -> Result<(), AllocError> {
+    let number = place.line.number;
+    let lines = TextLines::of(alloc, given.text)?;
+    let line = lines.line(number).unwrap_or(b"");
+    let spot = spot_of(alloc, job, place, line)?;
+    let excerpt = Excerpt {
+        number,
+        line,
+        column: spot.column,
+    };
+    push_excerpt(text, &excerpt)?;
+    push_question(text, program, job, token_at(line, spot.column))?;
+    text.push(b'\n')
+}
+
+/// The lines that say where a job is and what its next step asks for; empty if it is in no line.
+pub(crate) fn note_of(
+    alloc: Global,
+    program: &Program<'_>,
+    job: &Job<'_>,
+    texts: &[RoutineText<'_>],
+) -> Result<Vec<u8>, AllocError> {
+    let mut text = Vec::new(alloc);
+    let Some(place) = place_of(job) else {
+        return Ok(text);
+    };
+    let Some(routine) = program.routines().get(place.routine) else {
+        return Ok(text);
+    };
+    let Some(given) = texts.get(place.routine) else {
+        return Ok(text);
+    };
+    push_place(alloc, &mut text, program, job, &place, given)?;
+    let number = place.line.number;
+    let mut position = Vec::new(alloc);
+    push_position(&mut position, routine, number)?;
+    push_all(&mut position, &[Words(" in "), Words(given.path)])?;
+    push_labelled(&mut text, margin_of(number), "at", position.as_slice())?;
+    Ok(text)
+}
