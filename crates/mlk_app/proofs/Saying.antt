@@ -26,7 +26,7 @@ use Rattle.mlk_pool.specs.declared.source.Source.{Source}
 use Rattle.mlk_app.specs.declared.answer.Answer.{Answer}
 use Rattle.mlk_app.specs.declared.answer.Answer.TheVariants as answer
 use Rattle.mlk_app.specs.declared.source.FileError.TheVariants as error
-use Rattle.mlk_app.specs.Files.{AreSources, Texts, AreTexts, IsGivenText, Loses, LosesFirst, cert_format, written_path}
+use Rattle.mlk_app.specs.Files.{AreSources, Texts, AreTexts, written_path, IsGivenText, Loses, LosesFirst, cert_format}
 use Rattle.mlk_app.proofs.Sources.{loses-front}
 use Rattle.mlk_cli.specs.CommandLine.{bytes_of}
 use Rattle.mlk_outcome.specs.Conversion.{IsUnconverted}

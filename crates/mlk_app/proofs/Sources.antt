@@ -114,6 +114,7 @@ asked_texts holds program sources path events named texts = record {
   rules = texts.rules;
   work = asked-work holds program.asked path events named;
   routines = texts.routines;
+  plain = texts.plain;
   baseline = texts.baseline;
 }
 

@@ -41,7 +41,7 @@ use Rattle.mlk_baseline.specs.Known.{IsComparison}
 use Rattle.mlk_forms.specs.Rendering.{IsRendered, IsNoticed, printed_rows}
 use Rattle.mlk_app.specs.Printed.{fault_line, rules_line, certificate_line, missing_line, workers_line, stuck_line, events_line, baseline_line, file_line, no_page_line}
 use Rattle.mlk_app.specs.Dialects.{as_read, rests_of}
-use Rattle.mlk_app.specs.Files.{Texts, Folders, AreFound, AreTexts, AreSources, IsFirstLost, given_path, cert_format, paths_of, program_paths, written_path}
+use Rattle.mlk_app.specs.Files.{Texts, Folders, AreFound, AreTexts, AreSources, IsFirstLost, given_path, written_path, cert_format, paths_of, program_paths}
 use Rattle.mlk_cli.specs.CommandLine.{IsRequest, AsksNothing, bytes_of}
 use Rattle.mlk_program.specs.Program.{IsProgram}
 use Rattle.mlk_rules.specs.declared.rules.RuleLists.{RuleLists}
@@ -147,7 +147,7 @@ abbrev pub IsPrinted : ReportRequest → List RoutineTree → RuleLists → Work
 IsPrinted asked trees rules (work.Check given workers) text status = IsReportByText asked trees rules given.items text status
 IsPrinted asked trees rules (work.Verify workers) text status = IsReportOfMade asked trees rules text status
 IsPrinted asked trees rules (work.Make format) text status = IsMade trees rules format text × (status ≡ 0)
-IsPrinted asked trees rules (work.Replay events) text status = IsReplayed (style_in program.asked).is_explained trees rules events.items text × (status ≡ 0)
+IsPrinted asked trees rules (work.Replay events) text status = IsReplayed (style_in asked.program.asked).is_explained trees rules events.items text × (status ≡ 0)
 
 -- why there is no report by a certificate that is made
 abbrev pub RefusesMade : ℕ → List RoutineTree → RuleLists → NoReport → Type 0

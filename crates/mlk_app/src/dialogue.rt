@@ -27,7 +27,7 @@ const WELCOME: &[u8] =
 const END: &[u8] = b"end";
 
 // The entries that the rules declare, as far as the program has them.
-fn declared(
+fn declared_entries(
     alloc: Global,
     program: &Program<'_>,
     rules: &Rules,
@@ -50,7 +50,7 @@ struct Stage<'a> {
 }
 
 // The events of `given`, as far as they can be followed, and what came of the last of its lines.
-fn entered_before<'a>(
+fn enter_lines<'a>(
     alloc: Global,
     stage: &Stage<'a>,
     given: &[u8],
@@ -74,7 +74,7 @@ fn ask_events<F: Files>(
     stage: &Stage<'_>,
     given: &[u8],
 ) -> Result<Vec<u8>, AllocError> {
-    let (mut entered, mut reply) = entered_before(alloc, stage, given)?;
+    let (mut entered, mut reply) = enter_lines(alloc, stage, given)?;
     let mut shown = Vec::from_slice(alloc, WELCOME)?;
     for _ in 0..u64::MAX {
         let prompt = prompt_for(alloc, stage.program, &entered, reply, stage.texts)?;
@@ -100,7 +100,7 @@ fn ask_events<F: Files>(
 }
 
 // Asks for events of these routines, if they can be linked and their rules be read; otherwise `given` is returned.
-fn ask_of_routines<F: Files>(
+fn ask_about_routines<F: Files>(
     alloc: Global,
     files: &F,
     request: &ProgramRequest<'_>,
@@ -114,7 +114,7 @@ fn ask_of_routines<F: Files>(
     let Ok(rules) = read_rules(alloc, sources.rules.as_slice()) else {
         return Vec::from_slice(alloc, given);
     };
-    let entries = declared(alloc, &program, &rules)?;
+    let entries = declared_entries(alloc, &program, &rules)?;
     let texts = routine_texts_of(alloc, request, sources)?;
     let stage = Stage {
         program: &program,
@@ -126,7 +126,7 @@ fn ask_of_routines<F: Files>(
 
 /// Asks a person for events after those of `given`, and returns all of them. Nothing is asked if the routines or the rules are
 /// refused.
-pub(crate) fn asked_events<R: Threads + Wait + Sync, F: Files, W: Watch>(
+pub(crate) fn ask_for_events<R: Threads + Wait + Sync, F: Files, W: Watch>(
     runner: &Runner<'_, R, W>,
     files: &F,
     request: &ProgramRequest<'_>,
@@ -134,9 +134,9 @@ pub(crate) fn asked_events<R: Threads + Wait + Sync, F: Files, W: Watch>(
     given: &[u8],
 ) -> Result<Vec<u8>, AllocError> {
     let alloc = runner.alloc;
-    let Ok(routines) = read_routines(runner, sources.routines.as_slice()) else {
+    let Ok(routines) = read_routines(runner, sources.as_read()) else {
         return Vec::from_slice(alloc, given);
     };
     runner.watch.end();
-    ask_of_routines(alloc, files, request, sources, routines.as_slice(), given)
+    ask_about_routines(alloc, files, request, sources, routines.as_slice(), given)
 }

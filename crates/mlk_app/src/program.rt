@@ -14,7 +14,7 @@ ghost use Rattle.mlk_outcome.specs.Refusals.{IsOfOpenGate, IsNotShut};
 use crate::answer::{Answer, REFUSED, YES, print_answer, write_error, write_memory_error};
 use crate::baseline::known_faults;
 use crate::dialect::read_in;
-use crate::dialogue::asked_events;
+use crate::dialogue::ask_for_events;
 use crate::help::{Explaining, certificate_help, is_refusal_explained, refusal_help, why_unread};
 use crate::notice::notice_of;
 use crate::printed::{
@@ -263,9 +263,13 @@ fn answer_sources<R: Threads + Wait + Sync, F: Files, W: Watch>(
 fn written_events<'a>(program: &ProgramRequest<'a>) -> Option<&'a str>
     ensures { given_path result ≡ written_path program.now.asked }
 {
-    match &program.asked {
-        Asked::Replay { events, style } if style.is_interactive => Some(*events),
-        _ => None,
+    let Asked::Replay { events, style } = &program.asked else {
+        return None;
+    };
+    if style.is_interactive {
+        Some(*events)
+    } else {
+        None
     }
 }
 
@@ -297,7 +301,7 @@ fn answer_dialogue<'a, R: Threads + Wait + Sync, F: Files, W: Watch>(
     let Work::Replay(given) = &sources.work else {
         return answer_sources(runner, program, &sources, files, explaining);
     };
-    let Ok(events) = asked_events(runner, files, program, &sources, given.as_slice()) else {
+    let Ok(events) = ask_for_events(runner, files, program, &sources, given.as_slice()) else {
         return Answer::OutOfMemory;
     };
     if files.write(path, events.as_slice()).is_err() {

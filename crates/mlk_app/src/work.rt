@@ -7,7 +7,7 @@ ghost use Rattle.mlk_pool.specs.Headline.{RefusesReport, RefusesByText, RefusesT
 ghost use Rattle.mlk_outcome.specs.Making.{IsMade, IsUnmade};
 ghost use Rattle.mlk_outcome.specs.Replaying.{IsReplayed, IsUnreplayed, is_explained};
 ghost use Rattle.mlk_outcome.specs.declared.refusal.NoReport.TheVariants as refusal;
-ghost use Rattle.mlk_app.specs.Ran.{style_in, status_in, IsPrintedBeside, IsReportPrinted, IsReportOfBlocks, IsReportByText, IsReportOfMade, IsPrinted, RefusesMade, IsRefusedFor, text_style};
+ghost use Rattle.mlk_app.specs.Ran.{style_in, text_style, status_in, IsPrintedBeside, IsReportPrinted, IsReportOfBlocks, IsReportByText, IsReportOfMade, IsPrinted, RefusesMade, IsRefusedFor};
 ghost use Rattle.mlk_app.specs.Printing.{asked_of, IsPrintedOfTrees, IsPrintedOfTexts, IsRefusedSources};
 
 use crate::answer::{NO, YES};

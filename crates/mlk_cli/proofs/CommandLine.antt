@@ -24,7 +24,7 @@ use Rattle.mlk_cli.specs.declared.words.StubsRequest.{StubsRequest}
 use Rattle.mlk_cli.specs.declared.words.Request.{Request}
 use Rattle.mlk_cli.specs.declared.words.Request.TheVariants as request
 use Rattle.mlk_cli.specs.declared.words.ProgramRequest.{ProgramRequest}
-use Rattle.mlk_cli.specs.CommandLine.{IsAsked, IsNumber, IsNumberOf, IsFormat, IsWalk, IsOutput, output_word, NamesOutput, GivesOutput, NamesDialect, GivesDialect, IsFlag, GivesFlag, IsExplained, IsQuiet, goes_together, IsStyle, IsSurveyOutput, IsSurvey, IsSuggestion, IsWanted, IsStubs, IsConversion, IsProgramGiven, IsGiven, GivesNumber, IsReplay}
+use Rattle.mlk_cli.specs.CommandLine.{IsAsked, IsNumber, IsNumberOf, IsFormat, IsWalk, IsOutput, output_word, NamesOutput, GivesOutput, NamesDialect, GivesDialect, IsFlag, GivesFlag, IsExplained, IsQuiet, goes_together, IsStyle, IsSurveyOutput, IsReplay, IsSurvey, IsSuggestion, IsWanted, IsStubs, IsConversion, IsProgramGiven, IsGiven, GivesNumber}
 
 -- a number of workers, after a plus and zeros
 plus_and_zeros : IsNumber (codes "+004") 4

@@ -6,7 +6,7 @@ ghost use Rattle.clap.specs.Takes.{takes};
 ghost use Rattle.clap.specs.declared.error.kind.ErrorKind.TheVariants.{OutOfMemory};
 ghost use Rattle.clap.specs.Simple.{subcommand_rows_of};
 ghost use Rattle.mlk_cli_grammar.specs.Grammar.{mlock_app};
-ghost use Rattle.mlk_cli.specs.CommandLine.{GivesNumber, GivesFormat, NamesOutput, GivesOutput, NamesDialect, GivesDialect, GivesFlag, goes_together, GivesStyle, GivesWalk, GivesSurveyOutput, GivesAsked, GivesRoutines, GivesProgram, GivesSurvey, GivesSuggestion, IsWanted, GivesWanted, GivesStubs, GivesConversion, GivesPaths, GivesLine, texts_of, names_list, lists_routines, Asks, IsRequest, LacksRequest, GivesReplayStyle, GivesReplay};
+ghost use Rattle.mlk_cli.specs.CommandLine.{GivesNumber, GivesFormat, NamesOutput, GivesOutput, NamesDialect, GivesDialect, GivesFlag, goes_together, GivesStyle, GivesWalk, GivesSurveyOutput, GivesReplayStyle, GivesReplay, GivesAsked, GivesRoutines, GivesProgram, GivesSurvey, GivesSuggestion, IsWanted, GivesWanted, GivesStubs, GivesConversion, GivesPaths, GivesLine, texts_of, names_list, lists_routines, Asks, IsRequest, LacksRequest};
 
 use clap::error::ErrorKind;
 use clap::{ArgMatches, Error};

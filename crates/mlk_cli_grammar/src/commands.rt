@@ -2,12 +2,12 @@
 
 ghost use Rattle.std.specs.Prelude.{◌≡◌, IfOk, true, false};
 ghost use Rattle.clap.specs.Words.{app_of, rule_of, with_rule, with_subcommand};
-ghost use Rattle.mlk_cli_grammar.specs.Grammar.{path_rule, routines_rule, workers_rule, format_rule, output_rule, flag_rule, file_rule, dialect_rule, with_routines, with_style, with_baseline, with_report, check_app, make_app, verify_app, replay_app, convert_app, survey_app, suggest_app, for_rule, stubs_app, explain_app, no_command_app, mlock_app, with_replaying};
+ghost use Rattle.mlk_cli_grammar.specs.Grammar.{path_rule, routines_rule, workers_rule, format_rule, output_rule, flag_rule, file_rule, dialect_rule, with_routines, with_style, with_baseline, with_report, with_replaying, check_app, make_app, verify_app, replay_app, convert_app, survey_app, suggest_app, for_rule, stubs_app, explain_app, no_command_app, mlock_app};
 
 use crate::help::{
     ABOUT, BASELINE_HELP, BESIDE_HELP, CERT_HELP, CHECK_HELP, CHECK_MORE, CODE_HELP, CONVERT_HELP,
-    CONVERT_MORE, DIALECT_HELP, EVENTS_HELP, EXIT_ZERO_HELP, EXPLAIN_HELP, FILES_HELP, FORMAT_HELP,
-    FOR_HELP, INSTEAD_HELP, INTERACTIVE_HELP, MAKE_HELP, MAKE_MORE, OUTPUT_HELP, PAGE_HELP,
+    CONVERT_MORE, DIALECT_HELP, EVENTS_HELP, EXIT_ZERO_HELP, EXPLAIN_HELP, FILES_HELP, FOR_HELP,
+    FORMAT_HELP, INSTEAD_HELP, INTERACTIVE_HELP, MAKE_HELP, MAKE_MORE, OUTPUT_HELP, PAGE_HELP,
     PAGE_MORE, QUIET_HELP, REPLAY_HELP, REPLAY_MORE, ROUTINE_HELP, RULES_HELP, STRICT_HELP,
     STUBS_HELP, STUBS_MORE, SUGGEST_HELP, SUGGEST_MORE, SURVEY_HELP, SURVEY_MORE,
     SURVEY_OUTPUT_HELP, VERIFY_HELP, VERIFY_MORE, VERSION, WHERE_HELP, WORKERS_HELP,

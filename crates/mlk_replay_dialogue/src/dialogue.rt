@@ -32,7 +32,7 @@ pub enum Reply {
 }
 
 // `events`, and the jobs after all of their lines; or why one of these can't be followed.
-fn followed<'a>(
+fn follow<'a>(
     alloc: Global,
     program: &'a Program<'a>,
     entries: &'a [EntryId],
@@ -55,7 +55,7 @@ pub fn start<'a>(
 ) -> Result<Entered<'a>, AllocError>
     ensures { IfOk result (AreReplayed program.now entries.now) }
 {
-    match followed(alloc, program, entries, Vec::new(alloc))? {
+    match follow(alloc, program, entries, Vec::new(alloc))? {
         Ok(entered) => Ok(entered),
         Err(_) => Err(AllocError),
     }
@@ -73,7 +73,7 @@ fn length_before_last(events: &[u8]) -> usize {
 }
 
 // What comes of other events: they and `reply`, or `entered` and why they can't be followed.
-fn changed<'a>(
+fn follow_or_keep<'a>(
     alloc: Global,
     program: &'a Program<'a>,
     entries: &'a [EntryId],
@@ -84,7 +84,7 @@ fn changed<'a>(
     requires { AreReplayed program.now entries.now entered.entry }
     ensures { IfOk result (λ next. AreReplayed program.now entries.now next.0) }
 {
-    match followed(alloc, program, entries, events)? {
+    match follow(alloc, program, entries, events)? {
         Ok(next) => Ok((next, reply)),
         Err(why) => Ok((entered, Reply::Refused(why))),
     }
@@ -109,12 +109,12 @@ pub fn enter<'a>(
     if line == b"undo".as_slice() {
         let kept = length_before_last(events.as_slice());
         events.truncate(kept);
-        return changed(alloc, program, entries, entered, events, Reply::Undone);
+        return follow_or_keep(alloc, program, entries, entered, events, Reply::Undone);
     }
     let Some(whole) = whole_line(alloc, program, &entered, line)? else {
         return Ok((entered, Reply::NothingOffered));
     };
     events.extend_from_slice(whole.as_slice())?;
     events.push(b'\n')?;
-    changed(alloc, program, entries, entered, events, Reply::Taken)
+    follow_or_keep(alloc, program, entries, entered, events, Reply::Taken)
 }

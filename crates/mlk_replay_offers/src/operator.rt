@@ -40,7 +40,7 @@ pub(crate) fn value_between(
             Some(holds) => Some(!holds),
             None => None,
         },
-        Op::Concatenate => return joined(alloc, first, second),
+        Op::Concatenate => return concatenation(alloc, first, second),
         _ => None,
     };
     match found {
@@ -50,7 +50,11 @@ pub(crate) fn value_between(
 }
 
 // The join of two texts.
-fn joined(alloc: Global, first: &Value, second: &Value) -> Result<Option<Value>, AllocError> {
+fn concatenation(
+    alloc: Global,
+    first: &Value,
+    second: &Value,
+) -> Result<Option<Value>, AllocError> {
     let mut text = Vec::from_slice(alloc, first.as_bytes())?;
     text.extend_from_slice(second.as_bytes())?;
     Ok(Some(Value::new(text)))

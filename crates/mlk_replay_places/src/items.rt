@@ -1,6 +1,6 @@
 // What a command or a parameter of FOR computes, in order, and where the text of each part begins.
 
-use crate::scan::{find_outside, from};
+use crate::scan::{find_outside, rest_at};
 use crate::steps::Steps;
 use mlk_syntax::{
     Action, Actual, Call, Command, DoArgument, Expr, KillArgument, LockArgument, MergeArgument,
@@ -36,7 +36,7 @@ fn column_at(at: usize) -> Column {
 }
 
 // The index after `count` bytes from `at` on, and one more.
-fn behind(at: usize, count: usize) -> usize {
+fn index_after(at: usize, count: usize) -> usize {
     at.saturating_add(count).saturating_add(1)
 }
 
@@ -51,8 +51,8 @@ impl<'a, 't> Items<'a, 't> {
 
     // The index after the first `stop` from `at` on; `at` if there is none.
     fn after(&self, at: usize, stop: u8) -> usize {
-        match find_outside(from(self.line, at), stop) {
-            Some(count) => behind(at, count),
+        match find_outside(rest_at(self.line, at), stop) {
+            Some(count) => index_after(at, count),
             None => at,
         }
     }
@@ -350,10 +350,10 @@ pub(crate) fn command_items<'a, 't>(
         line,
     };
     let start = index_of(command.column);
-    let word = letters(from(line, start));
+    let word = letters(rest_at(line, start));
     if let Some(condition) = &command.condition {
         let condition: &Expr = condition;
-        let at = behind(start, word);
+        let at = index_after(start, word);
         items.add_used(condition, at)?;
     }
     let first = items.after(start, b' ');

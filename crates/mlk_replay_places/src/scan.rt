@@ -5,7 +5,7 @@ use mlk_expr_tokens::lexeme::{is_match, op_at};
 use mlk_expr_tokens::numeral::numeral_at;
 
 /// The bytes of `text` from the index `at` on.
-pub(crate) fn from(text: &[u8], at: usize) -> &[u8] {
+pub(crate) fn rest_at(text: &[u8], at: usize) -> &[u8] {
     let (_, rest) = split_at_most(text, at);
     rest
 }
@@ -17,7 +17,7 @@ fn is_mark(byte: u8) -> bool {
 
 // The rest of `text` after the marks at its front.
 fn after_marks(text: &[u8]) -> &[u8] {
-    from(text, text.iter().take_while(|byte| is_mark(**byte)).count())
+    rest_at(text, text.iter().take_while(|byte| is_mark(**byte)).count())
 }
 
 // Whether `byte` may be in a word: a name with the marks in front of it, or a label and a routine.
@@ -27,8 +27,8 @@ fn is_of_word(byte: u8) -> bool {
 
 // The rest of `text` after the word at its front, whose first byte is skipped in any case.
 fn after_word(text: &[u8]) -> &[u8] {
-    let rest = from(text, 1);
-    from(
+    let rest = rest_at(text, 1);
+    rest_at(
         rest,
         rest.iter().take_while(|byte| is_of_word(**byte)).count(),
     )
@@ -41,7 +41,7 @@ fn after_quoted(text: &[u8]) -> &[u8] {
         if *byte == b'"' {
             is_open = !is_open;
         } else if !is_open {
-            return from(text, at);
+            return rest_at(text, at);
         }
     }
     &[]
@@ -69,7 +69,7 @@ fn after_pattern(text: &[u8]) -> &[u8] {
             other => depth == 0 && !other.is_ascii_alphanumeric() && other != b'.',
         };
         if is_over {
-            return from(text, at);
+            return rest_at(text, at);
         }
     }
     &[]
@@ -80,7 +80,7 @@ fn after_operator(text: &[u8]) -> &[u8] {
     match op_at(text) {
         Some((op, rest)) if is_match(op) => after_pattern(rest),
         Some((_, rest)) => rest,
-        None => from(text, 1),
+        None => rest_at(text, 1),
     }
 }
 

@@ -5,7 +5,7 @@ use crate::items::{
     size_of_action, size_of_item,
 };
 use crate::place::{Place, Work};
-use crate::scan::{from, token_place};
+use crate::scan::{rest_at, token_place};
 use crate::steps::{Part, Step, Steps, size_of_branches};
 use mlk_machine_jobs::{Job, LocalTask, LockTask, Pending, Task, TestTask, ValueTask};
 use mlk_syntax::{Expr, For};
@@ -184,7 +184,7 @@ fn fits(part: Part<'_>, item: &Pending<'_>) -> bool {
 // The column of the token number `token` of an expression that begins at `column` of `line`.
 fn column_of_token(line: &[u8], column: Column, token: usize) -> Column {
     let start = (column.number() as usize).saturating_sub(1);
-    match token_place(from(line, start), token) {
+    match token_place(rest_at(line, start), token) {
         Some(place) => Column::at(start.saturating_add(place).saturating_add(1)),
         None => column,
     }

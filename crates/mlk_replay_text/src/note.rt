@@ -10,7 +10,7 @@ use mlk_replay_places::{Place, place_of, spot_of};
 use mlk_report_text::Piece::{Bytes, Number, Words};
 use mlk_report_text::push_all;
 use mlk_syntax::{Line, Routine};
-use mlk_text::LineNumber;
+use mlk_text::{Column, LineNumber};
 use std::alloc::{AllocError, Global};
 
 // The last line of `routine` with a label that is not after the line `number`.
@@ -24,25 +24,52 @@ fn labelled_line(routine: &Routine, number: LineNumber) -> Option<&Line> {
     found
 }
 
+// A place in the text of a routine.
+#[derive(Clone, Copy, Drop)]
+struct Position<'t> {
+    path: &'t str,
+    number: LineNumber,
+    column: Column,
+}
+
 // Appends a line as M names it: a label, and how many lines are from it to this one; and the routine.
-fn push_position(
+fn push_line_name(
     text: &mut Vec<u8>,
     routine: &Routine,
     number: LineNumber,
 ) -> Result<(), AllocError> {
-    let (label, start) = match labelled_line(routine, number) {
-        Some(line) => match line.label.as_ref() {
-            Some(label) => (label.as_bytes(), line.number.number()),
-            None => (b"".as_slice(), 1),
-        },
-        None => (b"".as_slice(), 1),
-    };
-    text.extend_from_slice(label)?;
+    let mut start = 1;
+    if let Some(line) = labelled_line(routine, number) {
+        start = line.number.number();
+        if let Some(label) = &line.label {
+            text.extend_from_slice(label.as_bytes())?;
+        }
+    }
     let offset = number.number().saturating_sub(start);
-    if offset > 0 || label.is_empty() {
+    if offset > 0 || text.is_empty() {
         push_all(text, &[Words("+"), Number(offset as usize)])?;
     }
     push_all(text, &[Words("^"), Bytes(routine.name.as_bytes())])
+}
+
+// Appends where a job is: its line as M names it, and the path, line and column, in bytes.
+fn push_position(
+    text: &mut Vec<u8>,
+    routine: &Routine,
+    position: &Position<'_>,
+) -> Result<(), AllocError> {
+    push_line_name(text, routine, position.number)?;
+    push_all(
+        text,
+        &[
+            Words(" in "),
+            Words(position.path),
+            Words(":"),
+            Number(position.number.number() as usize),
+            Words(":"),
+            Number(position.column.number() as usize),
+        ],
+    )
 }
 
 // Whether a job decides next on a round of FOR.
@@ -87,17 +114,17 @@ fn push_question(
     }
 }
 
-// Appends the line of a job at `place`, which is in `routine`, and what is asked there.
+// Appends the line of a job at `place`, which is in a routine with the text `given`, and what is asked there; returns the column.
 fn push_place(
     alloc: Global,
     text: &mut Vec<u8>,
     program: &Program<'_>,
     job: &Job<'_>,
     place: &Place<'_>,
-    given: &RoutineText<'_>,
-) -> Result<(), AllocError> {
+    given: &[u8],
+) -> Result<Column, AllocError> {
     let number = place.line.number;
-    let lines = TextLines::of(alloc, given.text)?;
+    let lines = TextLines::of(alloc, given)?;
     let line = lines.line(number).unwrap_or(b"");
     let spot = spot_of(alloc, job, place, line)?;
     let excerpt = Excerpt {
@@ -107,7 +134,8 @@ fn push_place(
     };
     push_excerpt(text, &excerpt)?;
     push_question(text, program, job, token_at(line, spot.column))?;
-    text.push(b'\n')
+    text.push(b'\n')?;
+    Ok(spot.column)
 }
 
 /// The lines that say where a job is and what its next step asks for; empty if it is in no line.
@@ -127,11 +155,14 @@ pub(crate) fn note_of(
     let Some(given) = texts.get(place.routine) else {
         return Ok(text);
     };
-    push_place(alloc, &mut text, program, job, &place, given)?;
     let number = place.line.number;
-    let mut position = Vec::new(alloc);
-    push_position(&mut position, routine, number)?;
-    push_all(&mut position, &[Words(" in "), Words(given.path)])?;
-    push_labelled(&mut text, margin_of(number), "at", position.as_slice())?;
+    let position = Position {
+        path: given.path,
+        number,
+        column: push_place(alloc, &mut text, program, job, &place, given.text)?,
+    };
+    let mut words = Vec::new(alloc);
+    push_position(&mut words, routine, &position)?;
+    push_labelled(&mut text, margin_of(number), "at", words.as_slice())?;
     Ok(text)
 }

@@ -36,8 +36,22 @@ impl Files for Disk<'_> {
 
     fn ask(&self, alloc: Global, shown: &[u8]) -> io::Result<Option<Vec<u8>>> {
         self.rt.stderr().write_all(shown)?;
-        read_line(alloc, &mut self.rt.stdin())
+        let line = read_line(alloc, &mut self.rt.stdin())?;
+        show_entered(self.rt, &line)?;
+        Ok(line)
     }
+}
+
+// Shows the line that was entered, unless a terminal has shown it, or that the input has ended.
+fn show_entered(rt: &HostRuntime, line: &Option<Vec<u8>>) -> io::Result<()> {
+    let mut err = rt.stderr();
+    if let Some(line) = line {
+        if rt.stdin().is_terminal() {
+            return Ok(());
+        }
+        err.write_all(line.as_slice())?;
+    }
+    err.write_all(b"\n")
 }
 
 // The words of the command line; one that is no UTF-8 is refused as a whole.
