@@ -21,7 +21,7 @@ use std::thread::Threads;
 
 // What is shown at the begin of a dialogue.
 const WELCOME: &[u8] =
-    b"Enter an event on each line: begin JOB ENTRY TEST VALUE.., go, run, abort; or only the value, yes or no that is asked\nfor. An empty line enters the event in brackets, `undo` removes the last one, `end` writes the file.\n";
+    b"Enter an event: begin JOB ENTRY TEST VALUE.., go, run or abort; or what is asked for: a value in quotes, yes or no.\nAn empty line enters the event in brackets, `undo` removes the last event, `end` writes the file.\n";
 
 // What ends a dialogue.
 const END: &[u8] = b"end";

@@ -242,6 +242,39 @@ fn items_of_parameter<'a, 't>(
     }
 }
 
+// The spot in the parameter of a FOR after which `left` are left, by the stages that are left.
+fn spot_in_parameter<'a>(
+    alloc: Global,
+    found: &'a For,
+    left: Option<usize>,
+    stages: &[Stage],
+    line: &[u8],
+) -> Result<Spot<'a>, AllocError> {
+    let column = found.column;
+    match items_of_parameter(alloc, found, left, line)? {
+        Some(items) => spot_within(alloc, &items, stages, line, column),
+        None => Ok(Spot { column, part: None }),
+    }
+}
+
+// The spot in what a job at `place` does, by the stages that are left.
+fn spot_in_work<'a>(
+    alloc: Global,
+    place: &Place<'a>,
+    stages: &[Stage],
+    line: &[u8],
+) -> Result<Spot<'a>, AllocError> {
+    match place.work {
+        Work::Begins(column) => Ok(Spot { column, part: None }),
+        Work::Command(command) => {
+            let has_block = !place.line.block.is_empty();
+            let items = command_items(alloc, command, has_block, line)?;
+            spot_within(alloc, &items, stages, line, command.column)
+        }
+        Work::Parameters(found, left) => spot_in_parameter(alloc, found, left, stages, line),
+    }
+}
+
 /// The column of what a job at `place` computes next, in `line`, the text of its line.
 pub fn spot_of<'a>(
     alloc: Global,
@@ -249,10 +282,8 @@ pub fn spot_of<'a>(
     place: &Place<'a>,
     line: &[u8],
 ) -> Result<Spot<'a>, AllocError> {
-    let (_, own) = job
-        .pending
-        .as_slice()
-        .split_at(place.later.min(job.pending.len()));
+    let pending = job.pending.as_slice();
+    let (_, own) = pending.split_at(place.later.min(pending.len()));
     let Some((next, after)) = own.split_last() else {
         return Ok(Spot {
             column: begin_of(place),
@@ -260,29 +291,17 @@ pub fn spot_of<'a>(
         });
     };
     let stages = stages_of(alloc, next, after)?;
-    let has_block = !place.line.block.is_empty();
-    let (items, column) = match place.work {
-        Work::Begins(column) => return Ok(Spot { column, part: None }),
-        Work::Command(command) => {
-            let items = command_items(alloc, command, has_block, line)?;
-            (Some(items), command.column)
-        }
-        Work::Parameters(found, left) => {
-            let items = items_of_parameter(alloc, found, left, line)?;
-            (items, found.column)
-        }
+    let spot = spot_in_work(alloc, place, stages.as_slice(), line)?;
+    let Some(part) = spot.part else {
+        return Ok(spot);
     };
-    let Some(items) = items else {
-        return Ok(Spot { column, part: None });
-    };
-    let spot = spot_within(alloc, &items, stages.as_slice(), line, column)?;
-    match spot.part {
-        Some(part) if !fits(part, next) => Ok(Spot {
-            column: spot.column,
-            part: None,
-        }),
-        _ => Ok(spot),
+    if fits(part, next) {
+        return Ok(spot);
     }
+    Ok(Spot {
+        column: spot.column,
+        part: None,
+    })
 }
 
 // The column that a job begins at, if it begins something.

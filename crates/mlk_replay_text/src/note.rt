@@ -41,7 +41,7 @@ fn push_line_name(
     let mut start = 1;
     if let Some(line) = labelled_line(routine, number) {
         start = line.number.number();
-        if let Some(label) = &line.label {
+        if let Some(label) = line.label.as_ref() {
             text.extend_from_slice(label.as_bytes())?;
         }
     }
