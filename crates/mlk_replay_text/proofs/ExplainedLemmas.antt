@@ -1,15 +1,15 @@
 -- A text with notes, from what is left of it.
 use Rattle.std.proofs.Common.{◌≡◌, ◌∙◌, ◌++◌, ℕ, List, [], ◌∷◌, refl, sym, ap, subst, append_assoc}
-use Rattle.mlk_replay_text.specs.Explained.{IsExplained, GoesOn, lines_of, lines_and_notes_of}
+use Rattle.mlk_replay_text.specs.Explained.{IsExplained, Continues, lines_of, lines_and_notes_of}
 
-pub same_goes_on : (old left : List ℕ) → GoesOn old left old left
-same_goes_on old left = record { goes = λ later h. (later, h, refl) }
+pub same_continues : (old left : List ℕ) → Continues old left old left
+same_continues old left = record { continues = λ later h. (later, h, refl) }
 
 -- a line and its note are appended
-pub line_goes_on : (old left line note rest new : List ℕ) → left ≡ line ++ 10 ∷ rest
-    → new ≡ ((old ++ line) ++ 10 ∷ []) ++ note → GoesOn old left new rest
-line_goes_on old left line note rest new is appended = record {
-  goes = λ later h. (
+pub line_continues : (old left line note rest new : List ℕ) → left ≡ line ++ 10 ∷ rest
+    → new ≡ ((old ++ line) ++ 10 ∷ []) ++ note → Continues old left new rest
+line_continues old left line note rest new is appended = record {
+  continues = λ later h. (
     line ++ 10 ∷ (note ++ later),
     record {
       noted = (line, note) ∷ h.noted;
@@ -24,17 +24,17 @@ line_goes_on old left line note rest new is appended = record {
   );
 }
 
--- what goes on goes on after that
-pub goes_further : (all left rest old new : List ℕ) → GoesOn [] all old left → GoesOn old left new rest → GoesOn [] all new rest
-goes_further all left rest old new before after = record {
-  goes = λ later h.
-      let more = after.goes later h in
-      let whole = before.goes more.0 more.1 in
+-- what continues, continues after that
+pub continues_further : (all left rest old new : List ℕ) → Continues [] all old left → Continues old left new rest → Continues [] all new rest
+continues_further all left rest old new before after = record {
+  continues = λ later h.
+      let more = after.continues later h in
+      let whole = before.continues more.0 more.1 in
       (whole.0, whole.1, more.2 ∙ whole.2);
 }
 
 -- at the end the rest is appended as it is
-pub goes_to_end : (all left old : List ℕ) → GoesOn [] all old left → IsExplained all (old ++ left)
-goes_to_end all left old before =
-    let whole = before.goes left (record { noted = []; rest = left; without = refl; whole = refl }) in
+pub reaches_end : (all left old : List ℕ) → Continues [] all old left → IsExplained all (old ++ left)
+reaches_end all left old before =
+    let whole = before.continues left (record { noted = []; rest = left; without = refl; whole = refl }) in
     subst (IsExplained all) (sym whole.2) whole.1

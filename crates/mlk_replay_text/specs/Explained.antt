@@ -16,7 +16,7 @@ pub record IsExplained (plain text : List ℕ) : Type 0 where
   pub without : plain ≡ lines_of noted ++ rest
   pub whole : text ≡ lines_and_notes_of noted ++ rest
 
--- What is left of the plain text, and of the text: however the rest goes on, the whole does. For private clauses only.
-pub record GoesOn (old left new rest : List ℕ) : Type 0 where
-  pub goes : (later : List ℕ) → IsExplained rest later
+-- What is left of the plain text, and of the text: however the rest continues, the whole does. For private clauses only.
+pub record Continues (old left new rest : List ℕ) : Type 0 where
+  pub continues : (later : List ℕ) → IsExplained rest later
       → (more : List ℕ) × IsExplained left more × (new ++ later ≡ old ++ more)

@@ -3,7 +3,7 @@
 ghost use Rattle.std.specs.Prelude.{◌≤◌, IfOk, length};
 ghost use Rattle.mlk_machine.specs.Systems.{jobs_in, routines_in};
 ghost use Rattle.mlk_machine_view.specs.Printed.{system_text};
-ghost use Rattle.mlk_replay_text.specs.Explained.{IsExplained, GoesOn};
+ghost use Rattle.mlk_replay_text.specs.Explained.{IsExplained, Continues};
 
 use crate::note::note_of;
 use mlk_machine::System;
@@ -39,9 +39,9 @@ fn notes_of(
 }
 
 // Appends the first line of `left`, and `note` below it; returns the rest. Nothing is appended if no line ends.
-#[tactic(auto, using(crate::proofs::ExplainedLemmas::same_goes_on, crate::proofs::ExplainedLemmas::line_goes_on))]
+#[tactic(auto, using(crate::proofs::ExplainedLemmas::same_continues, crate::proofs::ExplainedLemmas::line_continues))]
 fn push_noted<'p>(text: &mut Vec<u8>, left: &'p [u8], note: &[u8]) -> Result<&'p [u8], AllocError>
-    ensures { IfOk result (λ rest. GoesOn text.old.items left.now text.new.items rest.now) }
+    ensures { IfOk result (λ rest. Continues text.old.items left.now text.new.items rest.now) }
 {
     let (line, end) = left.split_at(line_length(left));
     let Some((first, rest)) = end.split_first() else {
@@ -57,7 +57,7 @@ fn push_noted<'p>(text: &mut Vec<u8>, left: &'p [u8], note: &[u8]) -> Result<&'p
 }
 
 // The text `plain`, with a note below each of its first lines.
-#[tactic(auto, using(crate::proofs::ExplainedLemmas::same_goes_on, crate::proofs::ExplainedLemmas::goes_further, crate::proofs::ExplainedLemmas::goes_to_end))]
+#[tactic(auto, using(crate::proofs::ExplainedLemmas::same_continues, crate::proofs::ExplainedLemmas::continues_further, crate::proofs::ExplainedLemmas::reaches_end))]
 fn with_notes(alloc: Global, plain: &[u8], notes: &[Vec<u8>]) -> Result<Vec<u8>, AllocError>
     ensures { IfOk result (λ text. IsExplained plain.now text.items) }
 {
