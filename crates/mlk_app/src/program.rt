@@ -275,7 +275,7 @@ fn written_events<'a>(program: &ProgramRequest<'a>) -> Option<&'a str>
 
 // The texts of the files of a program with these events, which are asked for.
 fn with_events<'a>(sources: Sources<'a>, events: Vec<u8>) -> Sources<'a>
-    ensures { result ≡ record sources.entry { work = work.Replay events.entry } }
+    ensures { result ≡ record sources.entry { work = work.Replay events } }
 {
     Sources {
         work: Work::Replay(events),
@@ -293,7 +293,7 @@ fn answer_dialogue<'a, R: Threads + Wait + Sync, F: Files, W: Watch>(
     files: &F,
     explaining: Explaining,
 ) -> Answer
-    requires texts { AreTexts (F.holds files.now) program.now sources.entry }
+    requires texts { AreTexts (F.holds files.now) program.now sources }
     requires written { written_path program.now.asked ≡ path.now ∷ [] }
     ensures { Answers (F.holds files.now) (F.unreadable files.now) (wanted.Program program.now) result }
 {

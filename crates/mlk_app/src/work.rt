@@ -5,7 +5,7 @@ ghost use Rattle.mlk_syntax.specs.Views.{routine_of};
 ghost use Rattle.mlk_soundness_walk.specs.Forms.{AreFormed};
 ghost use Rattle.mlk_pool.specs.Headline.{RefusesReport, RefusesByText, RefusesTrees};
 ghost use Rattle.mlk_outcome.specs.Making.{IsMade, IsUnmade};
-ghost use Rattle.mlk_outcome.specs.Replaying.{IsReplayed, IsUnreplayed, is_explained};
+ghost use Rattle.mlk_outcome.specs.Replaying.{IsReplayed, IsUnreplayed, has_notes};
 ghost use Rattle.mlk_outcome.specs.declared.refusal.NoReport.TheVariants as refusal;
 ghost use Rattle.mlk_app.specs.Ran.{style_in, text_style, status_in, IsPrintedBeside, IsReportPrinted, IsReportOfBlocks, IsReportByText, IsReportOfMade, IsPrinted, RefusesMade, IsRefusedFor};
 ghost use Rattle.mlk_app.specs.Printing.{asked_of, IsPrintedOfTrees, IsPrintedOfTexts, IsRefusedSources};
@@ -290,7 +290,7 @@ pub(crate) fn routine_texts_of<'t>(
 
 // How jobs are shown, with these texts of the routines.
 fn showing_of<'t>(with_notes: bool, texts: &'t [RoutineText<'t>]) -> Showing<'t>
-    ensures { is_explained result ≡ with_notes }
+    ensures { has_notes result ≡ with_notes }
 {
     if with_notes {
         Showing::Explained(texts)

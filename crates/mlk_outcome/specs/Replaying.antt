@@ -34,9 +34,9 @@ abbrev pub IsUndeclared : List RoutineTree → List (List ℕ) → NoReport → 
 IsUndeclared trees texts r = (r ≡ no_memory) ⊎ ((entry : List ℕ) × (find (is_missing trees) texts ≡ Some entry) × (r ≡ refusal.Check (error.Entry entry)))
 
 -- the text is plain, or explained
-abbrev pub is_explained : Showing → Bool
-is_explained showing.Plain = false
-is_explained (showing.Explained texts) = true
+abbrev pub has_notes : Showing → Bool
+has_notes showing.Plain = false
+has_notes (showing.Explained texts) = true
 
 abbrev pub IsShownAs : Bool → List ℕ → List ℕ → Type 0
 IsShownAs false plain text = text ≡ plain

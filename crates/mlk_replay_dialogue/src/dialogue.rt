@@ -81,7 +81,7 @@ fn follow_or_keep<'a>(
     events: Vec<u8>,
     reply: Reply,
 ) -> Result<(Entered<'a>, Reply), AllocError>
-    requires { AreReplayed program.now entries.now entered.entry }
+    requires { AreReplayed program.now entries.now entered }
     ensures { IfOk result (λ next. AreReplayed program.now entries.now next.0) }
 {
     match follow(alloc, program, entries, events)? {
@@ -99,7 +99,7 @@ pub fn enter<'a>(
     entered: Entered<'a>,
     line: &[u8],
 ) -> Result<(Entered<'a>, Reply), AllocError>
-    requires { AreReplayed program.now entries.now entered.entry }
+    requires { AreReplayed program.now entries.now entered }
     ensures { IfOk result (λ next. AreReplayed program.now entries.now next.0) }
 {
     if line.starts_with(b"#") {
