@@ -113,19 +113,25 @@ fn next_work<'a>(task: &LineTask<'a>, rest: &Rest<'a>) -> Work<'a> {
     }
 }
 
+// The command of a stretch that is right before `rest`; `None` if there is none.
+fn command_before<'a>(stretch: &Stretch<'a>, rest: &Rest<'a>) -> Option<&'a Command> {
+    let done = stretch.commands.len().saturating_sub(rest.commands.len());
+    let (before, _) = stretch.commands.split_at(done);
+    before.last()
+}
+
 // What a job does that has items before the one that continues the line with `rest`, which is at the index `at`.
 fn work_before<'a>(pending: &[Pending<'a>], at: usize, rest: &Rest<'a>) -> Work<'a> {
     let stretch = stretch_of(None, &rest.line.commands, rest);
-    let done = stretch.commands.len().saturating_sub(rest.commands.len());
-    if let Some(command) = stretch.commands.get(done.wrapping_sub(1)) {
+    if let Some(command) = command_before(&stretch, rest) {
         return Work::Command(command);
     }
     let Some(found) = stretch.before else {
         return Work::Begins(rest.line.end);
     };
-    let own = parameters_left(pending.get(at));
-    let below = parameters_left(pending.get(at.wrapping_sub(1)));
-    Work::Parameters(found, own.or(below))
+    let (below, own) = pending.split_at(at.min(pending.len()));
+    let left = parameters_left(own.first());
+    Work::Parameters(found, left.or(parameters_left(below.last())))
 }
 
 // The place at the item with the index `at`, if that continues a line.
@@ -165,13 +171,11 @@ fn place_at<'a>(pending: &[Pending<'a>], at: usize, routine: usize) -> Option<Pl
 pub fn place_of<'a>(job: &Job<'a>) -> Option<Place<'a>> {
     let pending = job.pending.as_slice();
     let mut routine = job.routine;
-    let mut left = pending.len();
-    while left > 0 {
-        left -= 1;
-        if let Some(place) = place_at(pending, left, routine) {
+    for at in (0..pending.len()).rev() {
+        if let Some(place) = place_at(pending, at, routine) {
             return Some(place);
         }
-        if let Some(Pending::EndFrame(_, _, back)) = pending.get(left) {
+        if let Some(Pending::EndFrame(_, _, back)) = pending.get(at) {
             routine = *back;
         }
     }
