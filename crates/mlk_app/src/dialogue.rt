@@ -9,7 +9,7 @@ use bstr::ByteSlice;
 use mlk_cli::ProgramRequest;
 use mlk_pool::read_routines;
 use mlk_program::{EntryId, Program, link};
-use mlk_replay_dialogue::{Entered, Reply, enter, prompt_for, start};
+use mlk_replay_dialogue::{Entered, enter, prompt_for, start};
 use mlk_replay_text::RoutineText;
 use mlk_rules::{Rules, entries};
 use mlk_rules_file::read_rules;
@@ -49,22 +49,19 @@ struct Stage<'a> {
     texts: &'a [RoutineText<'a>],
 }
 
-// The events of `given`, as far as they can be followed, and what came of the last of its lines.
+// The events of `given`, as far as they can be followed.
 fn enter_lines<'a>(
     alloc: Global,
     stage: &Stage<'a>,
     given: &[u8],
-) -> Result<(Entered<'a>, Reply), AllocError>
-    ensures { IfOk result (λ e. AreReplayed stage.now.program.now stage.now.entries.now e.0) }
+) -> Result<Entered<'a>, AllocError>
+    ensures { IfOk result (AreReplayed stage.now.program.now stage.now.entries.now) }
 {
     let mut entered = start(alloc, stage.program, stage.entries)?;
-    let mut reply = Reply::Taken;
     for line in given.lines() {
-        let (next, answer) = enter(alloc, stage.program, stage.entries, entered, line)?;
-        entered = next;
-        reply = answer;
+        entered = enter(alloc, stage.program, stage.entries, entered, line)?;
     }
-    Ok((entered, reply))
+    Ok(entered)
 }
 
 // Asks for events after those of `given`, until the input ends.
@@ -74,10 +71,10 @@ fn ask_events<F: Files>(
     stage: &Stage<'_>,
     given: &[u8],
 ) -> Result<Vec<u8>, AllocError> {
-    let (mut entered, mut reply) = enter_lines(alloc, stage, given)?;
+    let mut entered = enter_lines(alloc, stage, given)?;
     let mut shown = Vec::from_slice(alloc, WELCOME)?;
     for _ in 0..u64::MAX {
-        let prompt = prompt_for(alloc, stage.program, &entered, reply, stage.texts)?;
+        let prompt = prompt_for(alloc, stage.program, &entered, stage.texts)?;
         shown.extend_from_slice(prompt.as_slice())?;
         let Ok(Some(line)) = files.ask(alloc, shown.as_slice()) else {
             break;
@@ -85,15 +82,13 @@ fn ask_events<F: Files>(
         if line.as_slice() == END {
             break;
         }
-        let (next, answer) = enter(
+        entered = enter(
             alloc,
             stage.program,
             stage.entries,
             entered,
             line.as_slice(),
         )?;
-        entered = next;
-        reply = answer;
         shown = Vec::new(alloc);
     }
     Ok(entered.events)

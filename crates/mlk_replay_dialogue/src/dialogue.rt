@@ -9,11 +9,12 @@ use mlk_program::{EntryId, Program};
 use mlk_text::Failure;
 use std::alloc::{AllocError, Global};
 
-/// The events that were entered, as a file has them, and the jobs after them.
+/// The events that were entered, as a file has them, the jobs after them, and what came of the last line.
 #[derive(Drop)]
 pub struct Entered<'a> {
     pub events: Vec<u8>,
     pub system: System<'a>,
+    pub reply: Reply,
 }
 
 /// What a line does that a person enters.
@@ -31,17 +32,22 @@ pub enum Reply {
     Ignored,
 }
 
-// `events`, and the jobs after all of their lines; or why one of these can't be followed.
+// `events`, the jobs after all of their lines, and `reply`; or why one of the lines can't be followed.
 fn follow<'a>(
     alloc: Global,
     program: &'a Program<'a>,
     entries: &'a [EntryId],
     events: Vec<u8>,
+    reply: Reply,
 ) -> Result<Result<Entered<'a>, EventsRefusal>, AllocError>
     ensures { IfOk result (λ answer. IfOk answer (AreReplayed program.now entries.now)) }
 {
     match replay_events(alloc, program, entries, events.as_slice()) {
-        Ok(system) => Ok(Ok(Entered { events, system })),
+        Ok(system) => Ok(Ok(Entered {
+            events,
+            system,
+            reply,
+        })),
         Err(Failure::OutOfMemory) => Err(AllocError),
         Err(Failure::Refused(fault)) => Ok(Err(fault.why)),
     }
@@ -55,7 +61,7 @@ pub fn start<'a>(
 ) -> Result<Entered<'a>, AllocError>
     ensures { IfOk result (AreReplayed program.now entries.now) }
 {
-    match follow(alloc, program, entries, Vec::new(alloc))? {
+    match follow(alloc, program, entries, Vec::new(alloc), Reply::Taken)? {
         Ok(entered) => Ok(entered),
         Err(_) => Err(AllocError),
     }
@@ -80,13 +86,16 @@ fn follow_or_keep<'a>(
     entered: Entered<'a>,
     events: Vec<u8>,
     reply: Reply,
-) -> Result<(Entered<'a>, Reply), AllocError>
+) -> Result<Entered<'a>, AllocError>
     requires { AreReplayed program.now entries.now entered }
-    ensures { IfOk result (λ next. AreReplayed program.now entries.now next.0) }
+    ensures { IfOk result (AreReplayed program.now entries.now) }
 {
-    match follow(alloc, program, entries, events)? {
-        Ok(next) => Ok((next, reply)),
-        Err(why) => Ok((entered, Reply::Refused(why))),
+    match follow(alloc, program, entries, events, reply)? {
+        Ok(next) => Ok(next),
+        Err(why) => Ok(Entered {
+            reply: Reply::Refused(why),
+            ..entered
+        }),
     }
 }
 
@@ -98,12 +107,15 @@ pub fn enter<'a>(
     entries: &'a [EntryId],
     entered: Entered<'a>,
     line: &[u8],
-) -> Result<(Entered<'a>, Reply), AllocError>
+) -> Result<Entered<'a>, AllocError>
     requires { AreReplayed program.now entries.now entered }
-    ensures { IfOk result (λ next. AreReplayed program.now entries.now next.0) }
+    ensures { IfOk result (AreReplayed program.now entries.now) }
 {
     if line.starts_with(b"#") {
-        return Ok((entered, Reply::Ignored));
+        return Ok(Entered {
+            reply: Reply::Ignored,
+            ..entered
+        });
     }
     let mut events = Vec::from_slice(alloc, entered.events.as_slice())?;
     if line == b"undo".as_slice() {
@@ -112,7 +124,10 @@ pub fn enter<'a>(
         return follow_or_keep(alloc, program, entries, entered, events, Reply::Undone);
     }
     let Some(whole) = whole_line(alloc, program, &entered, line)? else {
-        return Ok((entered, Reply::NothingOffered));
+        return Ok(Entered {
+            reply: Reply::NothingOffered,
+            ..entered
+        });
     };
     events.extend_from_slice(whole.as_slice())?;
     events.push(b'\n')?;

@@ -126,12 +126,11 @@ pub fn prompt_for(
     alloc: Global,
     program: &Program<'_>,
     entered: &Entered<'_>,
-    reply: Reply,
     texts: &[RoutineText<'_>],
 ) -> Result<Vec<u8>, AllocError> {
     let mut text = Vec::new(alloc);
-    text.extend_from_slice(words_of(reply).as_bytes())?;
-    if let Reply::Taken | Reply::Undone = reply {
+    text.extend_from_slice(words_of(entered.reply).as_bytes())?;
+    if let Reply::Taken | Reply::Undone = entered.reply {
         let jobs = explained_text(alloc, &entered.system, texts)?;
         text.extend_from_slice(jobs.as_slice())?;
     }
