@@ -28,7 +28,7 @@ pub enum Reply {
     Refused(EventsRefusal),
     /// it asks for what is offered, and nothing is
     NothingOffered,
-    /// it is blank or a comment
+    /// it is a comment
     Ignored,
 }
 

@@ -277,7 +277,7 @@ fn add_target<'a>(items: &mut Items<'a, '_>, target: &'a Target) -> Result<(), A
     }
 }
 
-// Adds the parts of each argument, the first of which begins at `at`, and of what ends each.
+// Adds the parts of each argument, and what ends it. The first argument begins at `at`.
 fn add_each<'a, T: HasItems>(
     items: &mut Items<'a, '_>,
     arguments: &'a [T],

@@ -59,8 +59,8 @@ fn size_of_pending(alloc: Global, item: &Pending<'_>) -> Result<usize, AllocErro
     }
 }
 
-// The stages of `items`, the first of which is the last one that is done, behind `next`. If that decides on a condition of `$SELECT`,
-// no step of the condition is left.
+// The stages of `items`, which come after `next`; the innermost first. If `next` decides on a condition of `$SELECT`, no step of the
+// condition is left.
 fn stages_of(
     alloc: Global,
     next: &Pending<'_>,
