@@ -272,17 +272,19 @@ fn print_certificate<W: Watch>(
     })
 }
 
-/// The texts of the routines, with their paths.
+/// The texts of the routines, as they are and as they are read, with their paths.
 pub(crate) fn routine_texts_of<'t>(
     alloc: Global,
     request: &'t ProgramRequest<'t>,
     sources: &'t Sources<'t>,
 ) -> Result<Vec<RoutineText<'t>>, AllocError> {
     let mut texts = Vec::new(alloc);
-    for (source, path) in sources.routines.iter().zip(request.routines.as_slice()) {
+    let shown = sources.routines.iter().zip(sources.as_read().iter());
+    for ((source, read), path) in shown.zip(request.routines.iter()) {
         texts.push(RoutineText {
             path: *path,
             text: source.text.as_slice(),
+            plain: read.text.as_slice(),
         })?;
     }
     Ok(texts)

@@ -10,11 +10,12 @@ use mlk_machine::System;
 use mlk_machine_view::system_text;
 use std::alloc::{AllocError, Global};
 
-/// The path of a routine, and its text.
+/// The path of a routine, its text, and the text that is read: the same, or one with other words of the same length.
 #[derive(Clone, Copy, Drop)]
 pub struct RoutineText<'t> {
     pub path: &'t str,
     pub text: &'t [u8],
+    pub plain: &'t [u8],
 }
 
 // The number of bytes before the first line feed.

@@ -114,19 +114,20 @@ fn push_question(
     }
 }
 
-// Appends the line of a job at `place`, which is in a routine with the text `given`, and what is asked there; returns the column.
+// Appends the line of a job at `place`, which is in the routine `given`, and what is asked there; returns the column.
 fn push_place(
     alloc: Global,
     text: &mut Vec<u8>,
     program: &Program<'_>,
     job: &Job<'_>,
     place: &Place<'_>,
-    given: &[u8],
+    given: &RoutineText<'_>,
 ) -> Result<Column, AllocError> {
     let number = place.line.number;
-    let lines = TextLines::of(alloc, given)?;
+    let lines = TextLines::of(alloc, given.text)?;
     let line = lines.line(number).unwrap_or(b"");
-    let spot = spot_of(alloc, job, place, line)?;
+    let plain_lines = TextLines::of(alloc, given.plain)?;
+    let spot = spot_of(alloc, job, place, plain_lines.line(number).unwrap_or(b""))?;
     let excerpt = Excerpt {
         number,
         line,
@@ -159,7 +160,7 @@ pub(crate) fn note_of(
     let position = Position {
         path: given.path,
         number,
-        column: push_place(alloc, &mut text, program, job, &place, given.text)?,
+        column: push_place(alloc, &mut text, program, job, &place, given)?,
     };
     let mut words = Vec::new(alloc);
     push_position(&mut words, routine, &position)?;
