@@ -30,7 +30,14 @@ fn next_value(alloc: Global, job: &Job<'_>) -> Result<Option<Value>, AllocError>
 }
 
 // The event of a step with a value that is known.
-fn valued_line(alloc: Global, job: &Job<'_>) -> Result<Option<Vec<u8>>, AllocError> {
+fn valued_line(
+    alloc: Global,
+    program: &Program<'_>,
+    job: &Job<'_>,
+) -> Result<Option<Vec<u8>>, AllocError> {
+    if question_of(program, job) != Question::Value {
+        return Ok(None);
+    }
     let Some(value) = next_value(alloc, job)? else {
         return Ok(None);
     };
@@ -62,6 +69,19 @@ fn is_waiting(system: &System<'_>, number: u32) -> bool {
     false
 }
 
+// The event of a step that other jobs notice, if it needs no choice, and no wait.
+fn plain_step_line(
+    alloc: Global,
+    program: &Program<'_>,
+    system: &System<'_>,
+    job: &Job<'_>,
+) -> Result<Option<Vec<u8>>, AllocError> {
+    if question_of(program, job) != Question::Nothing || is_waiting(system, job.number) {
+        return Ok(None);
+    }
+    plain_line(alloc, "go", job)
+}
+
 // The event that is offered for a job: what can only happen next.
 fn offer_for(
     alloc: Global,
@@ -69,14 +89,13 @@ fn offer_for(
     system: &System<'_>,
     job: &Job<'_>,
 ) -> Result<Option<Vec<u8>>, AllocError> {
-    match (state(program, job), question_of(program, job)) {
-        (State::Silent, _) => plain_line(alloc, "run", job),
-        (State::Stuck | State::Ended | State::Stopped, _) => Ok(None),
-        (State::Ready(_), Question::Value) => Ok(None),
-        (_, Question::Nothing) if is_waiting(system, job.number) => Ok(None),
-        (_, Question::Nothing) => plain_line(alloc, "go", job),
-        (_, Question::Value) => valued_line(alloc, job),
-        (_, Question::Truth | Question::Time) => Ok(None),
+    match state(program, job) {
+        State::Silent => plain_line(alloc, "run", job),
+        State::AsksChoice => valued_line(alloc, program, job),
+        State::Ready(_) | State::Claims(_, _) | State::Releases => {
+            plain_step_line(alloc, program, system, job)
+        }
+        State::Stuck | State::Ended | State::Stopped => Ok(None),
     }
 }
 
