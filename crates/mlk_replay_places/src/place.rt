@@ -129,8 +129,8 @@ fn work_before<'a>(pending: &[Pending<'a>], at: usize, rest: &Rest<'a>) -> Work<
     let Some(found) = stretch.before else {
         return Work::Begins(rest.line.end);
     };
-    let (below, own) = pending.split_at(at.min(pending.len()));
-    let left = parameters_left(own.first());
+    let below = pending.get(..at).unwrap_or(&[]);
+    let left = parameters_left(pending.get(at));
     Work::Parameters(found, left.or(parameters_left(below.last())))
 }
 

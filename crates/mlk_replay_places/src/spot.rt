@@ -283,13 +283,14 @@ pub fn spot_of<'a>(
     line: &[u8],
 ) -> Result<Spot<'a>, AllocError> {
     let pending = job.pending.as_slice();
-    let (_, own) = pending.split_at(place.later.min(pending.len()));
-    let Some((next, after)) = own.split_last() else {
+    let own = pending.get(place.later..).unwrap_or(&[]);
+    let Some(next) = own.last() else {
         return Ok(Spot {
             column: begin_of(place),
             part: None,
         });
     };
+    let after = own.get(..own.len().saturating_sub(1)).unwrap_or(&[]);
     let stages = stages_of(alloc, next, after)?;
     let spot = spot_in_work(alloc, place, stages.as_slice(), line)?;
     let Some(part) = spot.part else {
