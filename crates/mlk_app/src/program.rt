@@ -4,7 +4,7 @@ ghost use Rattle.std.specs.Prelude.{◌≡◌, ◌≢◌, IfOk};
 ghost use Rattle.std.specs.IoError.{error_kind};
 ghost use Rattle.mlk_cli.specs.declared.words.Request.TheVariants as wanted;
 ghost use Rattle.mlk_app.specs.Ran.{style_in, IsErrorLine, IsRefusalLine, PrintsSurvey, TellsRefusal, TellsFault, TellsBaseline, TellsUnread, TellsUnfound, TellsPage, Answers, AnswersFound, AnswersLine, AnswersWords, Ran};
-ghost use Rattle.mlk_app.specs.Files.{AreTexts, LosesPath, given_path, written_path};
+ghost use Rattle.mlk_app.specs.Files.{AreTexts, LosesPath, given_path, new_path, written_path};
 ghost use Rattle.mlk_app.specs.declared.source.Work.TheVariants as work;
 ghost use Rattle.mlk_app.specs.Printing.{IsReportAnswer};
 ghost use Rattle.mlk_cli.specs.CommandLine.{bytes_of};
@@ -259,17 +259,20 @@ fn answer_sources<R: Threads + Wait + Sync, F: Files, W: Watch>(
     }
 }
 
-// The path of the events that are asked for and written; `None` if they are only read.
+// The path of events if a person is asked for them; `None` if they are only read.
+fn new_path(is_interactive: bool, path: &str) -> Option<&str>
+    ensures { given_path result ≡ new_path is_interactive path.now }
+{
+    if is_interactive { Some(path) } else { None }
+}
+
+// The path of the events that are asked for and written; `None` if there are none.
 fn written_events<'a>(program: &ProgramRequest<'a>) -> Option<&'a str>
     ensures { given_path result ≡ written_path program.now.asked }
 {
-    let Asked::Replay { events, style } = &program.asked else {
-        return None;
-    };
-    if style.is_interactive {
-        Some(*events)
-    } else {
-        None
+    match &program.asked {
+        Asked::Replay { events, style } => new_path(style.is_interactive, *events),
+        Asked::Check { .. } | Asked::Make { .. } | Asked::Verify { .. } => None,
     }
 }
 

@@ -232,9 +232,11 @@ fn read_events<'a, F: Files>(
     ensures lost { IfErr result (LosesFirst (F.holds files.now) (F.unreadable files.now) (events_path is_interactive path.now)) }
 {
     if is_interactive {
-        return read_begun(alloc, files, path);
+        let begun = read_begun(alloc, files, path)?;
+        return Ok(begun);
     }
-    read_file(alloc, files, path)
+    let text = read_file(alloc, files, path)?;
+    Ok(text)
 }
 
 // The text of the certificate, or of the events, where one is named, and the number of workers or the format.
