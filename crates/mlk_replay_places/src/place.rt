@@ -55,16 +55,18 @@ fn is_after(rest: &Rest<'_>, next: &For) -> bool {
 
 // The commands of `commands`, which are after the FOR `before`, among which `rest` begins.
 fn stretch_of<'a>(before: Option<&'a For>, commands: &'a Commands, rest: &Rest<'a>) -> Stretch<'a> {
-    match &commands.last {
-        Some(next) if !is_after(rest, next) => {
-            let next: &'a For = next;
-            stretch_of(Some(next), &next.rest, rest)
-        }
-        _ => Stretch {
-            before,
-            commands: commands.before.as_slice(),
-        },
+    let here = Stretch {
+        before,
+        commands: commands.before.as_slice(),
+    };
+    let Some(next) = &commands.last else {
+        return here;
+    };
+    if is_after(rest, next) {
+        return here;
     }
+    let next: &'a For = next;
+    stretch_of(Some(next), &next.rest, rest)
 }
 
 // The column of a FOR's variable, or of its word if it has none.
