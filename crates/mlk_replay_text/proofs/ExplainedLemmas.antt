@@ -1,6 +1,11 @@
 -- A text with notes, from what is left of it.
-use Rattle.std.proofs.Common.{◌≡◌, ◌∙◌, ◌++◌, ℕ, List, [], ◌∷◌, refl, sym, ap, subst, append_assoc}
+use Rattle.std.proofs.Common.{◌≡◌, ◌∙◌, ◌++◌, ℕ, List, [], ◌∷◌, take, drop, refl, sym, ap, subst, append_assoc, take-append-drop}
 use Rattle.mlk_replay_text.specs.Explained.{IsExplained, Continues, lines_of, lines_and_notes_of}
+
+-- a text is its first line, the line's end, and the rest
+pub line_cut : (text line end rest : List ℕ) (n : ℕ) → line ≡ take n text → end ≡ drop n text → end ≡ 10 ∷ rest → text ≡ line ++ 10 ∷ rest
+line_cut text line end rest n front back is =
+    sym (take-append-drop n text) ∙ ap (λ x. x ++ drop n text) (sym front) ∙ ap (λ x. line ++ x) (sym back ∙ is)
 
 pub same_continues : (old left : List ℕ) → Continues old left old left
 same_continues old left = record { continues = λ later h. (later, h, refl) }

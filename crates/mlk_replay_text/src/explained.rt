@@ -1,6 +1,6 @@
 // The text of a system, with notes on where its jobs are.
 
-ghost use Rattle.std.specs.Prelude.{◌≤◌, IfOk, length};
+ghost use Rattle.std.specs.Prelude.{◌≡◌, ◌≤◌, ◌∷◌, ◌++◌, IfOk, IfSome, length};
 ghost use Rattle.mlk_machine.specs.Systems.{jobs_in, routines_in};
 ghost use Rattle.mlk_machine_view.specs.Printed.{system_text};
 ghost use Rattle.mlk_replay_text.specs.Explained.{IsExplained, Continues};
@@ -39,18 +39,26 @@ fn notes_of(
     Ok(notes)
 }
 
+// The first line of `text` without its end, and what is after it; `None` if no line ends.
+#[tactic(auto, using(crate::proofs::ExplainedLemmas::line_cut))]
+fn first_line(text: &[u8]) -> Option<(&[u8], &[u8])>
+    ensures { IfSome result (λ parts. text.now ≡ parts.0.now ++ 10 ∷ parts.1.now) }
+{
+    let (line, end) = text.split_at(line_length(text));
+    match end {
+        [b'\n', rest @ ..] => Some((line, rest)),
+        _ => None,
+    }
+}
+
 // Appends the first line of `left`, and `note` below it; returns the rest. Nothing is appended if no line ends.
 #[tactic(auto, using(crate::proofs::ExplainedLemmas::same_continues, crate::proofs::ExplainedLemmas::line_continues))]
 fn push_noted<'p>(text: &mut Vec<u8>, left: &'p [u8], note: &[u8]) -> Result<&'p [u8], AllocError>
     ensures { IfOk result (λ rest. Continues text.old.items left.now text.new.items rest.now) }
 {
-    let (line, end) = left.split_at(line_length(left));
-    let Some((first, rest)) = end.split_first() else {
+    let Some((line, rest)) = first_line(left) else {
         return Ok(left);
     };
-    if *first != b'\n' {
-        return Ok(left);
-    }
     text.extend_from_slice(line)?;
     text.push(b'\n')?;
     text.extend_from_slice(note)?;
