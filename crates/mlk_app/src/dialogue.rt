@@ -1,15 +1,11 @@
 // Events that a person enters.
 
-ghost use Rattle.std.specs.Prelude.{IfOk};
-ghost use Rattle.mlk_replay_dialogue.specs.Entering.{AreReplayed};
-
 use crate::source::{Files, Sources};
 use crate::work::routine_texts_of;
-use bstr::ByteSlice;
 use mlk_cli::ProgramRequest;
 use mlk_pool::read_routines;
 use mlk_program::{EntryId, Program, link};
-use mlk_replay_dialogue::{Entered, enter, prompt_for, start};
+use mlk_replay_dialogue::{enter, prompt_for, resume};
 use mlk_replay_text::RoutineText;
 use mlk_rules::{Rules, entries};
 use mlk_rules_file::read_rules;
@@ -49,29 +45,17 @@ struct Stage<'a> {
     texts: &'a [RoutineText<'a>],
 }
 
-// The events of `given`, as far as they can be followed.
-fn enter_lines<'a>(
-    alloc: Global,
-    stage: &Stage<'a>,
-    given: &[u8],
-) -> Result<Entered<'a>, AllocError>
-    ensures { IfOk result (AreReplayed stage.now.program.now stage.now.entries.now) }
-{
-    let mut entered = start(alloc, stage.program, stage.entries)?;
-    for line in given.lines() {
-        entered = enter(alloc, stage.program, stage.entries, entered, line)?;
-    }
-    Ok(entered)
-}
-
-// Asks for events after those of `given`, until the input ends.
+// Asks for events after those of `given`, until the input ends; nothing if a line of `given` can't be followed.
 fn ask_events<F: Files>(
     alloc: Global,
     files: &F,
     stage: &Stage<'_>,
     given: &[u8],
 ) -> Result<Vec<u8>, AllocError> {
-    let mut entered = enter_lines(alloc, stage, given)?;
+    let Some(resumed) = resume(alloc, stage.program, stage.entries, given)? else {
+        return Vec::from_slice(alloc, given);
+    };
+    let mut entered = resumed;
     let mut shown = Vec::from_slice(alloc, WELCOME)?;
     for _ in 0..u64::MAX {
         let prompt = prompt_for(alloc, stage.program, &entered, stage.texts)?;
@@ -119,8 +103,8 @@ fn ask_about_routines<F: Files>(
     ask_events(alloc, files, &stage, given)
 }
 
-/// Asks a person for events after those of `given`, and returns all of them. Nothing is asked if the routines or the rules are
-/// refused.
+/// Asks a person for events after those of `given`, and returns all of them. Nothing is asked if the routines, the rules or the
+/// events of `given` are refused.
 pub(crate) fn ask_for_events<R: Threads + Wait + Sync, F: Files, W: Watch>(
     runner: &Runner<'_, R, W>,
     files: &F,

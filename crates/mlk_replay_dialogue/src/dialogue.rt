@@ -1,6 +1,6 @@
 // Events that are entered one after another.
 
-ghost use Rattle.std.specs.Prelude.{IfOk};
+ghost use Rattle.std.specs.Prelude.{IfOk, IfSome};
 ghost use Rattle.mlk_replay_dialogue.specs.Entering.{AreReplayed};
 
 use crate::line::whole_line;
@@ -53,17 +53,19 @@ fn follow<'a>(
     }
 }
 
-/// No events. Jobs begin at `entries`.
-pub fn start<'a>(
+/// The events of `given`, and the jobs after them, which begin at `entries`; `None` if one of its lines can't be followed.
+pub fn resume<'a>(
     alloc: Global,
     program: &'a Program<'a>,
     entries: &'a [EntryId],
-) -> Result<Entered<'a>, AllocError>
-    ensures { IfOk result (AreReplayed program.now entries.now) }
+    given: &[u8],
+) -> Result<Option<Entered<'a>>, AllocError>
+    ensures { IfOk result (λ answer. IfSome answer (AreReplayed program.now entries.now)) }
 {
-    match follow(alloc, program, entries, Vec::new(alloc), Reply::Taken)? {
-        Ok(entered) => Ok(entered),
-        Err(_) => Err(AllocError),
+    let events = Vec::from_slice(alloc, given)?;
+    match follow(alloc, program, entries, events, Reply::Taken)? {
+        Ok(entered) => Ok(Some(entered)),
+        Err(_) => Ok(None),
     }
 }
 

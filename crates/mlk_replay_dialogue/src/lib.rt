@@ -6,5 +6,5 @@ mod dialogue;
 mod line;
 mod offer;
 
-pub use dialogue::{Entered, Reply, enter, start};
+pub use dialogue::{Entered, Reply, enter, resume};
 pub use offer::prompt_for;
