@@ -4,10 +4,10 @@
     changed_definitions.py FOLDER [NAME..]
 
 Each change makes the check say `yes` to programs whose runs break the rules, or lets the theorem promise more than the rules ask
-for. The script writes a skeleton of the repository to
-FOLDER (see skeleton.py) and checks the proof there as it is. Then it makes the changes one at a time, all of them or those that
-are named, and checks the proof again after each. The code is not part of this: each function is proved to compute its
-definition. The first check takes about ten minutes, each change about three more.
+for; or it breaks a law of the plain text of words beyond the subset, or of routines that were read. The script writes a skeleton
+of the repository to FOLDER (see skeleton.py) and checks the proof there as it is. Then it makes the changes one at a time, all of
+them or those that are named, and checks the proof again after each. The code of the check is not part of this: each function is
+proved to compute its definition. The first check takes about ten minutes, each change about three more.
 """
 import pathlib
 import subprocess
@@ -16,14 +16,21 @@ import sys
 import skeleton
 
 CRATES = ['mlk_machine_laws', 'mlk_soundness_machine', 'mlk_soundness_walk']
+# The plain text of words beyond the subset has laws of its own, beside the theorem.
+DIALECT = 'mlk_dialect'
+# So has what the reader of routines takes.
+READER = 'mlk_routine_laws'
 # General laws of the walk, which the proof uses: a change that is refused there shows nothing of the theorem.
 LAWS = 'mlk_walk_laws'
 CHANGES, CLAIMS, CALLS = 'mlk_calls/specs/Changes.antt', 'mlk_calls/specs/Claims.antt', 'mlk_calls/specs/Calls.antt'
 REFERENCES = 'mlk_walk_exprs/specs/References.antt'
-ARGUMENTS, LOCKS, NEWS = (f'mlk_walk_commands/specs/{name}.antt' for name in ('Arguments', 'Locks', 'News'))
+ARGUMENTS, NEWS = (f'mlk_walk_commands/specs/{name}.antt' for name in ('Arguments', 'News'))
+LOCKS = 'mlk_walk_locks/specs/Locks.antt'
 COMMANDS, ENDS, LOOPS = (f'mlk_walk_lines/specs/{name}.antt' for name in ('Commands', 'Endings', 'Loops'))
 VERDICTS = 'mlk_walk/specs/Verdicts.antt'
 LAWS_OF_RUNS = 'mlk_machine_laws/specs/Laws.antt'
+GRAMMAR = 'mlk_routine_arguments/specs/CommandGrammar.antt'
+WORDS, PLAIN = (f'{DIALECT}/specs/{name}.antt' for name in ('Words', 'Plain'))
 
 # The changes, each named for what the check then allows or gets wrong, or what the theorem then claims: a file, a text that occurs
 # in it once, and what replaces it.
@@ -88,12 +95,30 @@ CHANGED = {
     # The theorem
     'no-clash-though-rules-free-reads': (
         LAWS_OF_RUNS, '(clash : Clash i j) → OneReadsFreely rules clash.one clash.other', 'Clash i j → ⊥'),
+    # Words beyond the subset
+    'text-of-a-line-runs-into-the-next-line': (
+        WORDS, 'is_line_byte b = is_name_byte b || (b == 37)', 'is_line_byte b = is_name_byte b || (b == 10) || (b == 37)'),
+    'the-end-of-a-line-is-a-space': (
+        PLAIN, 'own_byte (place.Code before) b = if b == 9 then 32 else b',
+        'own_byte (place.Code before) b = if (b == 9) || (b == 13) then 32 else b'),
+    # What is read in a timeout
+    'a-call-in-a-timeout-beside-another-call': (
+        GRAMMAR, 'in_timeout dialect.Extended quiet = if quiet then Everything else NoCalls',
+        'in_timeout dialect.Extended quiet = Everything'),
+    'a-call-in-a-timeout-in-the-standard-dialect': (
+        GRAMMAR, 'in_timeout dialect.Standard quiet = NoCalls', 'in_timeout dialect.Standard quiet = Everything'),
 }
 
 
-def proof(folder):
-    """Checks the crates of the proof: the first that is not proved, if there is one, and the first places of its errors."""
-    for crate in [LAWS, *CRATES]:
+def crates_of(place):
+    """The crates whose proof a change of a file in this place has to break."""
+    own = {DIALECT: [DIALECT], GRAMMAR.partition('/')[0]: [READER]}
+    return own.get(place.partition('/')[0], [LAWS, *CRATES])
+
+
+def proof(folder, crates):
+    """Checks the crates of a proof: the first that is not proved, if there is one, and the first places of its errors."""
+    for crate in crates:
         command = ['rt', 'lib' if crate == LAWS else 'check']
         run = subprocess.run(command, cwd=folder / 'crates' / crate, text=True, stdout=subprocess.PIPE, stderr=subprocess.STDOUT)
         if run.returncode != 0:
@@ -109,9 +134,9 @@ def tried(folder, name):
     if text.count(old) != 1:
         return f'BAD CHANGE: {old!r} occurs {text.count(old)} times in {place}'
     path.write_text(text.replace(old, new))
-    crate, places = proof(folder)
+    crate, places = proof(folder, crates_of(place))
     path.write_text(text)
-    own = [line for line in places if line.startswith('./proofs/') and crate in CRATES]
+    own = [line for line in places if line.startswith('./proofs/') and crate != LAWS]
     if crate is None:
         return 'STILL PROVED'
     return f'refused, as it must be: {crate}, {own[0][:160]}' if own else f'FAILED ELSEWHERE: {crate}: {places}'
@@ -119,8 +144,8 @@ def tried(folder, name):
 
 def main(folder, names):
     folder = pathlib.Path(folder).resolve()
-    skeleton.main(folder, CRATES)
-    crate, places = proof(folder)
+    skeleton.main(folder, [*CRATES, DIALECT, READER])
+    crate, places = proof(folder, [LAWS, *CRATES, DIALECT, READER])
     if crate is not None:
         sys.exit(f'not proved as it is: {crate}: {places}')
     print('proved as it is', flush=True)

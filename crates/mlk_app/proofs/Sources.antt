@@ -15,7 +15,7 @@ use Rattle.mlk_cli.specs.declared.words.ProgramRequest.{ProgramRequest}
 use Rattle.mlk_app.specs.Files.{Texts, IsSource, AreSources, AreTexts, AreHeld, AreEvents, IsWork, Loses, LosesFirst, events_path, new_path, work_path, written_path}
 use Rattle.mlk_cli.specs.CommandLine.{bytes_of}
 
--- what stands before a path, the path, and what stands after it
+-- what comes before a path, the path, and what comes after it
 cut-at : (paths : List (Bor (List ℕ))) (i : ℕ) (d : Bor (List ℕ)) → i < length paths → bytes_of paths ≡ bytes_of (take i paths) ++ (slice_index_or paths i d).now ∷ bytes_of (drop (i + 1) paths)
 cut-at paths i d less =
     ap bytes_of (sym (take-append-drop i paths)) ∙ map-append (λ p. p.now) (take i paths) (drop i paths) ∙ ap (λ l. bytes_of (take i paths) ++ bytes_of l) (drop_more paths i d less)

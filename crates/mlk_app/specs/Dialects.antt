@@ -1,15 +1,15 @@
 -- The texts of routines as they are read, by how much of M is read. This project's own choice.
-use Rattle.std.specs.Prelude.{ℕ, ◌≡◌, ◌+◌, min, List, [], ◌∷◌, Option, None, Some, option_map, Vec}
-use Rattle.std.specs.Global.{Global}
-use Rattle.mlk_cli.specs.declared.words.Dialect.{Dialect}
-use Rattle.mlk_cli.specs.declared.words.Dialect.TheVariants as dialect
+use Rattle.std.specs.Prelude.{ℕ, ◌≡◌, ◌+◌, min, List, [], ◌∷◌, Option, None, Some, option_map}
+use Rattle.mlk_dialect.specs.declared.dialect.Dialect.{Dialect}
+use Rattle.mlk_dialect.specs.declared.dialect.Dialect.TheVariants as dialect
 use Rattle.mlk_pool.specs.declared.source.Source.{Source}
 use Rattle.mlk_dialect.specs.Plain.{plain, inert}
 use Rattle.mlk_app.specs.declared.dialect.PlainSources.{PlainSources}
 use Rattle.mlk_app.specs.declared.source.Sources.{Sources}
 
--- the routine with its plain text
+-- the routine with its plain text, to be read in the extended dialect
 pub record IsPlain (source read : Source) : Type 0 where
+  pub dialect : read.dialect ≡ dialect.Extended
   pub stem : read.stem.now ≡ source.stem.now
   pub text : read.text.items ≡ plain source.text.items
 

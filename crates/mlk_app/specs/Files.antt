@@ -4,6 +4,7 @@ use Rattle.std.specs.Prelude.{Bool, true, false, Option, None, Some, option_map,
 use Rattle.std.specs.Borrow.{Bor}
 use Rattle.std.specs.Global.{Global}
 use Rattle.mlk_app.specs.Dialects.{ArePlainIn}
+use Rattle.mlk_dialect.specs.declared.dialect.Dialect.TheVariants as dialect
 use Rattle.mlk_app.specs.declared.source.FileError.{FileError}
 use Rattle.mlk_app.specs.declared.source.FileError.TheVariants as error
 use Rattle.mlk_pool.specs.declared.source.Source.{Source}
@@ -25,11 +26,11 @@ use Rattle.mlk_cli.specs.declared.words.Request.TheVariants as request
 abbrev pub Lacks : ℕ → List ℕ → Type 0
 Lacks b text = (i : ℕ) → i < length text → slice_index text i ≡ b → ⊥
 
--- a file's name: what stands after the last slash of its path, or the whole path
+-- a file's name: what follows the last slash of its path, or the whole path
 abbrev pub IsFileName : List ℕ → List ℕ → Type 0
 IsFileName path name = Lacks 47 name × ((path ≡ name) ⊎ ((folder : List ℕ) × (path ≡ folder ++ 47 ∷ name)))
 
--- the stem of a name: what stands before its last dot, or the whole name where it has none
+-- the stem of a name: what precedes its last dot, or the whole name if it has none
 abbrev pub IsNameStem : List ℕ → List ℕ → Type 0
 IsNameStem name stem = ((name ≡ stem) × Lacks 46 name) ⊎ ((ending : List ℕ) × (name ≡ stem ++ 46 ∷ ending) × Lacks 46 ending)
 
@@ -50,7 +51,7 @@ texts_below found = option_map (λ v. map string_bytes v.items) found
 
 -- a routine is the text at its path, under the stem of its file's name
 abbrev pub IsSource : Texts → List ℕ → Source → Type 0
-IsSource holds path source = IsPathStem path source.stem.now × holds path source.text.items
+IsSource holds path source = (source.dialect ≡ dialect.Standard) × IsPathStem path source.stem.now × holds path source.text.items
 
 -- the routines are those of these paths, in order, and no others
 abbrev pub AreSources : Texts → List (Bor (List ℕ)) → List Source → Type 0

@@ -290,7 +290,7 @@ pub record AreUnwritten (program : ProgramRequest) (line : List ℕ) : Type 0 wh
   pub named : written_path program.asked ≡ path ∷ []
   pub printed : line ≡ file_line path
 
--- the text in this format of the certificate whose text stands at the path
+-- the text in this format of the certificate whose text is at the path
 pub record IsConvertedThere (holds : Texts) (path : List ℕ) (format : CertFormat) (text : List ℕ) : Type 0 where
   pub given : List ℕ
   pub held : holds path given

@@ -57,8 +57,12 @@ fn sources_with<'a>(
     let mut mended = Vec::with_capacity(alloc, texts.len())?;
     for (source, text) in sources.routines.iter().zip(texts) {
         let text = Vec::from_slice(alloc, text.as_slice())?;
-        let stem = source.stem;
-        let Ok(()) = mended.push(Source { stem, text }) else {
+        let copy = Source {
+            dialect: source.dialect,
+            stem: source.stem,
+            text,
+        };
+        let Ok(()) = mended.push(copy) else {
             return Err(AllocError);
         };
     }

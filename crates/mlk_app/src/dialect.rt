@@ -1,11 +1,10 @@
 // Texts of routines beyond the subset, as they are read.
 
-ghost use Rattle.std.specs.Prelude.{◌≡◌, ◌+◌, ◌++◌, [], ◌∷◌, min, length, IfOk, OnOk};
+ghost use Rattle.std.specs.Prelude.{◌≡◌, min, IfOk};
 ghost use Rattle.mlk_dialect.specs.Plain.{inert};
 ghost use Rattle.mlk_app.specs.Dialects.{IsPlain, ArePlain, ArePlainIn, inert_of};
 
-use mlk_cli::Dialect;
-use mlk_dialect::{PlainText, plain_text};
+use mlk_dialect::{Dialect, PlainText, plain_text};
 use mlk_pool::Source;
 use std::alloc::{AllocError, Global};
 
@@ -29,11 +28,12 @@ fn plain_source<'a>(alloc: Global, source: &Source<'a>) -> Result<PlainSource<'a
     ensures inert { IfOk result (λ p. p.inert ≡ inert source.now.text.items) }
 {
     let PlainText { text, inert } = plain_text(alloc, source.text.as_slice())?;
-    let stem = source.stem;
-    Ok(PlainSource {
-        source: Source { stem, text },
-        inert,
-    })
+    let source = Source {
+        dialect: Dialect::Extended,
+        stem: source.stem,
+        text,
+    };
+    Ok(PlainSource { source, inert })
 }
 
 // The routines with their plain texts, in their order.

@@ -6,10 +6,12 @@ use crate::stuck::push_faults;
 use crate::work::style_in;
 use mlk_cert::CertFault;
 use mlk_cli::ProgramRequest;
+use mlk_dialect::Dialect;
 use mlk_outcome::NoReport;
 use mlk_pool::CheckError;
 use mlk_refusal_text::{
-    GivenFile, Spot, code_help, entry_help, line_help, routine_help, rules_help, unread_help,
+    GivenFile, Spot, code_help, entry_help, extended_note, line_help, routine_help, rules_help,
+    unread_help,
 };
 use mlk_rules_file::RulesFault;
 use mlk_text::{Code, Fault};
@@ -32,17 +34,34 @@ pub(crate) fn is_refusal_explained(program: &ProgramRequest<'_>, explaining: Exp
     style_in(&program.asked).is_explained || explaining == Explaining::Refusals
 }
 
-// What explains a refusal of this code in a file.
+// What explains why the routine in `file` is refused, which is read in `dialect`.
+fn routine_explanation(
+    alloc: Global,
+    dialect: Dialect,
+    file: &GivenFile<'_>,
+    fault: &Fault,
+) -> Result<Vec<u8>, AllocError> {
+    let note = match dialect {
+        Dialect::Standard => extended_note(alloc, file, fault)?,
+        Dialect::Extended => None,
+    };
+    routine_help(alloc, file, fault, note)
+}
+
+// What explains a refusal of this code in a file, where routines are read in `dialect`.
 fn explanation(
     alloc: Global,
     code: Code,
     refusal: &NoReport,
+    dialect: Dialect,
     file: &GivenFile<'_>,
 ) -> Result<Vec<u8>, AllocError> {
     match refusal {
         NoReport::Check(CheckError::Rules(fault)) => rules_help(alloc, file, fault),
         NoReport::Check(CheckError::Entry(entry)) => entry_help(alloc, file, entry.as_bytes()),
-        NoReport::Check(CheckError::Routine(fault)) => routine_help(alloc, file, fault),
+        NoReport::Check(CheckError::Routine(fault)) => {
+            routine_explanation(alloc, dialect, file, fault)
+        }
         _ => match refused_spot(alloc, refusal, file.text) {
             Ok(Some(spot)) => line_help(alloc, code, file, spot),
             Ok(None) => code_help(alloc, code),
@@ -67,7 +86,7 @@ pub(crate) fn refusal_help<R: Threads + Wait + Sync, W: Watch>(
         _ => return Ok(Vec::new(alloc)),
     };
     let mut help = match refused_file(refusal, program, sources) {
-        Some(file) => explanation(alloc, code, refusal, &file)?,
+        Some(file) => explanation(alloc, code, refusal, sources.dialect(), &file)?,
         None => code_help(alloc, code)?,
     };
     if code == Code::GaveUp && style_in(&program.asked).is_explained {

@@ -1,6 +1,6 @@
 // The files that a command names.
 
-ghost use Rattle.std.specs.Prelude.{◌≡◌, ◌≢◌, List, ℕ, Option, IfOk, IfErr, length};
+ghost use Rattle.std.specs.Prelude.{◌≡◌, ◌≢◌, List, ℕ, Option, IfOk, IfErr};
 ghost use Rattle.std.specs.IoError.{error_kind};
 ghost use Rattle.mlk_app.specs.Files.{IsFileName, IsNameStem, IsPathStem, IsSource, AreSources, IsWork, IsGivenText, AreTexts, cert_format, given_path, work_path, program_paths, texts_below, AreEvents, events_path, Loses, LosesFirst};
 ghost use Rattle.mlk_app.specs.Dialects.{as_read, rests_of};
@@ -9,7 +9,8 @@ ghost use Rattle.mlk_cli.specs.CommandLine.{bytes_of};
 
 use crate::dialect::{PlainSources, plain_in};
 use mlk_cert::CertFormat;
-use mlk_cli::{Asked, Dialect, Format, ProgramRequest};
+use mlk_cli::{Asked, Format, ProgramRequest};
+use mlk_dialect::Dialect;
 use mlk_pool::Source;
 use mlk_suggest_read::RoutineText;
 use mlk_text::push_sparing;
@@ -168,7 +169,11 @@ fn read_source<'a, F: Files>(
 {
     let text = read_file(alloc, files, path)?;
     let stem = stem_of(path).as_bytes();
-    Ok(Source { stem, text })
+    Ok(Source {
+        dialect: Dialect::Standard,
+        stem,
+        text,
+    })
 }
 
 /// The texts of routines, in the order of their paths.
@@ -318,6 +323,7 @@ pub(crate) fn routine_texts<'s>(
     let mut texts = Vec::with_capacity(alloc, sources.len())?;
     for source in sources {
         let text = RoutineText {
+            dialect: source.dialect,
             stem: source.stem,
             text: source.text.as_slice(),
         };

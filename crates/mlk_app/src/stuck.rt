@@ -1,4 +1,4 @@
-// What is known of a program of which no certificate can be made.
+// What is known of a program for which no certificate can be made.
 
 ghost use Rattle.std.specs.Prelude.{IfOk};
 ghost use Rattle.mlk_app.specs.Ran.{style_in};
@@ -88,7 +88,7 @@ fn explain_routines<R: Threads + Wait + Sync, W: Watch>(
     explain_program(runner, &program, &rules, sources, form)
 }
 
-/// Adds to `text` the faults of a program of which no certificate can be made, with what explains them: those of the entries that
+/// Adds to `text` the faults of a program for which no certificate can be made, with what explains them: those of the entries that
 /// were given up, by what was found until then, and those of all others. The texts are read once more.
 pub(crate) fn push_faults<R: Threads + Wait + Sync, W: Watch>(
     runner: &Runner<'_, R, W>,
@@ -120,7 +120,7 @@ fn inputs_of<'a>(program: &'a ProgramRequest<'a>, routines: &'a [Routine]) -> Re
     }
 }
 
-// Writes `notice` for other programs, with the faults of a program of which no certificate can be made.
+// Writes `notice` for other programs, with the faults of a program for which no certificate can be made.
 fn render_despite<R: Threads + Wait + Sync, W: Watch>(
     runner: &Runner<'_, R, W>,
     notice: &Notice<'_>,
@@ -141,7 +141,7 @@ fn render_despite<R: Threads + Wait + Sync, W: Watch>(
     render_given_up(alloc, notice, &inputs, &faults, output)
 }
 
-/// Writes the notice of a refusal. That of a program of which no certificate can be made has the faults that are found all the same;
+/// Writes the notice of a refusal. That of a program for which no certificate can be made has the faults that are found all the same;
 /// for these the texts are read once more. Nothing is written, and nothing looked for, if a text is asked for.
 pub(crate) fn render_refusal<R: Threads + Wait + Sync, W: Watch>(
     runner: &Runner<'_, R, W>,

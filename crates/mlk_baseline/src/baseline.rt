@@ -115,7 +115,7 @@ impl<'t> Baseline<'t> {
         self.counts.get(key).copied().unwrap_or(0)
     }
 
-    // The known faults of which fewer were met.
+    // The known faults that were met less often than listed.
     fn gone(&self, alloc: Global, met: &Met<'_>) -> Result<Vec<GoneFault<'t>>, AllocError> {
         let mut gone = Vec::new(alloc);
         for (key, known) in &self.counts {

@@ -85,9 +85,9 @@ impl KnownFaults {
         })
     }
 
-    fn has_standing(&self, entry: EntryId, note: &Note) -> bool {
-        match &note.standing {
-            Some(standing) => self.has_held(entry, standing.held.as_slice()),
+    fn has_noted_locks(&self, entry: EntryId, note: &Note) -> bool {
+        match &note.situation {
+            Some(situation) => self.has_held(entry, situation.held.as_slice()),
             None => !self.locks_of(entry).is_empty(),
         }
     }
@@ -116,7 +116,7 @@ impl KnownFaults {
             | Code::HeldAtEnd
             | Code::NameEscapes
             | Code::DropsFrame
-            | Code::TooManyCases => self.has_place(row) || self.has_standing(row.entry, note),
+            | Code::TooManyCases => self.has_place(row) || self.has_noted_locks(row.entry, note),
             _ => self.has_place(row),
         }
     }

@@ -211,7 +211,7 @@ impl<'a> Reader<'a> {
         Ok(Some(Vec::from_slice(self.alloc, written)?))
     }
 
-    // Whether an entry needs no lock of some root of which it needed one before anything was mended.
+    // Whether an entry needs no lock of some root any more, though it needed one before anything was mended.
     fn needs_less(&self, entry: EntryId) -> bool {
         let Some(before) = self.given.summary(entry) else {
             return false;

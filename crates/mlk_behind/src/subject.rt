@@ -71,10 +71,10 @@ impl Subject {
         for term in missing {
             add_term(&mut self.locks, row.entry, term, row.fault.code)?;
         }
-        let Some(standing) = &note.standing else {
+        let Some(situation) = &note.situation else {
             return Ok(());
         };
-        for term in standing.held.as_slice() {
+        for term in situation.held.as_slice() {
             if missing.iter().any(|other| is_alike(term, other)) {
                 add_term(&mut self.alike, row.entry, term, row.fault.code)?;
             }

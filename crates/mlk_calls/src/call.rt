@@ -14,7 +14,9 @@ ghost use Rattle.mlk_calls.specs.Changes.{marked};
 ghost use Rattle.mlk_walk_state.specs.Scope.{scope_of};
 ghost use Rattle.mlk_walk_state.specs.States.{last_captured, without_last};
 ghost use Rattle.mlk_calls.specs.Changes.{changed_state};
-ghost use Rattle.mlk_calls.specs.Calls.{Called, formals_in, called, lent_set, changed_by_call, callee_summary, changes_by, missing_need, ranks_below, all_below, leave, SameEnds, after_call, ranks_fault, call_fault, set_aside, call_changing, at_call, at_job, test_after, called_of};
+ghost use Rattle.mlk_calls.specs.Calls.{Called, formals_in, called, lent_set, changed_by_call, callee_summary, changes_by};
+ghost use Rattle.mlk_calls.specs.Calls.{missing_need, ranks_below, all_below, leave, SameEnds, after_call, ranks_fault};
+ghost use Rattle.mlk_calls.specs.Calls.{call_fault, set_aside, call_changing, at_call, at_job, test_after, called_of};
 
 use crate::changing::{change_fault, changed_case, mark_all};
 use crate::claim::is_low_enough;
@@ -260,7 +262,8 @@ fn state_after_exit(
     state: &State,
     exit: &ExitCase,
 ) -> Result<Option<State>, AllocError>
-    ensures { IfOk result (λ s. s ≡ leave ending.now.how ending.now.formals.now ending.now.given.now ending.now.aside.now state.now exit.now) }
+    ensures { IfOk result (λ s. s ≡ leave ending.now.how ending.now.formals.now ending.now.given.now ending.now.aside.now
+        state.now exit.now) }
 {
     let terms = put_terms(alloc, ending.formals, ending.given, exit.held.as_slice())?;
     let Some(terms) = terms else {

@@ -4,7 +4,8 @@ ghost use Rattle.std.specs.Prelude.{◌≡◌, ◌&&◌, ℕ, IfOk, IfErr, OnOk,
 ghost use Rattle.mlk_calls.specs.Ranks.{is_above, IsHighest};
 ghost use Rattle.mlk_walk_state.specs.Refusals.{AnswersOf};
 ghost use Rattle.mlk_walk_state.specs.Scope.{scope_of};
-ghost use Rattle.mlk_calls.specs.Claims.{is_low_enough, is_below, order_fault, claim_fault, claim_refused, held_too, release_all, release_one};
+ghost use Rattle.mlk_calls.specs.Claims.{is_low_enough, is_below, order_fault, claim_fault};
+ghost use Rattle.mlk_calls.specs.Claims.{claim_refused, held_too, release_all, release_one};
 
 use mlk_cert_parts::Shared;
 use mlk_names::LockTerm;

@@ -1,7 +1,7 @@
 -- What is read and passes its tests is within the limits, and what is within them passes.
 use Rattle.std.proofs.Common.{◌≡◌, ◌≤◌, ℕ, ◌++◌, List, [], ◌∷◌, length, map, Bool, true, false, not, refl, sym, ◌∙◌, arith}
 use Rattle.std.specs.Prelude.{◌&&◌, ◌||◌, nat_le, bytes_eq}
-use Rattle.std.proofs.lemmas.Bool.{leb-true, le-leb}
+use Rattle.std.proofs.lemmas.Bool.{leb-true, le-leb, not-true}
 use Rattle.std.proofs.lemmas.Slice.Eq.{bytes_eq-Decides}
 use Rattle.mlk_names.specs.declared.term.LockTerm.{LockTerm}
 use Rattle.mlk_cert_parts.specs.declared.case.Case.{Case}
@@ -165,10 +165,6 @@ or_false false b h = (refl, h)
 or_back : (a b : Bool) → a ≡ false → b ≡ false → (a || b) ≡ false
 or_back a b e f = rw e f
 
-not_true : (b : Bool) → not b ≡ true → b ≡ false
-not_true true h = cc h
-not_true false h = refl
-
 true_not : (b : Bool) → b ≡ false → not b ≡ true
 true_not b e = rw e refl
 
@@ -190,7 +186,7 @@ pub distinct-good : (texts : List (List ℕ)) → are_distinct texts ≡ true �
 distinct-good [] h = tt
 distinct-good (t ∷ texts) h =
     let b = both_true (not (has_text texts t)) (are_distinct texts) h in
-    (apart-good t texts (not_true _ b.0), distinct-good texts b.1)
+    (apart-good t texts (not-true _ b.0), distinct-good texts b.1)
 
 pub distinct-back : (texts : List (List ℕ)) → TextsDiffer texts → are_distinct texts ≡ true
 distinct-back [] is = refl

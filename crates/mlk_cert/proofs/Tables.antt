@@ -1,13 +1,14 @@
 -- Texts in plain byte order, and their numbers.
 use Rattle.std.proofs.Common.{◌≡◌, ◌≤◌, ◌-◌, ℕ, zero, suc, List, [], ◌∷◌, length, map, Some, Bool, true, false, refl, sym, ap, ◌∙◌, arith, subst, inl, inr}
-use Rattle.std.specs.Prelude.{◌==◌, ◌&&◌, not, nat_lt, nat_le, if◌then◌else◌, bytes_eq, slice_get, option_to_list, ◌++◌}
-use Rattle.std.proofs.lemmas.Bool.{cases_Bool}
+use Rattle.std.specs.Prelude.{◌&&◌, not, nat_lt, nat_le, bytes_eq, slice_get, option_to_list, ◌++◌}
+use Rattle.std.proofs.lemmas.Bool.{cases_Bool, not-true}
 use Rattle.std.proofs.lemmas.Bool.Decides.{nat_tests}
 use Rattle.std.proofs.lemmas.Slice.Eq.{bytes_eq-Decides}
 use Rattle.std.proofs.lemmas.Option.{same_Some}
 use Rattle.mlk_cert_parts.specs.declared.case.Case.{Case}
 use Rattle.mlk_cert_lexemes.specs.Lists.{Each, ascends, upto, below}
-use Rattle.mlk_cert_lexemes.proofs.Formats.{both_true, both_back, same-eqb}
+use Rattle.mlk_cert_lexemes.proofs.Formats.{both_true, both_back}
+use Rattle.mlk_cert_lexemes.proofs.TextOrder.{upto-self, not-through}
 use Rattle.mlk_cert_parts.specs.Texts.{case_text}
 use Rattle.mlk_cert_parts.specs.Limits.{IsCase, cases_below}
 use Rattle.mlk_cert_parts.specs.Reading.{case_at}
@@ -17,28 +18,11 @@ use Rattle.mlk_cert.specs.Second.{IsOneOf, number_of_text, numbers_of}
 use Rattle.mlk_cert.specs.Numbered.{cases_by, are_upto}
 
 -- plain byte order
-upto-self : (xs : List ℕ) → upto xs xs ≡ true
-upto-self [] = refl
-upto-self (x ∷ xs) = rw (same-eqb x) (upto-self xs)
-
 pub below-self : (xs : List ℕ) → below xs xs ≡ false
 below-self xs = ap not (upto-self xs)
 
-not-step : (u v w : Bool) (x y z : ℕ) → (u ≡ false → v ≡ false → w ≡ false) → (if y == x then u else nat_lt y x) ≡ false → (if z == y then v else nat_lt z y) ≡ false → (if z == x then w else nat_lt z x) ≡ false
-not-step u v w x y z next h k = grind (arith, nat_tests)
-
-not-through : (a b c : List ℕ) → upto b a ≡ false → upto c b ≡ false → upto c a ≡ false
-not-through a [] c h k = cc h
-not-through a (y ∷ b) [] h k = cc k
-not-through [] (y ∷ b) (z ∷ c) h k = refl
-not-through (x ∷ a) (y ∷ b) (z ∷ c) h k = not-step (upto b a) (upto c b) (upto c a) x y z (not-through a b c) h k
-
-not_true : (b : Bool) → not b ≡ true → b ≡ false
-not_true true h = cc h
-not_true false h = refl
-
 pub below-through : (a b c : List ℕ) → below a b ≡ true → below b c ≡ true → below a c ≡ true
-below-through a b c h k = ap not (not-through a b c (not_true _ h) (not_true _ k))
+below-through a b c h k = ap not (not-through a b c (not-true _ h) (not-true _ k))
 
 pub below-turned : (a b : List ℕ) → below a b ≡ true → below b a ≡ false
 below-turned a b h = go (below b a) refl

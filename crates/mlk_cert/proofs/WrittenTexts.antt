@@ -6,7 +6,7 @@ use Rattle.std.specs.List.{list_any, prefix_len, IsDistinct}
 use Rattle.std.specs.Cmp.Lexicographic.{pointwise, slice_cmp}
 use Rattle.std.specs.Ordering.{nat_cmp, is_lt}
 use Rattle.std.specs.Io.KnownBytes.{Appends}
-use Rattle.std.proofs.lemmas.Bool.{cases_Bool, eqb-true}
+use Rattle.std.proofs.lemmas.Bool.{cases_Bool, not-false}
 use Rattle.std.proofs.lemmas.Bool.Decides.{nat_tests}
 use Rattle.std.proofs.lemmas.Option.{same_Some}
 use Rattle.std.proofs.lemmas.Slice.Eq.{bytes_eq-Decides}
@@ -26,6 +26,7 @@ use Rattle.mlk_cert.specs.declared.write.WriteFault.TheVariants.{TooLong, Io}
 use Rattle.mlk_cert.specs.Theorem.{IsTextIn}
 use Rattle.mlk_cert.specs.Writing.{IsWritten, IsTooLong, IsUnwritten, IsTextUnwritten}
 use Rattle.mlk_cert_lexemes.proofs.Formats.{both_back}
+use Rattle.mlk_cert_lexemes.proofs.TextOrder.{upto-both}
 use Rattle.mlk_cert.proofs.BlockLoops.{seen-text, bytes-turned}
 use Rattle.mlk_cert.proofs.BothFormats.{among-has, has-among, text-room}
 
@@ -118,34 +119,13 @@ lt-is (x ∷ xs) (y ∷ ys) = elim (cases_Bool (nat_lt x y)) [
   ]
 ]
 
-upto-both : (xs ys : List ℕ) → upto xs ys ≡ true → upto ys xs ≡ true → xs ≡ ys
-upto-both [] [] h k = refl
-upto-both [] (y ∷ ys) h k = cc k
-upto-both (x ∷ xs) [] h k = cc h
-upto-both (x ∷ xs) (y ∷ ys) h k = elim (cases_Bool (x == y)) [
-  | inl e ↦
-      let s = same-step x y e in
-      ap (λ z. z ∷ xs) (eqb-true x y e) ∙ ap (λ z. y ∷ z) (upto-both xs ys (rw e at h) (rw s at k))
-  | inr e ↦ absurd (apart x y e (rw e at h) (rw (turned x y e) at k))
-]
-  where
-    turned : (x y : ℕ) → (x == y) ≡ false → (y == x) ≡ false
-    turned x y e = grind (arith, nat_tests)
-
-    apart : (x y : ℕ) → (x == y) ≡ false → nat_lt x y ≡ true → nat_lt y x ≡ true → ⊥
-    apart x y e h k = grind (arith, nat_tests)
-
-not-back : (b : Bool) → not b ≡ false → b ≡ true
-not-back true h = refl
-not-back false h = cc h
-
 below-other : (a b : List ℕ) → below b a ≡ false → bytes_eq a b ≡ false → below a b ≡ true
 below-other a b h k = go (below a b) refl
   where
     go : (t : Bool) → below a b ≡ t → t ≡ true
     go true e = refl
     go false e =
-        let same = upto-both a b (not-back _ h) (not-back _ e) in
+        let same = upto-both a b (not-false _ h) (not-false _ e) in
         let f : bytes_eq a b ≡ true = (bytes_eq-Decides a b).1 same in cc (sym f ∙ k)
 
 pub sorted-up : (ks : List (Vec ℕ Global)) → IsSorted (λ a b. slice_cmp nat_cmp a.items b.items) ks → IsDistinct (λ a b. pointwise nat_eq a.items b.items) ks → ascends below (texts_in ks) ≡ true

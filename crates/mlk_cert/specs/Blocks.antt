@@ -1,5 +1,6 @@
 -- Reading lines, blocks and a whole certificate, as functions on lists. For private clauses only, like `Reading`.
-use Rattle.std.specs.Prelude.{ℕ, suc, ◌==◌, ◌&&◌, ◌||◌, not, nat_lt, if◌then◌else◌, Bool, true, false, List, ◌∷◌, ◌++◌, length, Option, Some, None, codes, option_map, option_and_then, []}
+use Rattle.std.specs.Prelude.{ℕ, suc, ◌==◌, ◌&&◌, ◌||◌, not, nat_lt, if◌then◌else◌, Bool, true, false, List}
+use Rattle.std.specs.Prelude.{◌∷◌, ◌++◌, length, Option, Some, None, codes, option_map, option_and_then, []}
 use Rattle.mlk_text.specs.Reading.{◌>>=◌, with, many}
 use Rattle.mlk_text.specs.Lexemes.{byte_at}
 use Rattle.mlk_names.specs.declared.term.LockTerm.{LockTerm}
@@ -143,7 +144,8 @@ next_exit_fits count last e = nat_lt count 16 && above_last last (exit_text e)
 abbrev pub next_case_fits : Option Point → Option (List ℕ) → ℕ → ℕ → List ℕ → Bool
 next_case_fits None last line round text = true
 next_case_fits (Some p) last line round text =
-    if (p.line == line) && (p.round == round) then nat_lt (length p.cases) 16 && above_last last text else (nat_lt p.line line || ((p.line == line) && nat_lt p.round round))
+    if (p.line == line) && (p.round == round) then nat_lt (length p.cases) 16 && above_last last text
+    else (nat_lt p.line line || ((p.line == line) && nat_lt p.round round))
 
 -- the rest of a line, which passes a test and may follow what precedes it
 unfoldable pub after_at : {A : Type 0} → (List ℕ → Option (A × List ℕ)) → (A → Bool) → (A → Bool) → List ℕ → Option (A × List ℕ)

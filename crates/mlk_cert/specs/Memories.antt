@@ -3,7 +3,8 @@ use Rattle.std.specs.Prelude.{ℕ, ◌≡◌, Bool, true, List, ◌∷◌, ◌++
 use Rattle.mlk_cert_lexemes.specs.Reading.{listed_at}
 
 -- before a space, the text is read as this list, which respects its limits
-pub record Remembers {A : Type 0} (reads : List ℕ → Option (A × List ℕ)) (fits : List A → Bool) (list : List A) (text : List ℕ) : Type 0 where
+pub record Remembers {A : Type 0} (reads : List ℕ → Option (A × List ℕ)) (fits : List A → Bool) (list : List A)
+    (text : List ℕ) : Type 0 where
   pub read : (ys : List ℕ) → listed_at reads (text ++ 32 ∷ ys) ≡ Some (list, 32 ∷ ys)
   pub fits_all : fits list ≡ true
 

@@ -1,5 +1,6 @@
 -- Reading the lines that only the second format has, as functions on lists. For private clauses only, like `Reading`.
-use Rattle.std.specs.Prelude.{ℕ, suc, ◌-◌, ◌==◌, ◌&&◌, ◌||◌, nat_lt, nat_le, if◌then◌else◌, Bool, true, List, [], ◌∷◌, ◌++◌, map, length, slice_get, option_to_list, Option, Some, None, codes}
+use Rattle.std.specs.Prelude.{ℕ, suc, ◌-◌, ◌==◌, ◌&&◌, ◌||◌, nat_lt, nat_le, if◌then◌else◌, Bool, true, List}
+use Rattle.std.specs.Prelude.{[], ◌∷◌, ◌++◌, map, length, slice_get, option_to_list, Option, Some, None, codes}
 use Rattle.mlk_text.specs.Reading.{◌>>=◌, with}
 use Rattle.mlk_text.specs.Lexemes.{byte_at}
 use Rattle.mlk_cert_parts.specs.declared.case.Case.{Case}
@@ -75,7 +76,8 @@ abbrev pub numbered_point_of : ℕ × ℕ → List ℕ → NumberedPoint
 numbered_point_of place ns = (place.0, place.1, ns)
 
 unfoldable pub numbered_point_at : ℕ → List ℕ → Option (NumberedPoint × List ℕ)
-numbered_point_at most xs = place_at xs >>= λ place. byte_at 32 place.1 >>= λ space. with (numbered_point_of place.0) (numbers_at most space.1)
+numbered_point_at most xs = place_at xs >>= λ place. byte_at 32 place.1
+    >>= λ space. with (numbered_point_of place.0) (numbers_at most space.1)
 
 abbrev pub fits_numbered_point : NumberedPoint → Bool
 fits_numbered_point p = fits_numbers p.2
@@ -96,7 +98,8 @@ fit_places points = ascends points_below points
 
 -- the lines of points that refer to these cases
 unfoldable pub numbered_points_at : List Case → List ℕ → Option (List Point × List ℕ)
-numbered_points_at cases xs = with (points_by cases) (worded_at (codes "at ") (rest_at (numbered_point_at (length cases)) fits_numbered_point) xs) >>= fit fit_places
+numbered_points_at cases xs = with (points_by cases)
+    (worded_at (codes "at ") (rest_at (numbered_point_at (length cases)) fits_numbered_point) xs) >>= fit fit_places
 
 -- one more point at a place, after a given one
 abbrev pub next_place_fits : Option Point → ℕ → ℕ → Bool

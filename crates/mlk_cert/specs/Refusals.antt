@@ -1,5 +1,6 @@
 -- The refusal of a certificate's text.
-use Rattle.std.specs.Prelude.{ℕ, suc, ◌≡◌, ◌<◌, ◌≤◌, ◌+◌, ◌==◌, ◌&&◌, ◌↔◌, ◌++◌, nat_le, if◌then◌else◌, ◌⊎◌, Bool, true, List, [], ◌∷◌, length}
+use Rattle.std.specs.Prelude.{ℕ, suc, ◌≡◌, ◌<◌, ◌≤◌, ◌+◌, ◌==◌, ◌&&◌, ◌↔◌, ◌++◌, nat_le}
+use Rattle.std.specs.Prelude.{if◌then◌else◌, ◌⊎◌, Bool, true, List, [], ◌∷◌, length}
 use Rattle.mlk_text.specs.Codes.{number_of}
 use Rattle.mlk_text.specs.declared.code.Code.{Code}
 use Rattle.mlk_text.specs.declared.code.Code.TheVariants.{Head, CertLimit, NoEnd}

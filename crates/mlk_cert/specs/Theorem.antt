@@ -24,7 +24,8 @@ pub record Spells (blocks : List EntryCert) (bytes : List ℕ) : Type 0 where
 
 -- A text in the first format is that of at most one certificate.
 abbrev pub OneCertificate : Type 0
-OneCertificate = (blocks others : List EntryCert) → IsCertificate blocks → IsCertificate others → certificate_text blocks ≡ certificate_text others → blocks ≡ others
+OneCertificate = (blocks others : List EntryCert) → IsCertificate blocks → IsCertificate others
+    → certificate_text blocks ≡ certificate_text others → blocks ≡ others
 
 -- A text that is short enough is that of at most one certificate, in either format.
 abbrev pub OneReading : Type 0
@@ -32,7 +33,8 @@ OneReading = (blocks others : List EntryCert) (text : List ℕ) → Spells block
 
 -- A certificate has at most one text in each format.
 abbrev pub OneText : Type 0
-OneText = (format : CertFormat) (blocks : List EntryCert) (text other : List ℕ) → IsTextIn format blocks text → IsTextIn format blocks other → text ≡ other
+OneText = (format : CertFormat) (blocks : List EntryCert) (text other : List ℕ)
+    → IsTextIn format blocks text → IsTextIn format blocks other → text ≡ other
 
 -- these blocks are returned; out of memory says nothing
 abbrev pub ComesBack : List EntryCert → Result (List EntryCert) (Failure CertFault) → Type 0
@@ -46,4 +48,6 @@ IsReading text answer = (blocks : List EntryCert) → Spells blocks text → Com
 
 -- A text of a certificate in either format, if it is short enough to be written, is read as that certificate.
 abbrev pub ReadBack : Type 0
-ReadBack = (format : CertFormat) (blocks : List EntryCert) (text : List ℕ) (answer : Result (List EntryCert) (Failure CertFault)) → IsCertificate blocks → IsTextIn format blocks text → length text ≤ longest → IsReading text answer → ComesBack blocks answer
+ReadBack = (format : CertFormat) (blocks : List EntryCert) (text : List ℕ)
+    (answer : Result (List EntryCert) (Failure CertFault)) → IsCertificate blocks → IsTextIn format blocks text
+    → length text ≤ longest → IsReading text answer → ComesBack blocks answer

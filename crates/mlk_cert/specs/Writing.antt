@@ -32,14 +32,16 @@ IsShort format blocks = (text : List ℕ) × IsTextIn format blocks text × (len
 -- why a text was not written
 abbrev pub IsTextUnwritten : {W : Type 0} → List ℕ → W → W → Failure WriteFault → Type 0
 IsTextUnwritten text old new OutOfMemory = new ≡ old
-IsTextUnwritten text old new (Refused (TooLong fault)) = (longest < length text) × ((fault.code ≡ CertLimit) × ((fault.line ≡ 1) × (new ≡ old)))
+IsTextUnwritten text old new (Refused (TooLong fault)) =
+    (longest < length text) × ((fault.code ≡ CertLimit) × ((fault.line ≡ 1) × (new ≡ old)))
 IsTextUnwritten text old new (Refused (Io e)) = length text ≤ longest
 
 -- Its text is too long, which is a limit at line 1, and the writer is unchanged; or the writer has an error, which only it
 -- describes.
 abbrev pub IsUnwritten : {W : Type 0} → CertFormat → List EntryCert → W → W → Failure WriteFault → Type 0
 IsUnwritten format blocks old new OutOfMemory = new ≡ old
-IsUnwritten format blocks old new (Refused (TooLong fault)) = IsTooLong format blocks × ((fault.code ≡ CertLimit) × ((fault.line ≡ 1) × (new ≡ old)))
+IsUnwritten format blocks old new (Refused (TooLong fault)) =
+    IsTooLong format blocks × ((fault.code ≡ CertLimit) × ((fault.line ≡ 1) × (new ≡ old)))
 IsUnwritten format blocks old new (Refused (Io e)) = IsShort format blocks
 
 -- Why blocks and their text are not a certificate and its text: the fault that is reported for the text. Out of memory says

@@ -5,3 +5,4 @@ pub mod TermFormats
 pub mod EntryFormats
 pub mod Room
 pub mod Words
+pub mod TextOrder

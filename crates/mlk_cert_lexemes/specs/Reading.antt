@@ -1,6 +1,7 @@
 -- Reading lexemes, terms and lists, as functions on lists: what is read, and the rest. `proofs/Formats.antt` and similar files
 -- connect it to `Texts` and `Kinds`.
-use Rattle.std.specs.Prelude.{ℕ, suc, ◌+◌, ◌-◌, ◌*◌, ◌==◌, ◌&&◌, ◌||◌, nat_le, if◌then◌else◌, Bool, false, List, ◌∷◌, ◌++◌, length, Option, Some, None, option_map, []}
+use Rattle.std.specs.Prelude.{ℕ, suc, ◌+◌, ◌-◌, ◌*◌, ◌==◌, ◌&&◌, ◌||◌, nat_le, if◌then◌else◌, Bool}
+use Rattle.std.specs.Prelude.{false, List, ◌∷◌, ◌++◌, length, Option, Some, None, option_map, []}
 use Rattle.mlk_text.specs.Reading.{◌>>=◌, with, put, many}
 use Rattle.mlk_text.specs.Lexemes.{digits_at, byte_at, name_at, label_at, root_at, or_else}
 use Rattle.mlk_text.specs.declared.root.Root.{Root}

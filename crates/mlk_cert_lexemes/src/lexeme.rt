@@ -5,7 +5,8 @@ ghost use Rattle.mlk_text.specs.Reading.{many};
 ghost use Rattle.mlk_text.specs.Failures.{Reads};
 ghost use Rattle.mlk_cert_lexemes.specs.Lists.{upto, below};
 ghost use Rattle.mlk_cert_lexemes.specs.Texts.{is_plain};
-ghost use Rattle.mlk_cert_lexemes.specs.Reading.{strip, word_at, value_after, leads_zero, number_at, counted_at, hex_value, escaped_at, piece_at, keep, constant_at, entry_at};
+ghost use Rattle.mlk_cert_lexemes.specs.Reading.{strip, word_at, value_after, leads_zero, number_at, counted_at};
+ghost use Rattle.mlk_cert_lexemes.specs.Reading.{hex_value, escaped_at, piece_at, keep, constant_at, entry_at};
 
 use mlk_text::lexeme::{byte_of, digits};
 use mlk_text::spelling::{label_text, name};

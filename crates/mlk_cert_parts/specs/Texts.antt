@@ -41,7 +41,8 @@ saved_text (t ∷ tests) = sign t ∷ flat sign_text tests
 -- a case
 abbrev pub case_text : Case → List ℕ
 case_text c =
-    codes "T=" ++ (sign c.test ∷ (codes " H=" ++ (listed term_text c.held ++ (codes " O=" ++ (listed own_text c.own ++ (codes " K=" ++ (listed name_text c.kept ++ (codes " S=" ++ saved_text c.saved))))))))
+    codes "T=" ++ (sign c.test ∷ (codes " H=" ++ (listed term_text c.held ++ (codes " O=" ++ (listed own_text c.own
+    ++ (codes " K=" ++ (listed name_text c.kept ++ (codes " S=" ++ saved_text c.saved))))))))
 
 -- the case of an exit
 abbrev pub exit_text : ExitCase → List ℕ
@@ -77,7 +78,8 @@ drops_text true = codes "1"
 abbrev pub summary_text : Summary → List ℕ
 summary_text s =
     line (codes "need ") (listed term_text s.need)
-    ++ (line (codes "low ") (low_text s.low) ++ (line (codes "drops ") (drops_text s.drops) ++ (line (codes "mods ") (listed names_text s.mods) ++ flat exit_line s.exits)))
+    ++ (line (codes "low ") (low_text s.low) ++ (line (codes "drops ") (drops_text s.drops)
+    ++ (line (codes "mods ") (listed names_text s.mods) ++ flat exit_line s.exits)))
 
 -- the block of an entry, given the texts of its points
 abbrev pub block_with : (Point → List ℕ) → EntryCert → List ℕ

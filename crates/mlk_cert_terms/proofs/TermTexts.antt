@@ -1,7 +1,7 @@
 -- The order of terms by their texts, and that texts tell terms apart.
-use Rattle.std.proofs.Common.{◌≡◌, ℕ, List, [], ◌∷◌, Bool, true, false, Some, refl, sym, ap, ◌∙◌, arith, ⊎_elim, append-nil}
+use Rattle.std.proofs.Common.{◌≡◌, ℕ, List, [], ◌∷◌, Bool, true, false, Some, refl, sym, ap, ◌∙◌, arith, append-nil}
 use Rattle.std.specs.Prelude.{Option, ◌==◌, not, nat_lt, if◌then◌else◌}
-use Rattle.std.proofs.lemmas.Bool.{cases_Bool, eqb-true}
+use Rattle.std.proofs.lemmas.Bool.{not-true, not-false}
 use Rattle.std.proofs.lemmas.Bool.Decides.{nat_tests}
 use Rattle.mlk_text.proofs.Readers.{pair_parts}
 use Rattle.mlk_names.specs.declared.term.LockTerm.{LockTerm}
@@ -10,44 +10,10 @@ use Rattle.mlk_cert_lexemes.specs.Texts.{term_text}
 use Rattle.mlk_cert_lexemes.specs.Kinds.{IsTerm, terms_upto}
 use Rattle.mlk_cert_lexemes.specs.Reading.{term_at}
 use Rattle.mlk_cert_lexemes.proofs.TermFormats.{term-format}
+use Rattle.mlk_cert_lexemes.proofs.TextOrder.{upto-total, upto-both}
 use Rattle.mlk_cert_parts.specs.TermOrder.{terms_before}
 use Rattle.mlk_cert_terms.proofs.Placing.{put-ascends}
 use Rattle.std.specs.List.{insert}
-
-turned : (x y : ℕ) → (x == y) ≡ true → (y == x) ≡ true
-turned x y h = grind (arith, nat_tests)
-
-apart : (x y : ℕ) → (x == y) ≡ false → (y == x) ≡ false
-apart x y h = grind (arith, nat_tests)
-
-above : (x y : ℕ) → (x == y) ≡ false → nat_lt x y ≡ false → nat_lt y x ≡ true
-above x y h k = grind (arith, nat_tests)
-
-not-both : (x y : ℕ) → nat_lt x y ≡ true → nat_lt y x ≡ false
-not-both x y h = grind (arith, nat_tests)
-
--- of two texts one is not above the other
-total : (xs ys : List ℕ) → upto xs ys ≡ false → upto ys xs ≡ true
-total [] ys h = absurd (cc h)
-total (x ∷ xs) [] h = refl
-total (x ∷ xs) (y ∷ ys) h =
-    ⊎_elim (λ (e : (x == y) ≡ true). let f : upto xs ys ≡ false = rw e at h in rw (turned x y e) (total xs ys f))
-    (λ (e : (x == y) ≡ false). let f : nat_lt x y ≡ false = rw e at h in rw (apart x y e) (above x y e f))
-    (cases_Bool (x == y))
-
-upto-both : (xs ys : List ℕ) → upto xs ys ≡ true → upto ys xs ≡ true → xs ≡ ys
-upto-both [] [] h k = refl
-upto-both [] (y ∷ ys) h k = cc k
-upto-both (x ∷ xs) [] h k = cc h
-upto-both (x ∷ xs) (y ∷ ys) h k =
-    ⊎_elim
-    (λ (e : (x == y) ≡ true). ap (λ z. z ∷ xs) (eqb-true x y e) ∙ ap (λ z. y ∷ z) (upto-both xs ys (rw e at h) (rw (turned x y e) at k)))
-    (λ (e : (x == y) ≡ false).
-    let f : nat_lt x y ≡ true = rw e at h in
-    let g : nat_lt y x ≡ true = rw (apart x y e) at k in
-    let n : true ≡ false = sym g ∙ not-both x y f in
-    cc n)
-    (cases_Bool (x == y))
 
 upto-step : (u v w : Bool) (x y z : ℕ) → (u ≡ true → v ≡ true → w ≡ true) → (if x == y then u else nat_lt x y) ≡ true → (if y == z then v else nat_lt y z) ≡ true → (if x == z then w else nat_lt x z) ≡ true
 upto-step u v w x y z next h k = grind (arith, nat_tests)
@@ -71,19 +37,11 @@ pub terms-both : (t u : LockTerm) → IsTerm t → IsTerm u → terms_upto t u �
 terms-both t u is other h k =
     same-read t u [] (sym (read-back t is) ∙ ap term_at (upto-both (term_text t) (term_text u) h k) ∙ read-back u other)
 
-not-true : (b : Bool) → not b ≡ true → b ≡ false
-not-true true h = absurd (cc h)
-not-true false h = refl
-
-not-false : (b : Bool) → not b ≡ false → b ≡ true
-not-false true h = refl
-not-false false h = absurd (cc h)
-
 abbrev pub term_below : LockTerm → LockTerm → Bool
 term_below u t = below (term_text u) (term_text t)
 
 term-earlier : (t u : LockTerm) → term_below u t ≡ true → terms_upto u t ≡ true
-term-earlier t u h = total (term_text t) (term_text u) (not-true (upto (term_text t) (term_text u)) h)
+term-earlier t u h = upto-total (term_text t) (term_text u) (not-true (upto (term_text t) (term_text u)) h)
 
 term-later : (t u : LockTerm) → term_below u t ≡ false → terms_upto t u ≡ true
 term-later t u h = not-false (upto (term_text t) (term_text u)) h

@@ -10,7 +10,8 @@ use Rattle.mlk_cert_terms.specs.Numbered.{IsNumbered}
 
 -- two cases hold the same terms exactly if they have the same numbers in the table
 abbrev pub EqualNumbers : List LockTerm → Type 0
-EqualNumbers table = (n m : NumCase) (c d : Case) → Each IsTerm c.held → IsNumbered table n c → IsNumbered table m d → (c.held ≡ d.held) ↔ (n.held ≡ m.held)
+EqualNumbers table = (n m : NumCase) (c d : Case) → Each IsTerm c.held → IsNumbered table n c → IsNumbered table m d
+    → (c.held ≡ d.held) ↔ (n.held ≡ m.held)
 
 -- numbers are those of one case at most
 abbrev pub OneCase : Type 0

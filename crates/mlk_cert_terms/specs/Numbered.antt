@@ -1,5 +1,6 @@
 -- Tables of terms, and cases with numbers in place of terms. This project's own choice.
-use Rattle.std.specs.Prelude.{ℕ, ◌≡◌, ◌+◌, ◌<◌, nat_le, if◌then◌else◌, Bool, true, List, [], ◌∷◌, ◌++◌, Some, length, slice_get, option_to_list}
+use Rattle.std.specs.Prelude.{ℕ, ◌≡◌, ◌+◌, ◌<◌, nat_le, if◌then◌else◌, Bool, true, List}
+use Rattle.std.specs.Prelude.{[], ◌∷◌, ◌++◌, Some, length, slice_get, option_to_list}
 use Rattle.mlk_names.specs.declared.term.LockTerm.{LockTerm}
 use Rattle.mlk_cert_lexemes.specs.Lists.{Each, ascends}
 use Rattle.mlk_cert_lexemes.specs.Kinds.{terms_upto}

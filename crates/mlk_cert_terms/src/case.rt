@@ -19,7 +19,7 @@ pub struct NumCase {
     pub saved: Shared<Test>,
     /// The numbers of the locks that this call holds, ascending; each as often as the call holds the lock.
     pub held: Shared<usize>,
-    /// The names that were made new since the call began, and still are.
+    /// The names that NEW has made own since the call began, and that still are.
     pub own: Shared<Own>,
     /// The names that have the values of the call's begin.
     pub kept: Shared<Name>,

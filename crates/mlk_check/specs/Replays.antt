@@ -60,6 +60,7 @@ pub record ReplaysAreSafe : Type 0 where
   pub at_moments : (program : List Routine) (rules : RuleLists) (blocks : List EntryCert) (entries : List EntryId) (jobs : List Job)
       → KeepsRules (map routine_of program) rules blocks → AreNamed (map routine_of program) rules.entries entries
       → IsMoment program entries jobs → AreSafe rules jobs
-  pub of_files : (program : List Routine) (rules : RuleLists) (blocks : List EntryCert) (entries : List EntryId) (bytes : List ℕ) (s : Running)
+  pub of_files : (program : List Routine) (rules : RuleLists) (blocks : List EntryCert) (entries : List EntryId)
+      (bytes : List ℕ) (s : Running)
       → KeepsRules (map routine_of program) rules blocks → AreNamed (map routine_of program) rules.entries entries
       → ReplayedFile program entries bytes (Ok s) → AreShownSafe rules (map routine_of program) (jobs_in s)

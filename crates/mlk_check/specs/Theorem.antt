@@ -35,6 +35,7 @@ pub record AreSafe (rules : RuleLists) (jobs : List Job) : Type 0 where
 -- declared entries.
 -- Of any number of jobs begun at declared entries, whatever happens to them in whatever order: at each moment they are safe.
 pub record KeepsRules (routines : List RoutineTree) (rules : RuleLists) (blocks : List EntryCert) : Type 0 where
-  pub each_job : AtEachMomentSince routines (is_declared routines rules.entries) (FactsSince routines rules (certified routines blocks, declared routines rules.entries))
+  pub each_job : AtEachMomentSince routines (is_declared routines rules.entries)
+      (FactsSince routines rules (certified routines blocks, declared routines rules.entries))
   pub all_jobs : (events : List (Event Choice EntryId)) (jobs : List Job)
       → after (machine routines (is_declared routines rules.entries)) events [] ≡ Ok jobs → AreSafe rules jobs

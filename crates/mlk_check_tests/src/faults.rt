@@ -9,7 +9,7 @@ use mlk_text::{Code, Column, LineNumber};
 use mlk_walk::{Report, Verdict, check_entry, check_line};
 use std::alloc::Global;
 
-/// An entry with three writes under one lock, of which the last is of another node than the lock's, and one with no fault.
+/// An entry with three writes under one lock, the last of which is of another node than the lock's, and one with no fault.
 pub(crate) const ROUTINE: &[u8] = b"BAD LOCK +^A(1)\n\
 \x20SET ^A(\"1\")=0\n\
 \x20SET ^A(01)=0\n\

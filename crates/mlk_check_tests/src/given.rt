@@ -3,6 +3,7 @@
 use crate::faults::{self, Walk, is_walked};
 use crate::jobs::{self, Script, Wanted, is_replayed};
 use crate::news::{self, are_new};
+use mlk_dialect::Dialect;
 use mlk_make::make_certificate;
 use mlk_program::{Program, link};
 use mlk_routine::read_routine;
@@ -49,7 +50,7 @@ fn is_linked_so(alloc: Global, routines: &[Routine], trial: Trial) -> Option<boo
 
 /// Whether all is as it should be; not where a call fails.
 pub(crate) fn passes(alloc: Global, trial: Trial) -> bool {
-    match read_routine(alloc, b"R", trial.routine()) {
+    match read_routine(alloc, Dialect::Standard, b"R", trial.routine()) {
         Ok(routine) => is_linked_so(alloc, &[routine], trial) == Some(true),
         Err(_) => false,
     }

@@ -11,7 +11,7 @@ use Rattle.mlk_cli.specs.declared.words.Format.{Format}
 use Rattle.mlk_cli.specs.declared.words.Format.TheVariants.{First, Second}
 use Rattle.mlk_cli.specs.declared.words.Output.{Output}
 use Rattle.mlk_cli.specs.declared.words.Output.TheVariants as output
-use Rattle.mlk_cli.specs.declared.words.Dialect.{Dialect}
+use Rattle.mlk_dialect.specs.declared.dialect.Dialect.{Dialect}
 use Rattle.mlk_cli.specs.declared.words.SurveyOutput.{SurveyOutput}
 use Rattle.mlk_cli.specs.declared.words.SurveyOutput.TheVariants as surveyed
 use Rattle.mlk_cli.specs.declared.words.ReportStyle.{ReportStyle}

@@ -13,8 +13,8 @@ use Rattle.mlk_cli.specs.declared.words.Format.{Format}
 use Rattle.mlk_cli.specs.declared.words.Format.TheVariants.{First, Second}
 use Rattle.mlk_cli.specs.declared.words.Output.{Output}
 use Rattle.mlk_cli.specs.declared.words.Output.TheVariants.{Text as Plain, Json, Sarif, Lines}
-use Rattle.mlk_cli.specs.declared.words.Dialect.{Dialect}
-use Rattle.mlk_cli.specs.declared.words.Dialect.TheVariants as dialect
+use Rattle.mlk_dialect.specs.declared.dialect.Dialect.{Dialect}
+use Rattle.mlk_dialect.specs.declared.dialect.Dialect.TheVariants as dialect
 use Rattle.mlk_cli.specs.declared.words.SurveyOutput.{SurveyOutput}
 use Rattle.mlk_cli.specs.declared.words.SurveyOutput.TheVariants as surveyed
 use Rattle.mlk_cli.specs.declared.words.ReportStyle.{ReportStyle}
@@ -31,7 +31,7 @@ use Rattle.mlk_cli.specs.declared.words.Invocation.{Invocation}
 use Rattle.mlk_cli.specs.declared.words.UsageError.{UsageError}
 use Rattle.mlk_cli.specs.declared.words.UsageError.TheVariants as usage
 
--- the text is a number of 32 bits in decimal digits, before which a plus may stand
+-- the text is a number of 32 bits in decimal digits, perhaps after a plus
 abbrev pub IsNumber : Text → ℕ → Type 0
 IsNumber text number = IsNumeral 10 (without_leading_plus text) × (digits_value 10 (without_leading_plus text) ≡ number) × (number < 2 ^ 32)
 

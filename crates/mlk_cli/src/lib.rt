@@ -4,7 +4,6 @@
 mod words;
 
 pub use words::{
-    Asked, Dialect, Format, Invocation, Output, ProgramRequest, ReplayStyle, ReportStyle, Request,
-    StubsRequest, SuggestRequest, SurveyOutput, SurveyRequest, UsageError, WantedStubs,
-    read_request,
+    Asked, Format, Invocation, Output, ProgramRequest, ReplayStyle, ReportStyle, Request, StubsRequest,
+    SuggestRequest, SurveyOutput, SurveyRequest, UsageError, WantedStubs, read_request,
 };

@@ -11,6 +11,7 @@ ghost use Rattle.mlk_cli.specs.CommandLine.{GivesNumber, GivesFormat, NamesOutpu
 use clap::error::ErrorKind;
 use clap::{ArgMatches, Error};
 use mlk_cli_grammar::grammar;
+use mlk_dialect::Dialect;
 use std::alloc::{AllocError, Global};
 
 // How the option begins that names a file which lists routines.
@@ -38,15 +39,6 @@ pub enum Output {
     Sarif,
     /// text with the place of each fault before its line, as editors read it
     Lines,
-}
-
-/// How much of M is read.
-#[derive(Clone, Copy, Debug, PartialEq, Eq)]
-pub enum Dialect {
-    /// the subset of the standard
-    Standard,
-    /// words beyond it too, each as any value
-    Extended,
 }
 
 /// The form of a survey.

@@ -1,6 +1,6 @@
 -- The closed lists of words beyond the subset, as GT.M and YottaDB spell them, in either case. Each only gives a value: it touches
 -- no global, no local and no lock, and runs no M. This project's own choice.
-use Rattle.std.specs.Prelude.{ℕ, ◌||◌, Bool, List, [], ◌∷◌, ◌++◌, codes}
+use Rattle.std.specs.Prelude.{ℕ, ◌||◌, Bool, List, [], ◌∷◌, codes}
 use Rattle.std.specs.Str.{str_eq_ignore_ascii_case}
 use Rattle.std.specs.List.{list_any}
 

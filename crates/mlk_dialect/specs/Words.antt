@@ -1,7 +1,7 @@
 -- The words of a routine that the plain text replaces, and what replaces them. This project's own choice.
-use Rattle.std.specs.Prelude.{ℕ, suc, ◌+◌, ◌-◌, ◌==◌, ◌&&◌, ◌||◌, not, if◌then◌else◌, Bool, true, false, List, [], ◌∷◌, ◌++◌, length, replicate, Option, Some, None, take, drop, codes}
+use Rattle.std.specs.Prelude.{ℕ, suc, ◌-◌, ◌==◌, ◌&&◌, ◌||◌, not, if◌then◌else◌, Bool, true, false, List, [], ◌∷◌, ◌++◌, length, replicate, Option, Some, None, take, drop, codes}
 use Rattle.std.specs.List.{prefix_len}
-use Rattle.mlk_text.specs.Lexemes.{is_digit, is_name_byte, letters}
+use Rattle.mlk_text.specs.Lexemes.{is_name_byte, letters}
 use Rattle.mlk_dialect.specs.declared.word.Word.{Word}
 use Rattle.mlk_dialect.specs.declared.word.Word.TheVariants as word
 use Rattle.mlk_dialect.specs.Tables.{is_variable, is_function, is_zdata, is_text_name}
@@ -74,7 +74,7 @@ named_word name (b ∷ xs) =
     else if is_variable name && may_end (b ∷ xs) then Some (word.Value (suc (length name)))
     else None
 
--- a word with `$`, of which the rest is given
+-- a word that is `$` and this rest
 abbrev pub dollar_word : List ℕ → Option Word
 dollar_word xs = named_word (take (letters xs) xs) (drop (letters xs) xs)
 

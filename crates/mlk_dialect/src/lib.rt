@@ -2,8 +2,11 @@
 //! at the same place.
 #![tactic(auto)]
 
+mod dialect;
 mod plain;
 mod tables;
 mod word;
 
+pub use dialect::Dialect;
 pub use plain::{PlainText, plain_text};
+pub use tables::{is_function, is_text_name, is_variable, is_zdata};

@@ -1,6 +1,6 @@
 // The plain text of a routine.
 
-ghost use Rattle.std.specs.Prelude.{◌≡◌, ◌≤◌, ◌<◌, ◌+◌, ◌++◌, ◌∷◌, [], suc, IfOk, OnOk};
+ghost use Rattle.std.specs.Prelude.{◌≡◌, ◌≤◌, ◌<◌, ◌+◌, ◌++◌, ◌∷◌, [], suc, map, IfOk, OnOk};
 ghost use Rattle.mlk_dialect.specs.Plain.{ends_line, behind_code, behind, word_in, form_in, inert_in, own_byte, plain_from, inert_from, plain, inert};
 
 use crate::word::{Word, code_word, form_of};
@@ -138,6 +138,7 @@ impl Reading {
 #[tactic(auto, unfolding(crate::specs::Plain::plain_from, crate::specs::Plain::inert_from))]
 pub fn plain_text(alloc: Global, text: &[u8]) -> Result<PlainText, AllocError>
     ensures text { IfOk result (λ p. p.text.items ≡ plain text.now) }
+    ensures lines { IfOk result (λ p. map ends_line p.text.items ≡ map ends_line text.now) }
     ensures inert { IfOk result (λ p. p.inert ≡ inert text.now) }
 {
     let mut reading = Reading {

@@ -111,14 +111,14 @@ fn is_one_of(names: &[&[u8]], word: &[u8]) -> bool
 }
 
 /// Whether `word` is a special variable that only gives a value.
-pub(crate) fn is_variable(word: &[u8]) -> bool
+pub fn is_variable(word: &[u8]) -> bool
     ensures { result ≡ is_variable word.now }
 {
     is_one_of(SESSION_VARIABLES, word) || is_one_of(SYSTEM_VARIABLES, word)
 }
 
 /// Whether `word` is a function that only gives a value.
-pub(crate) fn is_function(word: &[u8]) -> bool
+pub fn is_function(word: &[u8]) -> bool
     ensures { result ≡ is_function word.now }
 {
     is_one_of(TEXT_FUNCTIONS, word)
@@ -127,14 +127,14 @@ pub(crate) fn is_function(word: &[u8]) -> bool
 }
 
 /// Whether `word` is `ZDATA`.
-pub(crate) fn is_zdata(word: &[u8]) -> bool
+pub fn is_zdata(word: &[u8]) -> bool
     ensures { result ≡ is_zdata word.now }
 {
     word.eq_ignore_ascii_case(b"ZDATA")
 }
 
 /// Whether `word` is `T` or `TEXT`.
-pub(crate) fn is_text_name(word: &[u8]) -> bool
+pub fn is_text_name(word: &[u8]) -> bool
     ensures { result ≡ is_text_name word.now }
 {
     word.eq_ignore_ascii_case(b"T") || word.eq_ignore_ascii_case(b"TEXT")

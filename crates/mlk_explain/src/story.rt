@@ -69,7 +69,7 @@ fn held_phrase(place: &FaultPlace<'_>) -> Phrase {
 }
 
 fn held_text(alloc: Global, place: &FaultPlace<'_>) -> Result<Option<Vec<u8>>, AllocError> {
-    if place.standing().is_none() {
+    if place.situation().is_none() {
         return Ok(None);
     }
     Ok(Some(phrase_text(alloc, place, held_phrase(place))?))

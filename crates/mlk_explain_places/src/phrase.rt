@@ -43,7 +43,7 @@ pub enum Part {
 pub type Phrase = &'static [Part];
 
 fn test_words(place: &FaultPlace<'_>) -> &'static str {
-    match place.standing() {
+    match place.situation() {
         Some((Test::Zero, _)) => ", and $TEST is 0",
         Some((Test::One, _)) => ", and $TEST is 1",
         _ => "",

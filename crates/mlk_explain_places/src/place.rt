@@ -90,9 +90,9 @@ pub fn missing_in(note: &Note) -> Option<&LockTerm> {
 }
 
 // What was known of `$TEST`, and which locks were held; none where the fault is of no case.
-fn standing_in(note: &Note) -> Option<(Test, &[LockTerm])> {
-    if let Some(standing) = &note.standing {
-        return Some((standing.test, standing.held.as_slice()));
+fn situation_in(note: &Note) -> Option<(Test, &[LockTerm])> {
+    if let Some(situation) = &note.situation {
+        return Some((situation.test, situation.held.as_slice()));
     }
     match &note.mend {
         Mend::Listed(_, _, case) => Some((case.test, case.held.as_slice())),
@@ -118,7 +118,7 @@ fn reason_of(checks: &Checks<'_>, facts: &RoutineFacts<'_>, row: &Row, note: &No
     let Some(term) = missing_in(note) else {
         return Reason::Never;
     };
-    let test = match standing_in(note) {
+    let test = match situation_in(note) {
         Some((test, _)) => test,
         None => Test::Any,
     };
@@ -154,13 +154,13 @@ impl<'a> FaultPlace<'a> {
     }
 
     /// What was known of `$TEST`, and which locks were held; `None` if the fault is of no case.
-    pub fn standing(&self) -> Option<(Test, &'a [LockTerm])> {
-        standing_in(self.note)
+    pub fn situation(&self) -> Option<(Test, &'a [LockTerm])> {
+        situation_in(self.note)
     }
 
     /// The locks that were held.
     pub fn held(&self) -> &'a [LockTerm] {
-        match self.standing() {
+        match self.situation() {
             Some((_, held)) => held,
             None => &[],
         }

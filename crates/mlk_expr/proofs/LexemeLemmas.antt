@@ -17,7 +17,7 @@ use Rattle.mlk_syntax.specs.declared.expr.Function.{Function}
 use Rattle.mlk_expr_tokens.specs.declared.lexeme.Kind.{Kind}
 use Rattle.mlk_expr_tokens.specs.declared.lexeme.Kind.TheVariants as kind
 use Rattle.mlk_expr_tokens.specs.Words.{special_of, special_to_principal, special_from_quit, function_of, function_to_fnumber, function_to_piece, function_from_qlength, is_select, is_either}
-use Rattle.mlk_expr_tokens.specs.Lexemes.{one_byte, twice_or, relation_of, relation_at, arithmetic_of, arithmetic_at, op_by, op_at, unary_of, kind_by, kind_of, mantissa_len, exponent_len, lacks_exponent, numeral_at, count_len, count_at, pattern_codes, pattern_codes_at, lent_by, lent_at, starts_reference}
+use Rattle.mlk_expr_tokens.specs.Lexemes.{one_byte, twice_or, relation_of, relation_at, arithmetic_of, arithmetic_at, op_by, op_at, unary_of, kind_by, kind_of, mantissa_len, exponent_len, has_no_exponent, numeral_at, count_len, count_at, pattern_codes, pattern_codes_at, lent_by, lent_at, starts_reference}
 
 -- one byte and what is after it
 abbrev Shorter : List ℕ → List ℕ → Type 0
@@ -88,7 +88,7 @@ pub numeral-after : (text xs ys : List ℕ) → numeral_at xs ≡ Some (text, ys
 unfolding numeral_at
 numeral-after text xs ys h =
     let m : ℕ = mantissa_len xs + exponent_len (drop (mantissa_len xs) xs) in
-    taken-after m xs ys (unless ((mantissa_len xs == 0) || lacks_exponent (drop (mantissa_len xs) xs)) m text xs ys h).1
+    taken-after m xs ys (unless ((mantissa_len xs == 0) || has_no_exponent (drop (mantissa_len xs) xs)) m text xs ys h).1
 
 pub codes-after : (text xs ys : List ℕ) → pattern_codes_at xs ≡ Some (text, ys) → After ys xs
 unfolding pattern_codes_at

@@ -1,3 +1,4 @@
+pub mod QuietParts
 pub mod Followed
 pub mod Runs
 pub mod OperatorSpelling

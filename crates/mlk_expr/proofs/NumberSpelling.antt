@@ -7,7 +7,7 @@ use Rattle.std.proofs.lemmas.Bool.Decides.{nat_tests}
 use Rattle.mlk_text.specs.Lexemes.{is_digit, digits, byte_at, are_digits}
 use Rattle.mlk_numbers.specs.Numbers.{IsNumeral}
 use Rattle.mlk_text.proofs.Lexemes.{byte-is}
-use Rattle.mlk_expr_tokens.specs.Lexemes.{point_len, signed_len, exponent_len, lacks_exponent, mantissa_len, numeral_at, count_len, count_at}
+use Rattle.mlk_expr_tokens.specs.Lexemes.{point_len, signed_len, exponent_len, has_no_exponent, mantissa_len, numeral_at, count_len, count_at}
 use Rattle.mlk_expr.specs.Spellings.{IsSign, IsExponent, IsNumber, IsCount}
 use Rattle.mlk_text.proofs.Runs.{stops, parted, cut-reads, cut-spelled}
 use Rattle.mlk_expr.proofs.Runs.{digits-length, digits-are, after_count, tame, tame-count, count-digits}
@@ -122,16 +122,16 @@ signed-length sign (d ∷ ds) ys (inr s) all some stop = elim s [
 
 -- what follows the digits of a literal
 exponent-length : (exponent ys : List ℕ) → IsExponent exponent → tame ys ≡ true
-    → (exponent_len (exponent ++ ys) ≡ length exponent) × (lacks_exponent (exponent ++ ys) ≡ false) × (after_count (exponent ++ ys) ≡ true)
+    → (exponent_len (exponent ++ ys) ≡ length exponent) × (has_no_exponent (exponent ++ ys) ≡ false) × (after_count (exponent ++ ys) ≡ true)
 exponent-length exponent ys (inl is) t =
-    let P : List ℕ → Type 0 = λ l. (exponent_len (l ++ ys) ≡ length l) × (lacks_exponent (l ++ ys) ≡ false) × (after_count (l ++ ys) ≡ true) in
+    let P : List ℕ → Type 0 = λ l. (exponent_len (l ++ ys) ≡ length l) × (has_no_exponent (l ++ ys) ≡ false) × (after_count (l ++ ys) ≡ true) in
     subst P (sym is) (none ys t)
   where
-    none : (zs : List ℕ) → tame zs ≡ true → (exponent_len zs ≡ 0) × (lacks_exponent zs ≡ false) × (after_count zs ≡ true)
+    none : (zs : List ℕ) → tame zs ≡ true → (exponent_len zs ≡ 0) × (has_no_exponent zs ≡ false) × (after_count zs ≡ true)
     none [] h = (refl, refl, refl)
     none (b ∷ zs) h = let e : (b == 69) ≡ false = grind (arith, nat_tests) in (rw e refl, rw e refl, tame-count (b ∷ zs) h)
 exponent-length exponent ys (inr (sign, ds, is, s, all, some)) t =
-    let P : List ℕ → Type 0 = λ l. (exponent_len (l ++ ys) ≡ length l) × (lacks_exponent (l ++ ys) ≡ false) × (after_count (l ++ ys) ≡ true) in
+    let P : List ℕ → Type 0 = λ l. (exponent_len (l ++ ys) ≡ length l) × (has_no_exponent (l ++ ys) ≡ false) × (after_count (l ++ ys) ≡ true) in
     let size = signed-length sign ds ys s all some (count-digits ys (tame-count ys t)) in
     let whole = length-append sign ds in
     let other : (length (sign ++ ds) == 0) ≡ false = grind (arith, nat_tests) in
@@ -139,7 +139,7 @@ exponent-length exponent ys (inr (sign, ds, is, s, all, some)) t =
 
 -- digits and an exponent of these lengths are read
 numeral-reads : (mantissa exponent ys : List ℕ) → mantissa_len (mantissa ++ (exponent ++ ys)) ≡ length mantissa → 0 < length mantissa
-    → exponent_len (exponent ++ ys) ≡ length exponent → lacks_exponent (exponent ++ ys) ≡ false → numeral_at (mantissa ++ (exponent ++ ys)) ≡ Some (mantissa ++ exponent, ys)
+    → exponent_len (exponent ++ ys) ≡ length exponent → has_no_exponent (exponent ++ ys) ≡ false → numeral_at (mantissa ++ (exponent ++ ys)) ≡ Some (mantissa ++ exponent, ys)
 unfolding numeral_at
 numeral-reads mantissa exponent ys size some more lack =
     let other : (length mantissa == 0) ≡ false = grind (arith, nat_tests) in
@@ -240,7 +240,7 @@ signed-is (b ∷ zs) some = elim (cases_Bool ((b == 43) || (b == 45))) [
     )
 
 -- what follows a literal's digits, if no `E` is without its digits
-exponent-is : (zs : List ℕ) → lacks_exponent zs ≡ false → (exponent ys : List ℕ) × (zs ≡ exponent ++ ys) × IsExponent exponent × (exponent_len zs ≡ length exponent)
+exponent-is : (zs : List ℕ) → has_no_exponent zs ≡ false → (exponent ys : List ℕ) × (zs ≡ exponent ++ ys) × IsExponent exponent × (exponent_len zs ≡ length exponent)
 exponent-is [] h = ([], [], refl, inl refl, refl)
 exponent-is (b ∷ zs) h = elim (cases_Bool (b == 69)) [
   | inr e ↦ ([], b ∷ zs, refl, inl refl, rw e refl)
@@ -256,12 +256,12 @@ pub number-spelled : (text xs ys : List ℕ) → numeral_at xs ≡ Some (text, y
 unfolding numeral_at
 number-spelled text xs ys h = elim (cases_Bool (mantissa_len xs == 0)) [
   | inl e ↦ cc (rw e at h)
-  | inr e ↦ elim (cases_Bool (lacks_exponent (drop (mantissa_len xs) xs))) [
+  | inr e ↦ elim (cases_Bool (has_no_exponent (drop (mantissa_len xs) xs))) [
     | inl f ↦ cc (rw (e, f) at h)
     | inr f ↦
         let (before, after, mantissa, zs, numeral, is, size) = mantissa-is xs (eqb-false (mantissa_len xs) 0 e) in
         let follows : drop (mantissa_len xs) xs ≡ zs = (parted (mantissa_len xs) mantissa zs xs is size).1 in
-        let (exponent, us, more, ending, len) = exponent-is zs (ap lacks_exponent (sym follows) ∙ f) in
+        let (exponent, us, more, ending, len) = exponent-is zs (ap has_no_exponent (sym follows) ∙ f) in
         let whole : xs ≡ (mantissa ++ exponent) ++ us = is ∙ ap (λ l. mantissa ++ l) more ∙ sym (append_assoc mantissa exponent us) in
         let length-is : exponent_len (drop (mantissa_len xs) xs) ≡ length exponent = ap exponent_len follows ∙ len in
         let both = length-append mantissa exponent in

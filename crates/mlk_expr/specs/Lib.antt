@@ -1,4 +1,5 @@
 pub mod Touches
+pub mod Quiet
 pub mod Spellings
 pub mod Grammar
 pub mod Reading

@@ -88,12 +88,12 @@ right_by atom pattern true xs = with PatternText (pattern xs)
 abbrev pub linked : Reader Tree → Reader (List ℕ) → Op → Reader (Op × Tree)
 linked atom pattern op xs = with (λ t. (op, t)) (right_by atom pattern (is_match op) xs)
 
-abbrev pub going_on : Reader Tree → Reader (List ℕ) → Tree → Reader Tree
-going_on atom pattern first xs =
+abbrev pub chain_after : Reader Tree → Reader (List ℕ) → Tree → Reader Tree
+chain_after atom pattern first xs =
     many op_at (linked atom pattern) (suc (length xs)) xs >>= λ rest. Some (chained first rest.0, rest.1)
 
 unfoldable pub chain_with : Reader Tree → Reader (List ℕ) → Reader Tree
-chain_with atom pattern xs = atom xs >>= λ first. going_on atom pattern first.0 first.1
+chain_with atom pattern xs = atom xs >>= λ first. chain_after atom pattern first.0 first.1
 
 -- subscripts
 abbrev pub placed : ℕ → Reader Tree → Reader (ℕ × Tree)

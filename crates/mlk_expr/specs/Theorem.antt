@@ -73,13 +73,13 @@ Refuses {A = A} Is Ends line at (Refused fault) = (a : A) (text rest : List ℕ)
     → Is (suc at) a text → Ends a rest → ⊥
 
 -- The numbers of the codes: 101 to 104, and 207 if names may not be passed by reference.
-abbrev pub may_tell : Passing → ℕ → Bool
-may_tell p n = (nat_le 101 n && nat_le n 104) || (not (lends p) && (n == 207))
+abbrev pub is_expression_code : Passing → ℕ → Bool
+is_expression_code p n = (nat_le 101 n && nat_le n 104) || (not (lends p) && (n == 207))
 
 -- A fault of a text that is read from the byte `at` of a line on. It has a word exactly if something is not read. Its column is
 -- after that byte, up to the greatest column, and at most one past the line's end.
 pub record IsFault (p : Passing) (line : List ℕ) (at : ℕ) (fault : Fault) : Type 0 where
-  pub coded : may_tell p (number_of fault.code) ≡ true
+  pub coded : is_expression_code p (number_of fault.code) ≡ true
   pub worded : is_some fault.left_out ≡ (number_of fault.code == 102)
   pub unnamed : fault.place.routine ≡ []
   pub on_line : fault.place.line ≡ 1

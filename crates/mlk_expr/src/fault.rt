@@ -3,7 +3,7 @@
 ghost use Rattle.std.specs.Prelude.{◌≡◌, ◌≤◌, length, true, is_some, ◌==◌};
 ghost use Rattle.mlk_text.specs.Codes.{number_of};
 ghost use Rattle.mlk_text.specs.Failures.{IsLike};
-ghost use Rattle.mlk_expr.specs.Theorem.{may_tell, Faults};
+ghost use Rattle.mlk_expr.specs.Theorem.{is_expression_code, Faults};
 
 use crate::context::Passing;
 use crate::refusal::{Offence, Wrong};
@@ -13,7 +13,7 @@ use std::alloc::Global;
 // The code for `wrong`, and the part of M that is not read. A name by reference is refused as such only if `passing` forbids
 // it.
 fn code_of(passing: Passing, wrong: Wrong) -> (Code, Option<LeftOut>)
-    ensures coded { may_tell passing (number_of result.0) ≡ true }
+    ensures coded { is_expression_code passing (number_of result.0) ≡ true }
     ensures worded { is_some result.1 ≡ (number_of result.0 == 102) }
 {
     match wrong {
@@ -35,7 +35,7 @@ pub(crate) fn locate(
     refusal: Failure<Offence>,
 ) -> Failure<Fault>
     requires { at ≤ length line.now }
-    ensures tells { IsLike refusal result }
+    ensures alike { IsLike refusal result }
     ensures placed { Faults passing line.now at result }
 {
     let offence = match refusal {

@@ -8,6 +8,7 @@ mod named;
 mod part;
 mod pattern;
 mod public;
+mod quiet;
 mod read;
 mod refusal;
 
@@ -19,3 +20,4 @@ pub use named::{read_callee, read_label, read_name};
 pub use public::{
     read_actuals, read_actuals_where, read_expr, read_expr_where, read_ref, read_ref_where,
 };
+pub use quiet::{are_subscripts_quiet, is_quiet_expr};

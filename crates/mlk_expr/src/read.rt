@@ -4,7 +4,7 @@ ghost use Rattle.std.specs.Prelude.{suc, length};
 ghost use Rattle.mlk_text.specs.Reading.{with, many};
 ghost use Rattle.mlk_expr_tokens.specs.Lexemes.{op_at, is_match};
 ghost use Rattle.mlk_syntax.specs.ExprTrees.{Prefixed, tree_of, links};
-ghost use Rattle.mlk_expr.specs.Reading.{going_on, nested_in, pattern_at, right_by, linked, enclosed_with, operand_in, atom_in};
+ghost use Rattle.mlk_expr.specs.Reading.{chain_after, nested_in, pattern_at, right_by, linked, enclosed_with, operand_in, atom_in};
 ghost use Rattle.mlk_text.specs.Failures.{Reads};
 
 pub mod actuals;
@@ -17,7 +17,7 @@ use crate::pattern::pattern;
 use crate::read::functions::dollar;
 use crate::read::names::{global, local};
 use crate::refusal::{Offence, Wrong, no_end, no_operand, refusal_at, too_deep};
-use mlk_expr_tokens::lexeme::{Kind, is_match, kind_of, may_go_on, op_at};
+use mlk_expr_tokens::lexeme::{Kind, is_match, kind_of, may_continue, op_at};
 use mlk_syntax::Expr;
 use mlk_text::lexeme::byte_of;
 use mlk_text::{Failure, Op, UnaryOp, Value, drop_and_return, make_room};
@@ -34,7 +34,7 @@ pub(crate) fn chain<'a>(
     ensures { Reads (λ x. (tree_of x.0, x.1.now)) result (nested_in context.now bytes.now) }
 {
     let (first, rest) = atom(alloc, context, bytes)?;
-    if !may_go_on(rest) {
+    if !may_continue(rest) {
         return Ok((first, rest));
     }
     call_chain_after(alloc, context, first, rest)
@@ -50,7 +50,7 @@ fn call_chain_after<'a>(
     bytes: &'a [u8],
 ) -> Result<(Expr, &'a [u8]), Failure<Offence>>
     ensures { Reads (λ x. (tree_of x.0, x.1.now)) result
-        (going_on (atom_in context.now) (pattern_at context.now.left) (tree_of first) bytes.now) }
+        (chain_after (atom_in context.now) (pattern_at context.now.left) (tree_of first) bytes.now) }
 {
     chain_after(alloc, context, first, bytes)
 }
@@ -64,7 +64,7 @@ fn chain_after<'a>(
     bytes: &'a [u8],
 ) -> Result<(Expr, &'a [u8]), Failure<Offence>>
     ensures { Reads (λ x. (tree_of x.0, x.1.now)) result
-        (going_on (atom_in context.now) (pattern_at context.now.left) (tree_of first) bytes.now) }
+        (chain_after (atom_in context.now) (pattern_at context.now.left) (tree_of first) bytes.now) }
 {
     let (links, rest) = match chain_rest(alloc, context, bytes) {
         Ok(read) => read,

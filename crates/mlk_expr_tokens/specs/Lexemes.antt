@@ -120,9 +120,9 @@ exponent_len [] = 0
 exponent_len (b ∷ xs) = if b == 69 then (if signed_len xs == 0 then 0 else suc (signed_len xs)) else 0
 
 -- whether there is an `E` here without an exponent after it
-abbrev pub lacks_exponent : List ℕ → Bool
-lacks_exponent [] = false
-lacks_exponent (b ∷ xs) = (b == 69) && (signed_len xs == 0)
+abbrev pub has_no_exponent : List ℕ → Bool
+has_no_exponent [] = false
+has_no_exponent (b ∷ xs) = (b == 69) && (signed_len xs == 0)
 
 -- A numeric literal, as written; it is none if an `E` without digits follows. Standard: numeric literals.
 unfoldable pub mantissa_len : List ℕ → ℕ
@@ -132,7 +132,7 @@ unfoldable pub numeral_at : List ℕ → Option (List ℕ × List ℕ)
 numeral_at xs =
     let n = mantissa_len xs in
     let m = n + exponent_len (drop n xs) in
-    if (n == 0) || lacks_exponent (drop n xs) then None else Some (take m xs, drop m xs)
+    if (n == 0) || has_no_exponent (drop n xs) then None else Some (take m xs, drop m xs)
 
 -- The count of a pattern atom: digits, a point, or both. Standard: pattern match, repcount.
 abbrev pub count_len : ℕ → Option (ℕ × List ℕ) → ℕ

@@ -118,7 +118,7 @@ pub fn op_at(bytes: &[u8]) -> Option<(Op, &[u8])>
 /// Whether an operator may begin here: `false` at the end of a text and before a byte that usually follows an operand.
 #[tactic(auto, unfolding(crate::specs::Lexemes::op_at, crate::specs::Lexemes::relation_at, crate::specs::Lexemes::arithmetic_at, crate::specs::Lexemes::relation_of, crate::specs::Lexemes::arithmetic_of))]
 #[inline(always)]
-pub fn may_go_on(bytes: &[u8]) -> bool
+pub fn may_continue(bytes: &[u8]) -> bool
     ensures { result ≡ false → op_at bytes.now ≡ None }
 {
     let Some((first, _)) = bytes.split_first() else {

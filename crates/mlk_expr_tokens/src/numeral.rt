@@ -1,7 +1,7 @@
 // Numeric literals, as written.
 
 ghost use Rattle.std.specs.Prelude.{◌≡◌, ◌≤◌, length, option_map};
-ghost use Rattle.mlk_expr_tokens.specs.Lexemes.{signed_len, exponent_len, mantissa_len, lacks_exponent, numeral_at};
+ghost use Rattle.mlk_expr_tokens.specs.Lexemes.{signed_len, exponent_len, mantissa_len, has_no_exponent, numeral_at};
 
 use mlk_text::lexeme::digits;
 
@@ -55,8 +55,8 @@ fn exponent_len(bytes: &[u8]) -> usize
 }
 
 // Whether there is an `E` here without an exponent after it.
-fn lacks_exponent(bytes: &[u8]) -> bool
-    ensures { result ≡ lacks_exponent bytes.now }
+fn has_no_exponent(bytes: &[u8]) -> bool
+    ensures { result ≡ has_no_exponent bytes.now }
 {
     match bytes.split_first() {
         Some((first, after)) => *first == b'E' && signed_len(after) == 0,
@@ -75,7 +75,7 @@ pub fn numeral_at(bytes: &[u8]) -> Option<(&[u8], &[u8])>
         return None;
     }
     let (_, rest) = bytes.split_at(n);
-    if lacks_exponent(rest) {
+    if has_no_exponent(rest) {
         return None;
     }
     Some(bytes.split_at(n + exponent_len(rest)))

@@ -138,7 +138,7 @@ IsReportIn Lines trees rows known below hazards gaps text = IsPlacedText trees r
 abbrev pub IsExplained : List Row → ℕ → List HazardAt → List Gap → List ℕ → Type 0
 IsExplained rows known hazards gaps text = (faults note : List ℕ) × (text ≡ ((faults ++ answer_line known rows) ++ note) ++ warning_lines hazards gaps)
 
--- The text where faults are explained or not, and that of which only the answer is printed.
+-- The text where faults are explained or not, and the one that is its answer alone.
 abbrev pub IsReportWith : Bool → Bool → Output → List RoutineTree → List Row → ℕ → List ℕ → List HazardAt → List Gap → List ℕ → Type 0
 IsReportWith true explained output trees rows known below hazards gaps text = text ≡ answer_line known rows
 IsReportWith false true output trees rows known below hazards gaps text = IsExplained rows known hazards gaps text

@@ -25,7 +25,7 @@ pub fn render_notice(
     }
 }
 
-/// The same of the refusal of a program of which no certificate can be made, with the `faults` that are found all the same.
+/// The same of the refusal of a program for which no certificate can be made, with the `faults` that are found all the same.
 pub fn render_given_up(
     alloc: Global,
     notice: &Notice<'_>,

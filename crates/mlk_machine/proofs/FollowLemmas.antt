@@ -20,7 +20,7 @@ use Rattle.mlk_machine.specs.declared.fault.EventsRefusal.{EventsRefusal}
 use Rattle.mlk_machine.specs.declared.fault.EventsRefusal.TheVariants as refusal
 use Rattle.mlk_machine.specs.declared.instruction.Instruction.{Instruction}
 use Rattle.mlk_machine.specs.InstructionViews.{asked_of}
-use Rattle.mlk_machine.specs.Files.{Asked, GoesOn, SaysEvents, IsFirstOther, made, then_next, in_turn, StopsSo, FollowedSo, IsRefusedAt, IsStopped, ReplayedFile}
+use Rattle.mlk_machine.specs.Files.{Asked, RunsAlone, SaysEvents, IsFirstOther, made, then_next, in_turn, StopsSo, FollowedSo, IsRefusedAt, IsStopped, ReplayedFile}
 
 -- The rest has the result of the whole, if its first line has this number.
 pub record Half (first now : Running) (all left : List Asked) (line : ℕ) : Type 0 where
@@ -78,11 +78,11 @@ none_left (x ∷ lines) h = absurd (omega (arith, h))
 
 -- a job that runs by itself
 pub goes_on : (m : Machine Job Choice EntryId) (routines : List RoutineTree) (k count : ℕ) (old new : List Job)
-    → settled_in routines k old ≡ Ok (new, count) → made m routines (GoesOn k) old ≡ Ok new
+    → settled_in routines k old ≡ Ok (new, count) → made m routines (RunsAlone k) old ≡ Ok new
 goes_on m routines k count old new h = ap (and_then (λ r. Ok r.0)) h
 
 pub stays_there : (m : Machine Job Choice EntryId) (routines : List RoutineTree) (k : ℕ) (old : List Job)
-    (why : Failure Refusal) → FailsAs why (settled_in routines k old) → FailsAs why (made m routines (GoesOn k) old)
+    (why : Failure Refusal) → FailsAs why (settled_in routines k old) → FailsAs why (made m routines (RunsAlone k) old)
 stays_there m routines k old OutOfMemory h = tt
 stays_there m routines k old (Refused why) h = ap (and_then (λ r. Ok r.0)) h
 

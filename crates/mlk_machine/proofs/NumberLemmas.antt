@@ -8,10 +8,10 @@ use Rattle.mlk_program.proofs.NameTables.{position-cons}
 use Rattle.mlk_machine_jobs.specs.declared.job.Job.{Job as JobIn}
 use Rattle.mlk_machine_jobs.specs.Tasks.{Job}
 use Rattle.mlk_machine_jobs.specs.JobViews.{job_of}
-use Rattle.mlk_machine_jobs.specs.Seen.{State, Ready, Claims, Releases, AsksChoice, Stuck, Silent, Ended, Stopped, state, silent_step, go_on, settled, settled_in, most_silent_steps, behind}
+use Rattle.mlk_machine_jobs.specs.Seen.{State, Ready, Claims, Releases, AsksChoice, Stuck, Silent, Ended, Stopped, state, silent_step, settled_after, settled, settled_in, most_silent_steps, behind}
 use Rattle.mlk_machine_jobs.specs.declared.choice.Choice.TheVariants as choice
 use Rattle.mlk_machine_run.specs.Jobs.{IsPlaceOf}
-use Rattle.mlk_machine_run.proofs.SystemLemmas.{job_at, jobs_set}
+use Rattle.mlk_machine_run.proofs.SystemLemmas.{job_at, jobs_set, first_not}
 use Rattle.mlk_machine.specs.Numbers.{numbers_of, AreNumbers}
 use Rattle.std.specs.List.{list_any}
 use Rattle.mlk_machine_locks.specs.Waiting.{is_numbered}
@@ -28,10 +28,6 @@ use Rattle.mlk_machine_locks.specs.Systems.{Machine, number, and_then, changed, 
 use Rattle.mlk_machine_jobs.specs.Runs.{seen}
 use Rattle.mlk_program.proofs.Directories.{position-map}
 use Rattle.mlk_machine.specs.Jobs.{job_numbered}
-
-first_not : {A : Type 0} (o : Option ℕ) → o ≡ Some 0 → o ≡ None → A
-first_not None h k = absurd (cc)
-first_not (Some n) h k = absurd (cc)
 
 none_later : (o : Option ℕ) → option_map suc o ≡ None → o ≡ None
 none_later None h = refl
@@ -213,7 +209,7 @@ module _ (routines : List RoutineTree) where
   settled_number (suc most) j = on (silent_step routines j (state routines j)) refl (λ i. settled_number most i)
     where
       on : (s : Result Job Refusal) → silent_step routines j (state routines j) ≡ s
-          → ((i : Job) → (settled routines most i).0.number ≡ i.number) → (go_on (λ i. settled routines most i) j s).0.number ≡ j.number
+          → ((i : Job) → (settled routines most i).0.number ≡ i.number) → (settled_after (λ i. settled routines most i) j s).0.number ≡ j.number
       on (Ok i) e more = more i ∙ silent_number j i (state routines j) e
       on (Err why) e more = refl
 

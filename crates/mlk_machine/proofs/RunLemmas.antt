@@ -17,7 +17,7 @@ use Rattle.mlk_machine_jobs.specs.Seen.{settled, settled_in, most_silent_steps, 
 use Rattle.mlk_machine_jobs.specs.Laws.{goes}
 use Rattle.mlk_machine_jobs.proofs.MachineLemmas.{is_machine}
 use Rattle.mlk_machine_jobs.proofs.SettleLemmas.{settles_by_steps}
-use Rattle.mlk_machine.specs.Files.{Asked, Happens, GoesOn, made, then_next, in_turn}
+use Rattle.mlk_machine.specs.Files.{Asked, Happens, RunsAlone, made, then_next, in_turn}
 use Rattle.mlk_machine.specs.Laws.{StandFor, AreMade, LinesAreEvents, ReplaysAreRuns}
 
 -- no job has this number
@@ -95,7 +95,7 @@ module _ (routines : List RoutineTree) (declared : EntryId → Bool) where
   one_line : (a : Asked) (old new : List Job) → made m routines a old ≡ Ok new
       → (events : List (Event Choice EntryId)) × StandFor a events × (after m events old ≡ Ok new)
   one_line (Happens e) old new h = (e ∷ [], refl, ap (and_then (after m [])) h)
-  one_line (GoesOn k) old new h =
+  one_line (RunsAlone k) old new h =
       done_then (λ r. Ok r.0) (settled_in routines k old) new h (λ r p q.
       (replicate r.1 (step_of k), (r.1, refl), goes_on k [] old r.0 r.1 tt p ∙ q))
 

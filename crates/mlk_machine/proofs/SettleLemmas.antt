@@ -4,7 +4,7 @@ use Rattle.mlk_machine_locks.specs.declared.refusal.Refusal.{Refusal}
 use Rattle.mlk_syntax.specs.Trees.{RoutineTree}
 use Rattle.mlk_machine_jobs.specs.Tasks.{Job}
 use Rattle.mlk_machine_jobs.specs.Choices.{Stepped}
-use Rattle.mlk_machine_jobs.specs.Seen.{state, silent_step, go_on, settled}
+use Rattle.mlk_machine_jobs.specs.Seen.{state, silent_step, settled_after, settled}
 
 pair_of : {A B : Type 0} {a c : A} {b d : B} → a ≡ c → b ≡ d → ◌≡◌ {A = A × B} (a, b) (c, d)
 pair_of e f = λ i. (e i, f i)
@@ -23,12 +23,12 @@ module _ (routines : List RoutineTree) where
 
   goes : (n : ℕ) (j i : Job) → next j ≡ Ok i → settled routines (suc n) j ≡ ((more n i).0, suc (more n i).1)
   unfolding settled
-  goes n j i h = ap (go_on (more n) j) h
+  goes n j i h = ap (settled_after (more n) j) h
 
   rests : (n : ℕ) (j : Job) (why : Refusal) → next j ≡ Err why → settled routines n j ≡ (j, 0)
   unfolding settled
   rests zero j why h = refl
-  rests (suc n) j why h = ap (go_on (more n) j) h
+  rests (suc n) j why h = ap (settled_after (more n) j) h
 
   -- the first of several steps
   first_made : (n : ℕ) (old j : Job) (s : Stepped) → next old ≡ s → settled routines (suc n) old ≡ (j, suc n)

@@ -26,7 +26,7 @@ use Rattle.mlk_machine.specs.declared.fault.EventsRefusal.TheVariants as refusal
 -- The meaning of a line: an event happens, or a job runs by itself.
 pub data Asked : Type 0 where
   Happens : (event : Event Choice EntryId) → Asked
-  GoesOn : (job : ℕ) → Asked
+  RunsAlone : (job : ℕ) → Asked
 
 abbrev pub goes : ℕ → Choice → Option Asked
 goes k c = Some (Happens (record { job = k; act = Go c }))
@@ -38,7 +38,7 @@ asked routines (order.Begin b) =
 asked routines (order.Go k) = goes k choice.None
 asked routines (order.GoValue k value) = goes k (choice.Value value)
 asked routines (order.GoTruth k truth) = goes k (choice.Truth truth)
-asked routines (order.Run k) = Some (GoesOn k)
+asked routines (order.Run k) = Some (RunsAlone k)
 asked routines (order.Abort k) = Some (Happens (record { job = k; act = Abort }))
 
 abbrev pub AsksFor : List RoutineTree → EventLine → Asked → Type 0
@@ -65,7 +65,7 @@ pub record IsFirstOther (routines : List RoutineTree) (bytes : List ℕ) (line :
 -- The effect of a line on the jobs.
 abbrev pub made : Machine Job Choice EntryId → List RoutineTree → Asked → List Job → Result (List Job) Refusal
 made m routines (Happens e) jobs = happens m jobs e.job e.act
-made m routines (GoesOn k) jobs = and_then (λ r. Ok r.0) (settled_in routines k jobs)
+made m routines (RunsAlone k) jobs = and_then (λ r. Ok r.0) (settled_in routines k jobs)
 
 -- The effect of lines one after another, numbered from a given number on: the jobs, or the number of the line that can't happen,
 -- and why.

@@ -5,12 +5,12 @@ use Rattle.mlk_machine.specs.declared.event_line.EventLine.{EventLine}
 use Rattle.mlk_machine.specs.EventReading.{line_at}
 use Rattle.mlk_machine.specs.declared.instruction.Instruction.{Instruction}
 use Rattle.mlk_machine.specs.declared.instruction.Instruction.TheVariants as instruction
-use Rattle.mlk_machine.specs.Files.{Asked, Happens, GoesOn, asked}
+use Rattle.mlk_machine.specs.Files.{Asked, Happens, RunsAlone, asked}
 use Rattle.mlk_machine.specs.Replays.{event_of}
 
 abbrev pub asked_of : Instruction → Asked
 asked_of (instruction.Happens e) = Happens (event_of e)
-asked_of (instruction.GoesOn k) = GoesOn k
+asked_of (instruction.RunsAlone k) = RunsAlone k
 
 -- what a reader finds at the front of a file
 abbrev pub asked_by : List RoutineTree → Option (EventLine × List ℕ) → Option (Asked × List ℕ)

@@ -13,12 +13,12 @@ use Rattle.mlk_machine_jobs.specs.Runs.{machine}
 use Rattle.mlk_machine.specs.Running.{Running}
 use Rattle.mlk_machine.specs.Systems.{jobs_in, machine_in}
 use Rattle.mlk_machine.specs.Replays.{Replayed}
-use Rattle.mlk_machine.specs.Files.{Asked, Happens, GoesOn, in_turn, ReplayedFile}
+use Rattle.mlk_machine.specs.Files.{Asked, Happens, RunsAlone, in_turn, ReplayedFile}
 
 -- The events that a line denotes: its own, or steps without a choice of the job that runs by itself.
 abbrev pub StandFor : Asked → List (Event Choice EntryId) → Type 0
 StandFor (Happens e) events = events ≡ e ∷ []
-StandFor (GoesOn k) events = (count : ℕ) × (events ≡ replicate count (record { job = k; act = Go choice.None }))
+StandFor (RunsAlone k) events = (count : ℕ) × (events ≡ replicate count (record { job = k; act = Go choice.None }))
 
 -- Events, some for each of these lines, lead from old jobs to new ones.
 pub record AreMade (m : Machine Job Choice EntryId) (asks : List Asked) (old new : List Job) : Type 0 where

@@ -24,7 +24,7 @@ fn follow_one<'a>(system: &mut System<'a>, asked: &Instruction) -> Result<(), Fa
 {
     match asked {
         Instruction::Happens(event) => system.step(event),
-        Instruction::GoesOn(job) => {
+        Instruction::RunsAlone(job) => {
             let _ = system.settle(*job)?;
             Ok(())
         }

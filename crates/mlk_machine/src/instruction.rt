@@ -18,7 +18,7 @@ pub(crate) enum Instruction {
     /// an event happens
     Happens(Event),
     /// the job with this number runs by itself
-    GoesOn(u32),
+    RunsAlone(u32),
 }
 
 // An event.
@@ -57,7 +57,7 @@ pub(crate) fn instruction_of(program: &Program, order: EventLine) -> Option<Inst
             job,
             Act::Go(Choice::Truth(truth)),
         )),
-        EventLine::Run(job) => Some(Instruction::GoesOn(job)),
+        EventLine::Run(job) => Some(Instruction::RunsAlone(job)),
         EventLine::Abort(job) => Some(event_instruction(job, Act::Abort)),
     }
 }

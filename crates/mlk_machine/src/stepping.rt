@@ -15,35 +15,35 @@ ghost use Rattle.mlk_machine.specs.Numbers.{AreNumbers};
 
 use crate::number::place_in;
 use indexmap::IndexSet;
-use mlk_machine_jobs::{Choice, Job};
+use mlk_machine_jobs::Job;
 use mlk_machine_locks::{LockTable, Refusal};
-use mlk_machine_run::{abort, step_job};
+use mlk_machine_run::{Turn, abort, step_job};
 use mlk_program::Program;
 use mlk_text::Failure;
 use std::alloc::Global;
 
-/// Makes a step of the job `number`, with the choice `choice`.
+/// Makes a step of a job.
 pub(crate) fn go_numbered<'a>(
     alloc: Global,
     program: &Program<'a>,
     numbers: &IndexSet<u32>,
     table: &mut LockTable,
     jobs: &mut Vec<Job<'a>>,
-    number: u32,
-    choice: Choice,
+    turn: Turn,
 ) -> Result<(), Failure<Refusal>>
     requires sound { AreSound jobs.old.items }
     requires numbers { AreNumbers numbers.now.keys jobs.old.items }
     requires covers { Covers seen_in table.old jobs.old.items }
     ensures answer { (declared : EntryId → Bool) → Answers (λ _. map job_of jobs.new.items) result
-        (happens (machine (map routine_of program.now) declared) (map job_of jobs.old.items) number (systems.Go choice)) }
+        (happens (machine (map routine_of program.now) declared) (map job_of jobs.old.items) turn.number
+        (systems.Go turn.choice)) }
     ensures stays { OnErr result (map job_of jobs.new.items ≡ map job_of jobs.old.items) }
     ensures sound { AreSound jobs.new.items }
     ensures numbers { AreNumbers numbers.now.keys jobs.new.items }
     ensures covers { Covers seen_in table.new jobs.new.items }
 {
-    let place = place_in(numbers, number);
-    step_job(alloc, program, table, jobs, place, number, choice)
+    let place = place_in(numbers, turn.number);
+    step_job(alloc, program, table, jobs, place, turn)
 }
 
 /// Aborts the job `number`.

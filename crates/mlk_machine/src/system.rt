@@ -21,7 +21,7 @@ use crate::stepping::{abort_numbered, go_numbered};
 use indexmap::IndexSet;
 use mlk_machine_jobs::{Choice, Job, Touch};
 use mlk_machine_locks::{LockTable, Refusal, waits_for};
-use mlk_machine_run::Beginning;
+use mlk_machine_run::{Beginning, Turn};
 use mlk_names::LockName;
 use mlk_program::{EntryId, Program};
 use mlk_text::{Failure, Value};
@@ -130,8 +130,7 @@ impl<'a> System<'a> {
             &self.numbers,
             &mut self.table,
             &mut self.jobs,
-            number,
-            choice,
+            Turn { number, choice },
         )
     }
 

@@ -15,13 +15,13 @@ use Rattle.mlk_machine_jobs.specs.Views.{in_table, PutsValue, value_in, value_at
 pub one_function : (f g : Cells) → ((c : Cell) → f c ≡ g c) → f ≡ g
 one_function f g h i c = h c i
 
-zero_suc : (k : ℕ) → (0 == suc k) ≡ false
+pub zero_suc : (k : ℕ) → (0 == suc k) ≡ false
 zero_suc k = grind (arith, nat_tests)
 
-suc_zero : (k : ℕ) → (suc k == 0) ≡ false
+pub suc_zero : (k : ℕ) → (suc k == 0) ≡ false
 suc_zero k = grind (arith, nat_tests)
 
-suc_suc : (g k : ℕ) → (suc g == suc k) ≡ (g == k)
+pub suc_suc : (g k : ℕ) → (suc g == suc k) ≡ (g == k)
 suc_suc g k = grind (arith, nat_tests)
 
 put_in : (ts : List CellTable) (g : ℕ) (t u : CellTable) (name : List ℕ) (value : Option (List ℕ)) → g < length ts

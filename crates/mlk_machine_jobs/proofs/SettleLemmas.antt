@@ -12,7 +12,7 @@ use Rattle.mlk_machine_jobs.specs.Tasks.{Task, Job}
 use Rattle.mlk_machine_jobs.specs.Tasks.{RunLines, RunCommands, Parameters, Forever, NextValue, FirstRound, LaterRound, EndBlock, EndFrame}
 use Rattle.mlk_machine_jobs.specs.Choices.{Stepped}
 use Rattle.mlk_machine_jobs.specs.Advance.{advance}
-use Rattle.mlk_machine_jobs.specs.Seen.{State, Ready, Claims, Releases, AsksChoice, Stuck, Silent, Ended, Stopped, state_in, state, silent_step, go_on, settled, done, asks}
+use Rattle.mlk_machine_jobs.specs.Seen.{State, Ready, Claims, Releases, AsksChoice, Stuck, Silent, Ended, Stopped, state_in, state, silent_step, settled_after, settled, done, asks}
 use Rattle.mlk_machine_jobs.specs.Laws.{goes, Settles, SettlesBySteps}
 
 ended_is_not_silent : (b : Bool) → done b ≡ Silent → ⊥
@@ -140,12 +140,12 @@ stays routines j why h e = on j.tasks e (let P : State → Type 0 = λ s. silent
 
 module _ (routines : List RoutineTree) (most : ℕ) (j : Job) where
   abbrev Steps : Stepped → Type 0
-  Steps s = (free : LockName → Bool) → goes routines free (go_on (λ i. settled routines most i) j s).1 j
-      ≡ Ok (go_on (λ i. settled routines most i) j s).0
+  Steps s = (free : LockName → Bool) → goes routines free (settled_after (λ i. settled routines most i) j s).1 j
+      ≡ Ok (settled_after (λ i. settled routines most i) j s).0
 
   abbrev Stops : Stepped → Type 0
-  Stops s = (state routines (go_on (λ i. settled routines most i) j s).0 ≡ Silent → ⊥)
-      ⊎ ((go_on (λ i. settled routines most i) j s).1 ≡ suc most)
+  Stops s = (state routines (settled_after (λ i. settled routines most i) j s).0 ≡ Silent → ⊥)
+      ⊎ ((settled_after (λ i. settled routines most i) j s).1 ≡ suc most)
 
   makes : (s : Stepped) → silent_step routines j (state routines j) ≡ s → ((i : Job) → Settles routines most i) → Steps s
   makes (Err why) e more free = refl

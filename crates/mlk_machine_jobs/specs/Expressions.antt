@@ -6,12 +6,15 @@ use Rattle.mlk_syntax.specs.declared.expr.Special.{Special}
 use Rattle.mlk_syntax.specs.declared.expr.Special.TheVariants as special
 use Rattle.mlk_syntax.specs.declared.expr.Function.{Function}
 use Rattle.mlk_syntax.specs.declared.expr.Function.TheVariants as function
-use Rattle.mlk_syntax.specs.ExprTrees.{Tree, Lit, Free, LocalName, GlobalName, SpecialName, Prefixed, Chain, PatternText, Func, Selected, BareCall, CallOf}
-use Rattle.mlk_syntax.specs.ExprTrees.{Trees, no_trees, tree, Subs, no_subs, sub, Links, no_links, link, ActualTree, Given, ByRef, Missing, Actuals, no_actuals, actual, count_subs, as_list}
+use Rattle.mlk_syntax.specs.ExprTrees.{Tree, Lit, Free, LocalName, GlobalName, SpecialName, Prefixed}
+use Rattle.mlk_syntax.specs.ExprTrees.{Chain, PatternText, Func, Selected, BareCall, CallOf}
+use Rattle.mlk_syntax.specs.ExprTrees.{Trees, no_trees, tree, Subs, no_subs, sub, Links, no_links, link, ActualTree}
+use Rattle.mlk_syntax.specs.ExprTrees.{Given, ByRef, Missing, Actuals, no_actuals, actual, count_subs, as_list}
 use Rattle.mlk_names.specs.declared.reference.Extent.{Extent}
 use Rattle.mlk_names.specs.declared.reference.Extent.TheVariants as extent
 use Rattle.mlk_names.specs.declared.reference.Access.TheVariants.{Reads}
-use Rattle.mlk_machine_jobs.specs.Tasks.{Task, Evaluate, Push, Fetch, PushJob, PushTest, ApplyUnary, ApplyBinary, AskValue, Drop, Select, FormReference, Call}
+use Rattle.mlk_machine_jobs.specs.Tasks.{Task, Evaluate, Push, Fetch, PushJob, PushTest, ApplyUnary}
+use Rattle.mlk_machine_jobs.specs.Tasks.{ApplyBinary, AskValue, Drop, Select, FormReference, Call}
 
 -- subscripts, and their number
 abbrev pub each_sub : Subs → List Task

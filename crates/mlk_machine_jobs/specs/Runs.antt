@@ -1,6 +1,7 @@
 -- How a job begins and is aborted, and the machine of all jobs of a program. This project's own: M's standard describes a single
 -- process.
-use Rattle.std.specs.Prelude.{ℕ, nat_lt, ◌&&◌, Bool, true, false, if◌then◌else◌, List, [], ◌∷◌, length, reverse, map, Option, Some, None, Ok, Err}
+use Rattle.std.specs.Prelude.{ℕ, nat_lt, ◌&&◌, Bool, true, false, if◌then◌else◌, List, []}
+use Rattle.std.specs.Prelude.{◌∷◌, length, reverse, map, Option, Some, None, Ok, Err}
 use Rattle.mlk_names.specs.declared.lock_name.LockName.{LockName}
 use Rattle.mlk_machine_locks.specs.declared.refusal.Refusal.TheVariants.{NotEnabled, BadChoice}
 use Rattle.mlk_machine_locks.specs.Waiting.{Claim, View}

@@ -1,5 +1,6 @@
 -- What is visible of jobs: what each does next, which two clash, and how far a job runs by itself. This project's own.
-use Rattle.std.specs.Prelude.{◌≡◌, ◌≢◌, ◌⊎◌, ℕ, zero, suc, ◌==◌, Bool, true, false, if◌then◌else◌, List, [], ◌∷◌, Option, Some, None, Result, Ok, Err}
+use Rattle.std.specs.Prelude.{◌≡◌, ◌≢◌, ◌⊎◌, ℕ, zero, suc, ◌==◌, Bool, true, false}
+use Rattle.std.specs.Prelude.{if◌then◌else◌, List, [], ◌∷◌, Option, Some, None, Result, Ok, Err}
 use Rattle.mlk_names.specs.declared.lock_name.LockName.{LockName}
 use Rattle.mlk_names.specs.declared.reference.Access.TheVariants.{Writes}
 use Rattle.mlk_names.specs.References.{Touch, Overlap}
@@ -71,13 +72,13 @@ abbrev pub silent_step : List RoutineTree → Job → State → Stepped
 silent_step routines j Silent = advance routines (λ n. true) choice.None j j.tasks
 silent_step routines j s = Err NotEnabled
 
-abbrev pub go_on : (Job → Job × ℕ) → Job → Stepped → Job × ℕ
-go_on more j (Err why) = (j, 0)
-go_on more j (Ok i) = let r = more i in (r.0, suc r.1)
+abbrev pub settled_after : (Job → Job × ℕ) → Job → Stepped → Job × ℕ
+settled_after more j (Err why) = (j, 0)
+settled_after more j (Ok i) = let r = more i in (r.0, suc r.1)
 
 unfoldable pub settled : List RoutineTree → ℕ → Job → Job × ℕ
 settled routines zero j = (j, 0)
-settled routines (suc most) j = go_on (λ i. settled routines most i) j (silent_step routines j (state routines j))
+settled routines (suc most) j = settled_after (λ i. settled routines most i) j (silent_step routines j (state routines j))
 
 abbrev pub most_silent_steps : ℕ
 most_silent_steps = 65536

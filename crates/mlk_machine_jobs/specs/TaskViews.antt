@@ -6,7 +6,8 @@ use Rattle.mlk_syntax.specs.declared.command.For.{For}
 use Rattle.mlk_syntax.specs.declared.command.Commands.TheFolds.{fold-For}
 use Rattle.mlk_syntax.specs.declared.routine.Line.{Line}
 use Rattle.mlk_syntax.specs.Trees.{CommandTrees, LineTrees}
-use Rattle.mlk_syntax.specs.Views.{commands_step, for_step, commands_from, last_or_none, command_of, line_of, lines_from, action_of, variable_of, target_of, parameter_of}
+use Rattle.mlk_syntax.specs.Views.{commands_step, for_step, commands_from, last_or_none, command_of}
+use Rattle.mlk_syntax.specs.Views.{line_of, lines_from, action_of, variable_of, target_of, parameter_of}
 use Rattle.mlk_machine_jobs.specs.declared.task.Calling.{Calling}
 use Rattle.mlk_machine_jobs.specs.declared.task.Calling.TheVariants as calling
 use Rattle.mlk_machine_jobs.specs.declared.task.Rest.{Rest}

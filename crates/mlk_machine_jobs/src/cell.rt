@@ -1,6 +1,7 @@
 // The values of cells.
 
-ghost use Rattle.std.specs.Prelude.{◌≡◌, ◌<◌, ℕ, suc, List, length, Some, None, option_copied, slice_get, IfOk, OnOk, OnErr, min, map, not, if◌then◌else◌};
+ghost use Rattle.std.specs.Prelude.{◌≡◌, ◌<◌, ℕ, suc, List, length, Some, None, option_copied};
+ghost use Rattle.std.specs.Prelude.{slice_get, IfOk, OnOk, OnErr, min, map, not, if◌then◌else◌};
 ghost use Rattle.mlk_machine_jobs.specs.Bindings.{put_value, forgotten};
 ghost use Rattle.mlk_machine_jobs.specs.Killing.{is_taken, without_taken};
 ghost use Rattle.mlk_machine_jobs.specs.Views.{names_of, bindings_of, cell_of, in_table, value_at, PutsValue, without};

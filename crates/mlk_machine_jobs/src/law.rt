@@ -1,6 +1,7 @@
 // Laws of all runs.
 
-ghost use Rattle.mlk_machine_jobs.specs.Laws.{HeldApart, NumbersDistinct, OneRunOfMany, LeavingOut, ChangesOne, RingsAreFound, EndedStays, SettlesBySteps};
+ghost use Rattle.mlk_machine_jobs.specs.Laws.{HeldApart, NumbersDistinct, OneRunOfMany, LeavingOut};
+ghost use Rattle.mlk_machine_jobs.specs.Laws.{ChangesOne, RingsAreFound, EndedStays, SettlesBySteps};
 
 /// In every run, no job holds a lock that conflicts with one that another job holds.
 pub fn held_apart()

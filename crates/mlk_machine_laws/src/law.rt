@@ -1,6 +1,7 @@
 // Laws of runs of many jobs in which each job by itself follows the rules.
 
-ghost use Rattle.mlk_machine_laws.specs.Laws.{ClashesAreFree, NoClash, NoRing, AllEndEmpty, EndsPutBack, EachIsTidy, NewIsNew, KillIsExact, SharedByReference, OutsideIsKept};
+ghost use Rattle.mlk_machine_laws.specs.Laws.{ClashesAreFree, NoClash, NoRing, AllEndEmpty, EndsPutBack};
+ghost use Rattle.mlk_machine_laws.specs.Laws.{EachIsTidy, NewIsNew, KillIsExact, SharedByReference, OutsideIsKept};
 
 /// If each job by itself always holds locks that cover the reference at which it stands ready, then two jobs of a run stand ready
 /// at overlapping references, one of which is a write, only if the other is a read and each cover rule in which they meet makes

@@ -1,10 +1,12 @@
 // Rings of waiting jobs, found by a search along the waits-for relation: each job is visited once, and only those jobs are tried
 // that may hold a name for which it waits.
 
-ghost use Rattle.std.specs.Prelude.{◌≡◌, ◌⊎◌, ◌<◌, ◌++◌, ◌∷◌, ◌&&◌, not, [], ℕ, suc, true, false, Some, IfOk, OnOk, IfSome, IfNone, length, reverse, set, slice_get};
+ghost use Rattle.std.specs.Prelude.{◌≡◌, ◌⊎◌, ◌<◌, ◌++◌, ◌∷◌, ◌&&◌, not, [], ℕ, suc, true, false, Some};
+ghost use Rattle.std.specs.Prelude.{IfOk, OnOk, IfSome, IfNone, length, reverse, set, slice_get};
 ghost use Rattle.mlk_names.specs.declared.lock_name.LockName.{LockName};
 ghost use Rattle.mlk_machine_locks.specs.Rings.{has_ring};
-ghost use Rattle.mlk_machine_locks.specs.Searches.{is_free, is_new, IsFree, FreeAt, AreFree, WaitsFreely, Waits, IsNext, IsStop, IsMet, Searching, work};
+ghost use Rattle.mlk_machine_locks.specs.Searches.{is_free, is_new, IsFree, FreeAt, AreFree, WaitsFreely};
+ghost use Rattle.mlk_machine_locks.specs.Searches.{Waits, IsNext, IsStop, IsMet, Searching, work};
 ghost use Rattle.mlk_machine_locks.specs.Tables.{CoversWaiting, IsFound, ListsAll};
 ghost use Rattle.mlk_machine_locks.specs.Waiting.{Holds, awaited, waits_as};
 ghost use Rattle.mlk_machine_locks.specs.declared.ring.Mark.TheVariants.{OnPath};
@@ -109,7 +111,7 @@ fn visit_job(marks: &mut Vec<Mark>, path: &mut Vec<Stop>, stop: Stop) -> Result<
 }
 
 // Takes one step from the last stop of a path, and returns whether that job waits for one on the path, so that there is a ring.
-fn go_on<J: Seen>(
+fn take_step<J: Seen>(
     jobs: &[J],
     table: &LockTable,
     marks: &mut Vec<Mark>,
@@ -168,7 +170,7 @@ fn search<J: Seen>(
     let first = stop_at(jobs, table, start)?;
     visit_job(marks, &mut path, first)?;
     while let Some(stop) = path.pop() {
-        if go_on(jobs, table, marks, &mut path, stop)? {
+        if take_step(jobs, table, marks, &mut path, stop)? {
             return Ok(true);
         }
     }

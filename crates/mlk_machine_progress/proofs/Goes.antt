@@ -24,7 +24,7 @@ use Rattle.mlk_machine_jobs.specs.Lines.{chosen, tasks_if}
 use Rattle.mlk_machine_jobs.specs.Calling.{called, called_if, call_frame, frame_end}
 use Rattle.mlk_machine_jobs.specs.Advance.{advance}
 use Rattle.mlk_machine_progress.specs.Progress.{is_granted, can_go, claiming}
-use Rattle.mlk_machine_progress.specs.Laws.{JobsGoOn, ClaimsAreGranted}
+use Rattle.mlk_machine_progress.specs.Laws.{JobsContinue, ClaimsAreGranted}
 use Rattle.mlk_machine_progress.proofs.Rests.{Suits}
 use Rattle.mlk_machine_progress.proofs.Found.{Reaches, AllFind}
 use Rattle.mlk_machine_progress.proofs.Outcomes.{Each, refused, unasked}
@@ -181,8 +181,8 @@ stands routines free c j (task.Claim names false ∷ ts) h = unasked Never c _ (
 stands routines free c j (RunLines ((LineHead n level end label (Some formals) commands, block) ∷ lines) ∷ ts) h = unasked Never c _ (refused Never NotEnabled)
 stands routines free c j ts h = cc
 
-pub jobs_go_on : JobsGoOn
-jobs_go_on routines declared p e test values k first j acts b r = record {
+pub jobs_continue : JobsContinue
+jobs_continue routines declared p e test values k first j acts b r = record {
   goes = λ free h.
       goes routines free j j.tasks (suited routines declared e test values k first j acts b r (λ z. let w : false ≡ true = subst (λ ts. can_go free j ts ≡ true) z h in cc))
       (finds_all routines p declared e test values k first j acts b r) h;

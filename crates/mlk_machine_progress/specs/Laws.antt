@@ -5,7 +5,7 @@ use Rattle.mlk_program.specs.Program.{IsProgram}
 use Rattle.mlk_program.specs.declared.entry.EntryId.{EntryId}
 use Rattle.mlk_machine_jobs.specs.Tasks.{Job}
 use Rattle.mlk_machine_laws.specs.Moments.{AtEachMoment}
-use Rattle.mlk_machine_progress.specs.Progress.{HasEnough, LeavesBelow, GoesOn, IsGrantedSo}
+use Rattle.mlk_machine_progress.specs.Progress.{HasEnough, LeavesBelow, Continues, IsGrantedSo}
 
 -- At each moment of each run of one job, of any routines, its values are exactly enough for its tasks.
 abbrev pub ValuesSuffice : Type 0
@@ -16,8 +16,9 @@ abbrev pub UsesNoMore : Type 0
 UsesNoMore = (routines : List RoutineTree) (j : Job) → LeavesBelow routines j
 
 -- At each moment of each run of one job of a program, the job has a next step exactly if it can take one.
-abbrev pub JobsGoOn : Type 0
-JobsGoOn = (routines : List RoutineTree) (declared : EntryId → Bool) → IsProgram routines → AtEachMoment routines declared (GoesOn routines)
+abbrev pub JobsContinue : Type 0
+JobsContinue = (routines : List RoutineTree) (declared : EntryId → Bool) → IsProgram routines
+    → AtEachMoment routines declared (Continues routines)
 
 -- Any job, of any routines, is granted a claim exactly if it is free.
 abbrev pub ClaimsAreGranted : Type 0

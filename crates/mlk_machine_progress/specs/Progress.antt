@@ -7,7 +7,7 @@ use Rattle.mlk_names.specs.declared.reference.Access.TheVariants.{Reads, Writes}
 use Rattle.mlk_machine_locks.specs.Counts.{has_room}
 use Rattle.mlk_syntax.specs.ExprTrees.{no_choices}
 use Rattle.mlk_syntax.specs.Trees.{RoutineTree}
-use Rattle.mlk_program.specs.Entries.{lacks_formals}
+use Rattle.mlk_program.specs.Entries.{has_no_formals}
 use Rattle.mlk_machine_jobs.specs.declared.choice.Choice.{Choice}
 use Rattle.mlk_machine_jobs.specs.declared.choice.Choice.TheVariants as choice
 use Rattle.mlk_machine_jobs.specs.Bindings.{look}
@@ -95,7 +95,7 @@ can_go free j [] = false
 can_go free j (task.Fetch name ∷ ts) = is_some (j.cells (look j.bindings name))
 can_go free j (task.Select no_choices ∷ ts) = false
 can_go free j (task.Claim names false ∷ ts) = is_granted free j names
-can_go free j (RunLines (l ∷ lines) ∷ ts) = lacks_formals l
+can_go free j (RunLines (l ∷ lines) ∷ ts) = has_no_formals l
 can_go free j ts = true
 
 -- a step by this choice, and one by some choice
@@ -106,7 +106,7 @@ abbrev pub HasStep : List RoutineTree → (LockName → Bool) → Job → Type 0
 HasStep routines free j = (c : Choice) × Steps routines free c j
 
 -- it has a next step if it can take one, and none otherwise
-pub record GoesOn (routines : List RoutineTree) (j : Job) : Type 0 where
+pub record Continues (routines : List RoutineTree) (j : Job) : Type 0 where
   pub goes : (free : LockName → Bool) → can_go free j j.tasks ≡ true → HasStep routines free j
   pub stands : (free : LockName → Bool) → can_go free j j.tasks ≡ false → HasStep routines free j → ⊥
 

@@ -4,4 +4,4 @@
 
 mod law;
 
-pub use law::{claims_are_granted, jobs_go_on, uses_no_more, values_suffice};
+pub use law::{claims_are_granted, jobs_continue, uses_no_more, values_suffice};

@@ -7,10 +7,10 @@ use Rattle.std.proofs.lemmas.List.{reverse-append, reverse-reverse, take-append-
 use Rattle.mlk_machine_locks.specs.declared.refusal.Refusal.TheVariants.{NotEnabled}
 use Rattle.mlk_machine_locks.specs.Counts.{Counts}
 use Rattle.mlk_syntax.specs.ExprTrees.{ActualTree, Given, ByRef, Missing}
-use Rattle.mlk_syntax.specs.declared.routine.Line.{Line}
 use Rattle.mlk_syntax.specs.declared.routine.Routine.{Routine}
 use Rattle.mlk_syntax.specs.Views.{line_of, routine_of}
 use Rattle.mlk_program.specs.declared.entry.EntryId.{EntryId}
+use Rattle.mlk_program.proofs.EntryLines.{drop-map}
 use Rattle.mlk_machine_jobs.specs.declared.choice.Choice.{Choice}
 use Rattle.mlk_machine_jobs.specs.declared.binding.Binder.{Binder as BinderIn}
 use Rattle.mlk_machine_jobs.specs.declared.cell.CellTable.{CellTable}
@@ -31,10 +31,11 @@ use Rattle.mlk_machine_jobs.specs.JobViews.{frame_of, job_of, tasks_of}
 use Rattle.mlk_machine_jobs.specs.TaskViews.{task_of}
 use Rattle.mlk_machine_jobs.specs.Sound.{HaveTables, IsWithin, AreNested, Stands, Sound}
 use Rattle.mlk_machine_jobs.proofs.BinderLemmas.{newest}
-use Rattle.mlk_machine_jobs.proofs.CellLemmas.{one_function}
+use Rattle.mlk_machine_jobs.proofs.CellLemmas.{one_function, suc_suc, zero_suc, suc_zero}
 use Rattle.mlk_machine_jobs.proofs.PendingLemmas.{tasks_after}
 use Rattle.mlk_machine_jobs.proofs.SoundLemmas.{same_nested}
 use Rattle.mlk_machine_steps.proofs.ScopeLemmas.{lines_again, same_tasks}
+use Rattle.mlk_machine_steps.proofs.StepLemmas.{the_last}
 use Rattle.mlk_machine_run.specs.Frames.{Held, with_held, filled, filled_first, begun_tasks, frame_begun}
 
 -- the lines after an entry
@@ -48,14 +49,9 @@ got_none [] k h = refl
 got_none (s ∷ rs) zero h = absurd (cc)
 got_none (s ∷ rs) (suc k) h = got_none rs k h
 
-dropped_lines : (n : ℕ) (ls : List Line) → drop n (map line_of ls) ≡ map line_of (drop n ls)
-dropped_lines zero ls = refl
-dropped_lines (suc n) [] = refl
-dropped_lines (suc n) (l ∷ ls) = dropped_lines n ls
-
 pub lines_some : (rs : List Routine) (e : EntryId) (r : Routine) → slice_get rs e.routine ≡ Some r
     → lines_after (map routine_of rs) e ≡ map line_of (drop e.line r.lines.items)
-lines_some rs e r h = rw (got rs e.routine r h) (ap (drop e.line) (lines_again r.lines.items) ∙ dropped_lines e.line r.lines.items)
+lines_some rs e r h = rw (got rs e.routine r h) (ap (drop e.line) (lines_again r.lines.items) ∙ drop-map e.line r.lines.items)
 
 pub lines_none : (rs : List Routine) (e : EntryId) → slice_get rs e.routine ≡ None → lines_after (map routine_of rs) e ≡ []
 lines_none rs e h = rw (got_none rs e.routine h) refl
@@ -127,15 +123,6 @@ filled_own g (f ∷ fs) (Missing ∷ given) vs held cells = filled_own g fs give
 
 abbrev nothing : Held
 nothing n = None
-
-suc_suc : (g k : ℕ) → (suc g == suc k) ≡ (g == k)
-suc_suc g k = grind (arith, nat_tests)
-
-zero_suc : (k : ℕ) → (0 == suc k) ≡ false
-zero_suc k = grind (arith, nat_tests)
-
-suc_zero : (k : ℕ) → (suc k == 0) ≡ false
-suc_zero k = grind (arith, nat_tests)
 
 last_in : (ts : List CellTable) (t : CellTable) (k : ℕ) (n : List ℕ)
     → value_in n (slice_get (ts ++ t ∷ []) k)
@@ -277,20 +264,16 @@ pub no_condition : (c : Choice) (vs : List (List ℕ)) (f : Bool → Stepped) �
 no_condition c [] f h = refl
 no_condition c (v ∷ vs) f h = absurd (cc)
 
-first_value : (vs : List (List ℕ)) (v : List ℕ) (f : List ℕ → Stepped) → Some v ≡ slice_get vs 0 → with_last vs f ≡ f v
-first_value [] v f h = absurd (cc)
-first_value (w ∷ vs) v f h = let e : Some v ≡ Some w = h in let i : v ≡ w = cc in rw i refl
-
 pub known_condition : (c : Choice) (vs : List (List ℕ)) (v : List ℕ) (b : Bool) (f : Bool → Stepped) → Some v ≡ slice_get vs 0
     → Some b ≡ truth_of_text v → with_last vs (λ v. truth_or_asked c (truth_of_text v) f) ≡ without_choice c (f b)
 known_condition c vs v b f h k =
-    first_value vs v (λ v. truth_or_asked c (truth_of_text v) f) h
+    the_last vs v (λ v. truth_or_asked c (truth_of_text v) f) h
     ∙ ap (λ (o : Option Bool). truth_or_asked c o f) (sym k)
 
 pub asked_condition : (c : Choice) (vs : List (List ℕ)) (v : List ℕ) (f : Bool → Stepped) → Some v ≡ slice_get vs 0
     → None ≡ truth_of_text v → with_last vs (λ v. truth_or_asked c (truth_of_text v) f) ≡ with_truth c f
 asked_condition c vs v f h k =
-    first_value vs v (λ v. truth_or_asked c (truth_of_text v) f) h
+    the_last vs v (λ v. truth_or_asked c (truth_of_text v) f) h
     ∙ ap (λ (o : Option Bool). truth_or_asked c o f) (sym k)
 
 -- a call at a line

@@ -55,7 +55,7 @@ jobs_set [] i j = refl
 jobs_set (x ∷ js) zero j = refl
 jobs_set (x ∷ js) (suc i) j = ap (λ (z : List Job). job_of x ∷ z) (jobs_set js i j)
 
-first_not : {A : Type 0} (o : Option ℕ) → o ≡ Some 0 → o ≡ None → A
+pub first_not : {A : Type 0} (o : Option ℕ) → o ≡ Some 0 → o ≡ None → A
 first_not None h k = absurd (cc)
 first_not (Some n) h k = absurd (cc)
 

@@ -97,7 +97,8 @@ pub fn begin<'a>(
     program: &Program<'a>,
     beginning: &Beginning<'_>,
 ) -> Result<Job<'a>, Failure<Refusal>>
-    ensures job { Answers job_of result (begun (map routine_of program.now) beginning.now.entry beginning.now.number beginning.now.test (map Some beginning.now.values.now)) }
+    ensures job { Answers job_of result (begun (map routine_of program.now) beginning.now.entry beginning.now.number
+        beginning.now.test (map Some beginning.now.values.now)) }
     ensures sound { IfOk result (λ j. Sound j) }
 {
     let Beginning {

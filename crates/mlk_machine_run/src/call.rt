@@ -34,6 +34,13 @@ pub(crate) struct Brought<'a> {
     pub(crate) skipped: usize,
 }
 
+/// The callee of a call, and its actuals, whose values were computed.
+#[derive(Clone, Copy, Drop)]
+pub(crate) struct Invocation<'a> {
+    pub(crate) callee: &'a Callee,
+    pub(crate) given: &'a [Actual],
+}
+
 // The lines after the first `count`.
 fn from_line(lines: &[Line], count: usize) -> &[Line]
     ensures { result.now ≡ drop count lines.now }
@@ -168,24 +175,23 @@ pub(crate) fn call<'a>(
     job: &mut Job<'a>,
     choice: &Choice,
     calling: Calling,
-    callee: &Callee,
-    given: &'a [Actual],
+    invocation: Invocation<'a>,
 ) -> Result<(), Failure<Refusal>>
     requires { Sound job.old }
     ensures answer { Answers (λ _. job_of job.new) result (without_choice choice.now
         (called (map routine_of program.now) (calls.call_frame (is_extrinsic calling) (job_of job.old))
-        (target_of (map routine_of program.now) (job_of job.old).routine callee.now) (actual_trees given.now)
-        (job_of job.old).tasks (job_of job.old))) }
+        (target_of (map routine_of program.now) (job_of job.old).routine invocation.entry.callee.now)
+        (actual_trees invocation.entry.given.now) (job_of job.old).tasks (job_of job.old))) }
     ensures stays { OnErr result (job_of job.new ≡ job_of job.old) }
     ensures room { OnErr result (KeepsPending job.old job.new) }
     ensures sound { Sound job.new }
 {
     let brought = Brought {
         frame: frame_of(calling, job.test),
-        given,
+        given: invocation.given,
         skipped: 0,
     };
-    call_named(alloc, program, job, choice, callee, brought)
+    call_named(alloc, program, job, choice, invocation.callee, brought)
 }
 
 // Makes a call if its postconditional is true; otherwise its actuals are dropped. The truth value was the last value.
@@ -195,14 +201,13 @@ fn call_where<'a>(
     job: &mut Job<'a>,
     choice: &Choice,
     is_true: bool,
-    callee: &Callee,
-    given: &'a [Actual],
+    invocation: Invocation<'a>,
 ) -> Result<(), Failure<Refusal>>
     requires { Sound job.old }
     ensures answer { Answers (λ _. job_of job.new) result (without_choice choice.now
         (called_if is_true (map routine_of program.now)
-        (target_of (map routine_of program.now) (job_of job.old).routine callee.now) (actual_trees given.now)
-        (job_of job.old).tasks (dropped 1 (job_of job.old)))) }
+        (target_of (map routine_of program.now) (job_of job.old).routine invocation.entry.callee.now)
+        (actual_trees invocation.entry.given.now) (job_of job.old).tasks (dropped 1 (job_of job.old)))) }
     ensures stays { OnErr result (job_of job.new ≡ job_of job.old) }
     ensures room { OnErr result (KeepsPending job.old job.new) }
     ensures sound { Sound job.new }
@@ -210,14 +215,14 @@ fn call_where<'a>(
     if is_true {
         let brought = Brought {
             frame: Frame::NoValue,
-            given,
+            given: invocation.given,
             skipped: 1,
         };
-        return call_named(alloc, program, job, choice, callee, brought);
+        return call_named(alloc, program, job, choice, invocation.callee, brought);
     }
     nothing_asked(choice)?;
     job.use_up(1);
-    job.use_up(count_given(given));
+    job.use_up(count_given(invocation.given));
     Ok(())
 }
 
@@ -228,13 +233,13 @@ pub(crate) fn call_if<'a>(
     program: &Program<'a>,
     job: &mut Job<'a>,
     choice: &Choice,
-    callee: &Callee,
-    given: &'a [Actual],
+    invocation: Invocation<'a>,
 ) -> Result<(), Failure<Refusal>>
     requires { Sound job.old }
     ensures answer { Answers (λ _. job_of job.new) result (by_truth choice.now (job_of job.old)
         (λ t i. called_if t (map routine_of program.now)
-        (target_of (map routine_of program.now) i.routine callee.now) (actual_trees given.now) (job_of job.old).tasks i)) }
+        (target_of (map routine_of program.now) i.routine invocation.entry.callee.now)
+        (actual_trees invocation.entry.given.now) (job_of job.old).tasks i)) }
     ensures stays { OnErr result (job_of job.new ≡ job_of job.old) }
     ensures room { OnErr result (KeepsPending job.old job.new) }
     ensures sound { Sound job.new }
@@ -243,10 +248,10 @@ pub(crate) fn call_if<'a>(
         return Err(Failure::Refused(Refusal::NotEnabled));
     };
     match known_truth(value) {
-        Some(is_true) => call_where(alloc, program, job, choice, is_true, callee, given),
+        Some(is_true) => call_where(alloc, program, job, choice, is_true, invocation),
         None => {
             let is_true = or_refused(asked_truth(choice))?;
-            call_where(alloc, program, job, &Choice::None, is_true, callee, given)
+            call_where(alloc, program, job, &Choice::None, is_true, invocation)
         }
     }
 }

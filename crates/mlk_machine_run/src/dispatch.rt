@@ -11,14 +11,14 @@ ghost use Rattle.mlk_machine_jobs.specs.Sound.{Sound};
 ghost use Rattle.mlk_machine_jobs.specs.TaskViews.{value_task, local_task, test_task, lock_task, scope_task, line_task, task_of};
 ghost use Rattle.mlk_machine_run.specs.Frames.{claimed_in};
 
-use crate::call::{call, call_if};
+use crate::call::{Invocation, call, call_if};
 use crate::formals::count_given;
 use mlk_machine_jobs::{
     Choice, Job, LineTask, LocalTask, LockTask, ScopeTask, Task, TestTask, ValueTask,
 };
 use mlk_machine_locks::Refusal;
 use mlk_machine_steps::{
-    apply_binary, apply_unary, ask_test, ask_value, assign, begin_block, choose, claim,
+    Reference, apply_binary, apply_unary, ask_test, ask_value, assign, begin_block, choose, claim,
     drop_values, evaluate, fetch, form_reference, halt, kill, make_new, merge, name_locks,
     nothing_asked, push_copy, push_job, push_test, quit_here, quit_with_value, release,
     release_all, run_commands, run_first_round, run_forever, run_if_true, run_later_round,
@@ -55,7 +55,13 @@ pub(crate) fn value_step<'a>(
         ValueTask::Select(branches) => select(alloc, job, &choice, branches),
         ValueTask::Selected(value, others) => choose(alloc, job, &choice, value, others),
         ValueTask::FormReference(name, count, extent, access) => {
-            form_reference(alloc, job, &choice, name, *count, *extent, *access)
+            let reference = Reference {
+                name: *name,
+                count: *count,
+                extent: *extent,
+                access: *access,
+            };
+            form_reference(alloc, job, &choice, reference)
         }
         ValueTask::DoTouch(reference) => touch(job, choice, reference.access),
     }
@@ -152,9 +158,19 @@ pub(crate) fn scope_step<'a>(
 {
     match task {
         ScopeTask::Call(calling, callee, given) => {
-            call(alloc, program, job, choice, *calling, callee, given)
+            let invocation = Invocation {
+                callee: *callee,
+                given: *given,
+            };
+            call(alloc, program, job, choice, *calling, invocation)
         }
-        ScopeTask::CallIf(callee, given) => call_if(alloc, program, job, choice, callee, given),
+        ScopeTask::CallIf(callee, given) => {
+            let invocation = Invocation {
+                callee: *callee,
+                given: *given,
+            };
+            call_if(alloc, program, job, choice, invocation)
+        }
         ScopeTask::StartJob(_, given) => drop_values(job, choice, count_given(given)),
         ScopeTask::Block(lines) => begin_block(job, choice, lines),
     }

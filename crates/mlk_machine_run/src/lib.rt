@@ -13,4 +13,4 @@ mod system;
 pub use beginning::{Beginning, begin};
 pub use silent::silent_step;
 pub use stepping::{claimed_names, step};
-pub use system::{abort, join, step_job};
+pub use system::{Turn, abort, join, step_job};

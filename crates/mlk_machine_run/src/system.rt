@@ -21,22 +21,29 @@ use mlk_program::Program;
 use mlk_text::Failure;
 use std::alloc::Global;
 
-/// Makes one step of the job `number`, which is at `place`, if there is one, with the choice `choice`. The table finds the jobs
-/// that hold conflicting names. If memory runs out, or the step is refused, all jobs are unchanged.
+/// A step of the job `number`, with the choice `choice`.
+#[derive(Drop)]
+pub struct Turn {
+    pub number: u32,
+    pub choice: Choice,
+}
+
+/// Makes one step of a job, which is at `place`, if there is one. The table finds the jobs that hold conflicting names. If memory
+/// runs out, or the step is refused, all jobs are unchanged.
 pub fn step_job<'a>(
     alloc: Global,
     program: &Program<'a>,
     table: &mut LockTable,
     jobs: &mut Vec<Job<'a>>,
     place: Option<usize>,
-    number: u32,
-    choice: Choice,
+    turn: Turn,
 ) -> Result<(), Failure<Refusal>>
     requires sound { AreSound jobs.old.items }
-    requires place { IsPlaceOf number jobs.old.items place }
+    requires place { IsPlaceOf turn.number jobs.old.items place }
     requires covers { Covers seen_in table.old jobs.old.items }
     ensures answer { (declared : EntryOf → Bool) → Answers (λ _. map job_of jobs.new.items) result
-        (happens (machine (map routine_of program.now) declared) (map job_of jobs.old.items) number (systems.Go choice)) }
+        (happens (machine (map routine_of program.now) declared) (map job_of jobs.old.items) turn.number
+        (systems.Go turn.choice)) }
     ensures stays { OnErr result (map job_of jobs.new.items ≡ map job_of jobs.old.items) }
     ensures sound { AreSound jobs.new.items }
     ensures covers { Covers seen_in table.new jobs.new.items }
@@ -44,6 +51,7 @@ pub fn step_job<'a>(
     let Some(place) = place else {
         return Err(Failure::Refused(Refusal::UnknownJob));
     };
+    let Turn { number, choice } = turn;
     let names = claimed_names(&jobs[place]);
     let are_free = table.are_free(jobs.as_slice(), number, names);
     table.list(place, names)?;

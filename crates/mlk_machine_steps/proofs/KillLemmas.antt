@@ -7,6 +7,7 @@ use Rattle.mlk_machine_jobs.specs.Bindings.{Only, Cell, Fresh, ByReference, Bind
 use Rattle.mlk_machine_jobs.specs.Tasks.{Job}
 use Rattle.mlk_machine_jobs.specs.Views.{without}
 use Rattle.mlk_machine_jobs.specs.JobViews.{cleared, killing}
+use Rattle.mlk_machine_jobs.proofs.CellLemmas.{one_function}
 
 shared_same : (all bs : Bindings) (n : List ℕ) (c : Cell) → is_shared_by_formal all bs (Only n) c ≡ true
     → same_cell (look all n) c ≡ true
@@ -75,9 +76,6 @@ one_named bs n c = elim (cases_Bool (same_cell (look bs n) c)) [
     | inr k ↦ k ∙ sym h
   ]
 ]
-
-one_function : (f g : Cells) → ((c : Cell) → f c ≡ g c) → f ≡ g
-one_function f g h i c = h c i
 
 one_cell : (bs : Bindings) (n : List ℕ) (cells : Cells) (c : Cell) → without (look bs n) cells c ≡ killed bs (Only n) cells c
 one_cell bs n cells c = elim (cases_Bool (same_cell (look bs n) c)) [

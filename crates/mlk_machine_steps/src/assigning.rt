@@ -9,9 +9,9 @@ ghost use Rattle.mlk_machine_jobs.specs.JobViews.{job_of, KeepsPending};
 ghost use Rattle.mlk_machine_jobs.specs.Sound.{Sound};
 
 use crate::ask::nothing_asked;
+use mlk_machine_assignments::{assignments, count_parts};
 use mlk_machine_jobs::{Choice, Job};
 use mlk_machine_locks::Refusal;
-use mlk_machine_tasks::{assignments, count_parts};
 use mlk_syntax::Target;
 use mlk_text::{Failure, Value};
 use std::alloc::Global;

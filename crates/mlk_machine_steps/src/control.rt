@@ -11,9 +11,9 @@ ghost use Rattle.mlk_machine_jobs.specs.Sound.{Sound};
 
 use crate::ask::{nothing_asked, or_refused};
 use crate::replace::replace;
+use mlk_machine_expressions::add;
 use mlk_machine_jobs::{Choice, Job, Task, ValueTask, asked_truth};
 use mlk_machine_locks::Refusal;
-use mlk_machine_tasks::add;
 use mlk_syntax::Expr;
 use mlk_text::Failure;
 use std::alloc::Global;

@@ -5,7 +5,8 @@ ghost use Rattle.std.specs.Fmt.{decimal};
 ghost use Rattle.mlk_text.specs.Failures.{Answers};
 ghost use Rattle.mlk_machine_jobs.specs.Bindings.{look};
 ghost use Rattle.mlk_numbers.specs.Operators.{fold_before, fold_between};
-ghost use Rattle.mlk_machine_jobs.specs.Choices.{without_choice, with_value, with_last, given_or_asked, pushed, dropped, fetched, test_text};
+ghost use Rattle.mlk_machine_jobs.specs.Choices.{without_choice, with_value, with_last};
+ghost use Rattle.mlk_machine_jobs.specs.Choices.{given_or_asked, pushed, dropped, fetched, test_text};
 ghost use Rattle.mlk_machine_jobs.specs.JobViews.{job_of, KeepsPending};
 ghost use Rattle.mlk_machine_jobs.specs.Sound.{Sound};
 

@@ -31,5 +31,5 @@ pub use merging::merge;
 pub use quit::{end_frame, halt, quit_here, quit_with_value};
 pub use replace::evaluate;
 pub use scope::{begin_block, end_block, make_new};
-pub use touching::{form_reference, touch};
+pub use touching::{Reference, form_reference, touch};
 pub use truth::{choose, run_if_true, set_test};

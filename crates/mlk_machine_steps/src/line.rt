@@ -12,10 +12,11 @@ ghost use Rattle.mlk_machine_jobs.specs.TaskViews.{commands_left};
 
 use crate::ask::{nothing_asked, or_refused};
 use crate::replace::replace;
+use mlk_machine_expressions::add;
 use mlk_machine_jobs::{Choice, Job, LineTask, LocalTask, Rest, Task, asked_truth};
 use mlk_machine_locks::Refusal;
 use mlk_machine_tasks::{
-    add, first_round, has_formals, later_round, line_parts, next_command, parameter_parts,
+    first_round, has_formals, later_round, line_parts, next_command, parameter_parts,
 };
 use mlk_syntax::{Line, Parameter};
 use mlk_text::{Failure, Name};

@@ -10,9 +10,9 @@ ghost use Rattle.mlk_machine_jobs.specs.JobViews.{job_of, KeepsPending};
 ghost use Rattle.mlk_machine_jobs.specs.Sound.{Sound};
 
 use crate::ask::nothing_asked;
+use mlk_machine_assignments::{merge_source, merge_target};
 use mlk_machine_jobs::{Choice, Job, count_in, cut_after};
 use mlk_machine_locks::Refusal;
-use mlk_machine_tasks::{merge_source, merge_target};
 use mlk_syntax::Variable;
 use mlk_text::{Failure, Value};
 use std::alloc::Global;

@@ -10,9 +10,9 @@ ghost use Rattle.mlk_machine_jobs.specs.Sound.{Sound};
 ghost use Rattle.mlk_machine_jobs.specs.TaskViews.{task_of};
 
 use crate::ask::nothing_asked;
+use mlk_machine_expressions::parts_of;
 use mlk_machine_jobs::{Choice, Job, Task};
 use mlk_machine_locks::Refusal;
-use mlk_machine_tasks::parts_of;
 use mlk_syntax::Expr;
 use mlk_text::Failure;
 use std::alloc::Global;

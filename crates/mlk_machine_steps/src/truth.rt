@@ -14,9 +14,10 @@ ghost use Rattle.mlk_machine_jobs.specs.TaskViews.{Adds, block_of};
 ghost use Rattle.mlk_machine_steps.specs.Truths.{truth_chosen, truth_known, step_truth, part_chosen};
 
 use crate::ask::or_refused;
+use mlk_machine_expressions::add;
 use mlk_machine_jobs::{Choice, Job, Task, ValueTask};
 use mlk_machine_locks::Refusal;
-use mlk_machine_tasks::{action_parts, add};
+use mlk_machine_tasks::action_parts;
 use mlk_numbers::known_truth;
 use mlk_syntax::{Action, Expr, Line};
 use mlk_text::Failure;

@@ -1,5 +1,5 @@
--- The subscripts of variables.
-use Rattle.std.proofs.Common.{◌≡◌, ap, ℕ, false, refl, sym, List, [], ◌∷◌, Some, None, Vec, Global}
+-- The tasks of variables, by the kinds of their names.
+use Rattle.std.proofs.Common.{◌≡◌, ℕ, false, refl, sym, List, [], ◌∷◌, Vec, Global}
 use Rattle.std.proofs.lemmas.Bool.{false≢true}
 use Rattle.mlk_syntax.specs.declared.expr.Subscript.{Subscript}
 use Rattle.mlk_syntax.specs.declared.expr.Expr.TheVariants as rust
@@ -10,39 +10,9 @@ use Rattle.mlk_names.specs.declared.reference.Extent.TheVariants as extent
 use Rattle.mlk_names.specs.declared.reference.Access.TheVariants.{Writes}
 use Rattle.mlk_machine_jobs.specs.Bindings.{Only}
 use Rattle.mlk_machine_jobs.specs.Tasks.{KillNames, Drop, FormReference}
-use Rattle.mlk_machine_jobs.specs.Commands.{subs_in, store_last, kill_variable}
-use Rattle.mlk_machine_tasks.specs.PartViews.{subs_of, is_variable}
-use Rattle.mlk_machine_tasks.specs.ArgumentViews.{bare_name, stored_in}
-
-pub local_subs : (column : ℕ) (name : List ℕ) (v : Vec Subscript Global)
-    → subs_in (Named column (tree_of (rust.Local name v))) ≡ subs_of v.items
-local_subs column name v = ap (λ (t : Tree). subs_in (Named column t)) (tree_local name v)
-
-pub global_subs : (column caret : ℕ) (name : List ℕ) (v : Vec Subscript Global)
-    → subs_in (Named column (tree_of (rust.Global caret name v))) ≡ subs_of v.items
-global_subs column caret name v = ap (λ (t : Tree). subs_in (Named column t)) (tree_global caret name v)
-
-pub other_subs : (column : ℕ) (t : Tree) → is_variable t ≡ false → subs_in (Named column t) ≡ no_subs
-other_subs column (Lit value) h = refl
-other_subs column Free h = refl
-other_subs column (LocalName name subs) h = absurd (false≢true (sym h))
-other_subs column (GlobalName caret name subs) h = absurd (false≢true (sym h))
-other_subs column (SpecialName s) h = refl
-other_subs column (Prefixed op t) h = refl
-other_subs column (Chain t rest) h = refl
-other_subs column (PatternText text) h = refl
-other_subs column (Func f args) h = refl
-other_subs column (Selected cs) h = refl
-other_subs column (BareCall caret callee) h = refl
-other_subs column (CallOf caret callee given) h = refl
-
-pub bare_local : (column : ℕ) (name : List ℕ) (v : Vec Subscript Global) → subs_of v.items ≡ no_subs
-    → Some name ≡ bare_name (Named column (tree_of (rust.Local name v)))
-bare_local column name v h = rw (tree_local name v, h) refl
-
-pub no_bare_local : (column c : ℕ) (name : List ℕ) (v : Vec Subscript Global) (t : Tree) (rest : Subs)
-    → subs_of v.items ≡ sub c t rest → None ≡ bare_name (Named column (tree_of (rust.Local name v)))
-no_bare_local column c name v t rest h = rw (tree_local name v, h) refl
+use Rattle.mlk_machine_jobs.specs.Commands.{store_last, kill_variable}
+use Rattle.mlk_machine_expressions.specs.PartViews.{subs_of, is_variable, bare_name}
+use Rattle.mlk_machine_tasks.specs.ArgumentViews.{stored_in}
 
 pub last_stored : (v : VariableTree) → store_last v ≡ stored_in (bare_name v)
 last_stored (Named column (Lit value)) = refl

@@ -1,9 +1,4 @@
-pub mod ExprParts
-pub mod TreeParts
-pub mod PartCounts
 pub mod PartLemmas
 pub mod CommandParts
 pub mod ActionParts
 pub mod LineParts
-pub mod AssignParts
-pub mod MergeParts

@@ -1,5 +1,5 @@
--- Tasks that are added.
-use Rattle.std.proofs.Common.{◌≡◌, ◌-◌, ◌≤◌, ℕ, suc, List, [], ◌∷◌, ◌++◌, map, length, Option, Some, None, refl, sym, ap, subst, ◌∙◌, arith, append_assoc, append-nil}
+-- Tasks of arguments that are added.
+use Rattle.std.proofs.Common.{◌≡◌, ◌-◌, ◌≤◌, ℕ, suc, List, [], ◌∷◌, ◌++◌, map, length, Option, Some, None, refl, ap, subst, arith}
 use Rattle.std.specs.Prelude.{flat_map, is_some, option_map}
 use Rattle.std.proofs.lemmas.List.Folds.{flat_map-map}
 use Rattle.mlk_syntax.specs.declared.expr.Expr.{Expr}
@@ -13,23 +13,9 @@ use Rattle.mlk_machine_jobs.specs.Tasks.{Task, Evaluate, NextArgument}
 use Rattle.mlk_machine_jobs.specs.Expressions.{each_tree}
 use Rattle.mlk_machine_jobs.specs.Commands.{in_variable, target_parts, in_turn}
 use Rattle.mlk_machine_jobs.specs.TaskViews.{Adds, task_of}
-use Rattle.mlk_machine_tasks.specs.PartViews.{args_of}
+use Rattle.mlk_machine_expressions.specs.PartViews.{args_of}
+use Rattle.mlk_machine_expressions.proofs.Additions.{adds_more}
 use Rattle.mlk_machine_tasks.specs.ArgumentViews.{each_value}
-
-pub adds_both : (p q : List Task) (old now new : List TaskIn) → Adds p old now → Adds q now new → Adds (p ++ q) old new
-adds_both p q old now new h k = k ∙ ap (λ (z : List Task). z ++ q) h ∙ append_assoc (map task_of old) p q
-
-pub adds_none : (tasks : List TaskIn) → Adds [] tasks tasks
-adds_none tasks = sym (append-nil (map task_of tasks))
-
--- what is left of a list, once its first element was added
-pub adds_more : (p q all : List Task) (old now new : List TaskIn) → map task_of now ++ (p ++ q) ≡ map task_of old ++ all
-    → Adds p now new → map task_of new ++ q ≡ map task_of old ++ all
-adds_more p q all old now new h k =
-    ap (λ (z : List Task). z ++ q) k ∙ append_assoc (map task_of now) p q ∙ h
-
-pub adds_all : (all : List Task) (old new : List TaskIn) → map task_of new ++ [] ≡ map task_of old ++ all → Adds all old new
-adds_all all old new h = sym (append-nil (map task_of new)) ∙ h
 
 -- what is left of arguments, once the first of them and the count of those done were added
 pub argument_added : {A : Type 0} (parts : A → List Task) (action : ActionTree) (a : A) (more : List A) (count : ℕ) (all : List Task) (old now mid new : List TaskIn)

@@ -1,16 +1,13 @@
 -- The tasks of arguments of commands, in parts. This project's own.
 use Rattle.std.specs.Prelude.{ℕ, false, List, [], ◌∷◌, ◌++◌, flat_map, Option, Some, None}
-use Rattle.mlk_syntax.specs.ExprTrees.{Tree, LocalName, no_subs, ActualTree}
-use Rattle.mlk_syntax.specs.Trees.{VariableTree, Named, DoTree, KillTree, LockTree, NewTree, ActionTree, LineTrees}
+use Rattle.mlk_syntax.specs.ExprTrees.{Tree, ActualTree}
+use Rattle.mlk_syntax.specs.Trees.{VariableTree, DoTree, KillTree, LockTree, NewTree, ActionTree, LineTrees}
 use Rattle.mlk_machine_jobs.specs.Bindings.{AllBut}
-use Rattle.mlk_machine_jobs.specs.Tasks.{Task, Evaluate, AskValue, Drop, StoreLast, SkipIf, KillNames, NewNames, ReleaseAll, QuitHere, QuitWithValue}
+use Rattle.mlk_machine_jobs.specs.Tasks.{Task, Evaluate, AskValue, Drop, StoreLast, SkipIf}
+use Rattle.mlk_machine_jobs.specs.Tasks.{KillNames, NewNames, ReleaseAll, QuitHere, QuitWithValue}
 use Rattle.mlk_machine_jobs.specs.Expressions.{each_actual}
-use Rattle.mlk_machine_jobs.specs.Commands.{count_in, evaluated_if, store_last, in_time, block_parts, do_parts, if_parts, kill_parts, lock_parts, new_parts, in_turn}
-
--- the name of a local without subscripts
-abbrev pub bare_name : VariableTree → Option (List ℕ)
-bare_name (Named column (LocalName name no_subs)) = Some name
-bare_name v = None
+use Rattle.mlk_machine_jobs.specs.Commands.{count_in, evaluated_if, store_last, in_time, block_parts}
+use Rattle.mlk_machine_jobs.specs.Commands.{do_parts, if_parts, kill_parts, lock_parts, new_parts, in_turn}
 
 -- the tasks of READ after the evaluation of its length
 abbrev pub read_after : VariableTree → Option Tree → List Task

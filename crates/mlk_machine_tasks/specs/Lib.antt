@@ -1,3 +1,1 @@
-pub mod PartViews
 pub mod ArgumentViews
-pub mod AssignViews

@@ -2,15 +2,17 @@
 
 ghost use Rattle.std.specs.Prelude.{OnOk, map, option_map};
 ghost use Rattle.mlk_syntax.specs.ExprTrees.{tree_of, trees};
-ghost use Rattle.mlk_syntax.specs.Views.{call_of, do_of, kill_of, lock_of, merge_of, new_of, read_of, set_of, write_of, action_of, command_of};
-ghost use Rattle.mlk_machine_jobs.specs.Commands.{in_turn, evaluated, job_parts, merge_parts, read_parts, set_parts, write_parts, action_parts};
+ghost use Rattle.mlk_syntax.specs.Views.{call_of, do_of, kill_of, lock_of, merge_of, new_of};
+ghost use Rattle.mlk_syntax.specs.Views.{read_of, set_of, write_of, action_of, command_of};
+ghost use Rattle.mlk_machine_jobs.specs.Commands.{in_turn, evaluated, job_parts, merge_parts};
+ghost use Rattle.mlk_machine_jobs.specs.Commands.{read_parts, set_parts, write_parts, action_parts};
 ghost use Rattle.mlk_machine_jobs.specs.Lines.{command_parts};
 ghost use Rattle.mlk_machine_jobs.specs.TaskViews.{Adds, block_of};
 ghost use Rattle.mlk_machine_tasks.specs.ArgumentViews.{do_all, if_all, kill_all, lock_all, new_all, quit_parts};
 
-use crate::adding::add;
 use crate::command::{block_parts, evaluate_and_drop, if_parts};
 use crate::part::{add_arguments, record_done};
+use mlk_machine_expressions::add;
 use mlk_machine_jobs::{LineTask, LocalTask, LockTask, Names, Task, TestTask, ValueTask};
 use mlk_syntax::{
     Action, Call, Command, DoArgument, Expr, KillArgument, Line, LockArgument, MergeArgument,
@@ -65,7 +67,8 @@ fn do_all<'a>(
     action: &'a Action,
     calls: &'a [DoArgument],
 ) -> Result<(), AllocError>
-    ensures { OnOk result (Adds (do_all (block_of block.now) (action_of action.now) (map do_of calls.now)) parts.old.items parts.new.items) }
+    ensures { OnOk result (Adds (do_all (block_of block.now) (action_of action.now) (map do_of calls.now))
+        parts.old.items parts.new.items) }
 {
     match calls.split_first() {
         None => block_parts(parts, block),

@@ -1,45 +1,19 @@
 // The tasks of arguments of DO, MERGE, NEW, READ and WRITE.
 
-ghost use Rattle.std.specs.Prelude.{◌≡◌, OnOk, option_map};
+ghost use Rattle.std.specs.Prelude.{OnOk, option_map};
 ghost use Rattle.mlk_syntax.specs.ExprTrees.{tree_of};
 ghost use Rattle.mlk_syntax.specs.Views.{variable_of, do_of, new_of, merge_of, read_of, write_of};
 ghost use Rattle.mlk_machine_jobs.specs.Commands.{do_parts, new_parts, merge_parts, store_last, read_parts, write_parts};
 ghost use Rattle.mlk_machine_jobs.specs.TaskViews.{Adds};
-ghost use Rattle.mlk_machine_tasks.specs.ArgumentViews.{bare_name, read_after};
+ghost use Rattle.mlk_machine_tasks.specs.ArgumentViews.{read_after};
 
-use crate::adding::add;
 use crate::command::{evaluate_and_drop, evaluate_if_some, given_in, in_time, in_variable};
-use crate::evaluate::each_actual;
+use mlk_machine_expressions::{add, bare_name, each_actual};
 use mlk_machine_jobs::{Calling, LocalTask, Names, ScopeTask, Task, ValueTask, count_in};
 use mlk_syntax::{
     DoArgument, Expr, MergeArgument, NewArgument, ReadArgument, Variable, WriteArgument,
 };
-use mlk_text::Name;
 use std::alloc::AllocError;
-
-// The name of a local without subscripts, or `None` for any other variable.
-#[tactic(auto, using(crate::proofs::CommandParts::bare_local, crate::proofs::CommandParts::no_bare_local))]
-pub(crate) fn bare_name(variable: &Variable) -> Option<&Name>
-    ensures { option_map (λ n. n.now) result ≡ bare_name (variable_of variable.now) }
-{
-    match &variable.name {
-        Expr::Local(name, subscripts) => match subscripts.split_first() {
-            None => Some(name),
-            Some(_) => None,
-        },
-        Expr::Global(_, _, _)
-        | Expr::Lit(_)
-        | Expr::Free
-        | Expr::Special(_)
-        | Expr::Unary(_, _)
-        | Expr::Binary(_, _)
-        | Expr::Pattern(_)
-        | Expr::Func(_, _)
-        | Expr::Select(_)
-        | Expr::Call(_, _, None)
-        | Expr::Call(_, _, Some(_)) => None,
-    }
-}
 
 // Stores the last value in a local without subscripts; for any other variable it drops the value.
 #[tactic(auto, using(crate::proofs::CommandParts::last_stored))]
@@ -127,7 +101,7 @@ fn read_after<'a>(
     Ok(())
 }
 
-#[tactic(auto, using(crate::proofs::PartLemmas::adds_none))]
+#[tactic(auto, using(mlk_machine_expressions::proofs::Additions::adds_none))]
 pub(crate) fn read_parts<'a>(
     parts: &mut Vec<Task<'a>>,
     argument: &'a ReadArgument,

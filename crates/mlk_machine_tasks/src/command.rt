@@ -3,35 +3,13 @@
 ghost use Rattle.std.specs.Prelude.{◌≡◌, OnOk, option_map};
 ghost use Rattle.mlk_syntax.specs.ExprTrees.{tree_of, actual_trees};
 ghost use Rattle.mlk_syntax.specs.Views.{variable_of};
-ghost use Rattle.mlk_machine_jobs.specs.Commands.{subs_in, in_variable, evaluated, evaluated_if, given_in, block_parts, if_parts, in_time};
+ghost use Rattle.mlk_machine_jobs.specs.Commands.{in_variable, evaluated, evaluated_if, given_in, block_parts, if_parts, in_time};
 ghost use Rattle.mlk_machine_jobs.specs.TaskViews.{Adds, block_of};
-ghost use Rattle.mlk_machine_tasks.specs.PartViews.{subs_of};
 
-use crate::adding::add;
-use crate::expr::each_subscript;
+use mlk_machine_expressions::{add, each_subscript, subscripts_of};
 use mlk_machine_jobs::{ScopeTask, Task, TestTask, ValueTask};
-use mlk_syntax::{Actual, Expr, Line, Subscript, Variable};
+use mlk_syntax::{Actual, Expr, Line, Variable};
 use std::alloc::AllocError;
-
-/// The subscripts of a variable; empty unless it is a local or a global.
-#[tactic(auto, using(crate::proofs::CommandParts::local_subs, crate::proofs::CommandParts::global_subs, crate::proofs::CommandParts::other_subs))]
-pub(crate) fn subscripts_of(variable: &Variable) -> &[Subscript]
-    ensures { subs_of result.now ≡ subs_in (variable_of variable.now) }
-{
-    match &variable.name {
-        Expr::Local(_, subscripts) | Expr::Global(_, _, subscripts) => subscripts,
-        Expr::Lit(_)
-        | Expr::Free
-        | Expr::Special(_)
-        | Expr::Unary(_, _)
-        | Expr::Binary(_, _)
-        | Expr::Pattern(_)
-        | Expr::Func(_, _)
-        | Expr::Select(_)
-        | Expr::Call(_, _, None)
-        | Expr::Call(_, _, Some(_)) => &[],
-    }
-}
 
 pub(crate) fn in_variable<'a>(
     parts: &mut Vec<Task<'a>>,
@@ -54,7 +32,7 @@ pub(crate) fn evaluate_and_drop<'a>(
     Ok(())
 }
 
-#[tactic(auto, using(crate::proofs::PartLemmas::adds_none))]
+#[tactic(auto, using(mlk_machine_expressions::proofs::Additions::adds_none))]
 pub(crate) fn evaluate_if_some<'a>(
     parts: &mut Vec<Task<'a>>,
     expression: &'a Option<Expr>,
@@ -78,7 +56,7 @@ pub(crate) fn given_in(actuals: &Option<Vec<Actual>>) -> &[Actual]
 }
 
 /// Runs the block of a DO without arguments, if there is one.
-#[tactic(auto, using(crate::proofs::PartLemmas::adds_none))]
+#[tactic(auto, using(mlk_machine_expressions::proofs::Additions::adds_none))]
 pub(crate) fn block_parts<'a>(
     parts: &mut Vec<Task<'a>>,
     block: &'a [Line],
@@ -102,7 +80,7 @@ pub(crate) fn if_parts<'a>(parts: &mut Vec<Task<'a>>, condition: &'a Expr) -> Re
 }
 
 /// Sets `$TEST` by READ's timeout, if there is one.
-#[tactic(auto, using(crate::proofs::PartLemmas::adds_none))]
+#[tactic(auto, using(mlk_machine_expressions::proofs::Additions::adds_none))]
 pub(crate) fn in_time<'a>(
     parts: &mut Vec<Task<'a>>,
     timeout: &'a Option<Expr>,

@@ -9,7 +9,7 @@ ghost use Rattle.mlk_machine_jobs.specs.Calling.{formals_in, commands_in};
 ghost use Rattle.mlk_machine_jobs.specs.TaskViews.{Adds, block_of, for_of, commands_left};
 
 use crate::action::command_parts;
-use crate::adding::add;
+use mlk_machine_expressions::add;
 use mlk_machine_jobs::{LineTask, Rest, Task};
 use mlk_syntax::{Commands, For, Line};
 use mlk_text::Name;
@@ -58,13 +58,14 @@ fn for_parts<'a>(parts: &mut Vec<Task<'a>>, last: &'a For, line: &'a Line) -> Re
 }
 
 // The end of commands: the FOR, if there is one.
-#[tactic(auto, using(crate::proofs::PartLemmas::adds_none))]
+#[tactic(auto, using(mlk_machine_expressions::proofs::Additions::adds_none))]
 fn last_parts<'a>(
     parts: &mut Vec<Task<'a>>,
     last: Option<&'a For>,
     line: &'a Line,
 ) -> Result<(), AllocError>
-    ensures { OnOk result (Adds (next_command (last_or_none (option_map (λ f. for_of f.now) last.entry)) (line_of line.now) []) parts.old.items parts.new.items) }
+    ensures { OnOk result (Adds (next_command (last_or_none (option_map (λ f. for_of f.now) last.entry)) (line_of line.now) [])
+        parts.old.items parts.new.items) }
 {
     match last {
         None => Ok(()),
@@ -82,7 +83,8 @@ fn block_of(line: &Line) -> &[Line]
 
 /// Adds the next command of the rest of a line, and the rest after it.
 pub fn next_command<'a>(parts: &mut Vec<Task<'a>>, rest: Rest<'a>) -> Result<(), AllocError>
-    ensures { OnOk result (Adds (next_command (commands_left rest.entry) (line_of rest.entry.line.now) []) parts.old.items parts.new.items) }
+    ensures { OnOk result (Adds (next_command (commands_left rest.entry) (line_of rest.entry.line.now) [])
+        parts.old.items parts.new.items) }
 {
     let Some((command, later)) = rest.commands.split_first() else {
         return last_parts(parts, rest.last, rest.line);

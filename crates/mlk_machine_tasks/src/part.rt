@@ -1,14 +1,16 @@
 // Parts of commands that are expanded into tasks, and lists of them.
 
 ghost use Rattle.std.specs.Prelude.{OnOk, ◌∷◌, [], ◌-◌, ◌≤◌, length, flat_map};
-ghost use Rattle.mlk_syntax.specs.Views.{variable_of, call_of, do_of, kill_of, new_of, lock_of, merge_of, read_of, target_of, set_of, write_of, action_of};
-ghost use Rattle.mlk_machine_jobs.specs.Commands.{in_turn, in_variable, job_parts, do_parts, kill_parts, new_parts, lock_parts, merge_parts, read_parts, target_parts, set_parts, write_parts};
+ghost use Rattle.mlk_syntax.specs.Views.{variable_of, call_of, do_of, kill_of, new_of, lock_of};
+ghost use Rattle.mlk_syntax.specs.Views.{merge_of, read_of, target_of, set_of, write_of, action_of};
+ghost use Rattle.mlk_machine_jobs.specs.Commands.{in_turn, in_variable, job_parts, do_parts, kill_parts, new_parts};
+ghost use Rattle.mlk_machine_jobs.specs.Commands.{lock_parts, merge_parts, read_parts, target_parts, set_parts, write_parts};
 ghost use Rattle.mlk_machine_jobs.specs.Tasks.{NextArgument};
 ghost use Rattle.mlk_machine_jobs.specs.TaskViews.{Adds};
 
-use crate::adding::add;
 use crate::command::in_variable;
 use crate::{argument, target};
+use mlk_machine_expressions::add;
 use mlk_machine_jobs::{LineTask, Task};
 use mlk_syntax::{
     Action, Call, DoArgument, KillArgument, LockArgument, MergeArgument, NewArgument, ReadArgument,
@@ -51,7 +53,8 @@ pub(crate) fn record_done<'a, P>(
     left: &[P],
 ) -> Result<(), AllocError>
     requires { length left.now ≤ length arguments.now }
-    ensures { OnOk result (Adds (NextArgument (action_of action.now) (length arguments.now - length left.now) ∷ []) parts.old.items parts.new.items) }
+    ensures { OnOk result (Adds (NextArgument (action_of action.now) (length arguments.now - length left.now) ∷ [])
+        parts.old.items parts.new.items) }
 {
     let done = arguments.len() - left.len();
     add(parts, Task::Line(LineTask::NextArgument(action, done)))

@@ -7,7 +7,7 @@ ghost use Rattle.mlk_machine_jobs.specs.Tasks.{Evaluate, Drop, StoreLast};
 ghost use Rattle.mlk_machine_jobs.specs.Lines.{parameter_parts, first_round, later_round};
 ghost use Rattle.mlk_machine_jobs.specs.TaskViews.{Adds, commands_left};
 
-use crate::adding::add;
+use mlk_machine_expressions::add;
 use mlk_machine_jobs::{LineTask, LocalTask, Rest, Task, ValueTask};
 use mlk_syntax::{Expr, Parameter};
 use mlk_text::Name;
@@ -40,7 +40,7 @@ fn start_stored<'a>(
 }
 
 /// Adds the remaining parameters: the first of them, and then the others.
-#[tactic(auto, using(crate::proofs::PartLemmas::adds_none))]
+#[tactic(auto, using(mlk_machine_expressions::proofs::Additions::adds_none))]
 pub fn parameter_parts<'a>(
     parts: &mut Vec<Task<'a>>,
     variable: &'a Name,

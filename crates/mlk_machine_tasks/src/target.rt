@@ -1,21 +1,20 @@
 // The tasks of arguments of JOB, KILL, LOCK and SET.
 
-ghost use Rattle.std.specs.Prelude.{◌≡◌, OnOk, length, flat_map, map};
-ghost use Rattle.mlk_syntax.specs.ExprTrees.{tree_of, trees, actual_trees};
+ghost use Rattle.std.specs.Prelude.{OnOk, flat_map, map};
+ghost use Rattle.mlk_syntax.specs.ExprTrees.{trees};
 ghost use Rattle.mlk_syntax.specs.Views.{variable_of, call_of, kill_of, lock_of, target_of, set_of};
 ghost use Rattle.mlk_machine_jobs.specs.Expressions.{each_actual};
 ghost use Rattle.mlk_machine_jobs.specs.Commands.{in_variable, job_parts, kill_variable, kill_parts, lock_parts, target_parts, set_parts};
+ghost use Rattle.mlk_machine_jobs.specs.Locking.{by_sign};
 ghost use Rattle.mlk_machine_jobs.specs.TaskViews.{Adds};
 ghost use Rattle.mlk_machine_tasks.specs.ArgumentViews.{each_value};
 
-use crate::adding::add;
 use crate::command::{evaluate_if_some, given_in, in_variable};
-use crate::evaluate::each_actual;
-use crate::expr::{count_subscripts, each_argument};
 use crate::part::add_all;
+use mlk_machine_expressions::{add, count_subscripts, each_actual, each_argument};
 use mlk_machine_jobs::{LocalTask, LockTask, Names, ScopeTask, Task, ValueTask};
-use mlk_names::{Access, Extent};
-use mlk_syntax::{Call, Expr, KillArgument, LockArgument, SetArgument, Target, Variable};
+use mlk_names::{Access, Extent, LockName};
+use mlk_syntax::{Call, Expr, KillArgument, LockArgument, SetArgument, Sign, Target, Variable};
 use std::alloc::AllocError;
 
 /// JOB evaluates its actuals; the job that it starts is a separate one.
@@ -105,6 +104,26 @@ pub(crate) fn lock_parts<'a>(
         Task::Lock(LockTask::LockNamed(argument.sign, argument.names.as_slice(), timed)),
     )?;
     Ok(())
+}
+
+/// Adds the effect of LOCK on its names: without a sign all locks are released before the claim.
+pub fn by_sign<'a>(
+    parts: &mut Vec<Task<'a>>,
+    sign: Sign,
+    names: Vec<LockName>,
+    timed: bool,
+) -> Result<(), AllocError>
+    ensures { OnOk result (Adds (by_sign sign names.items timed) parts.old.items parts.new.items) }
+{
+    match sign {
+        Sign::None => {
+            add(parts, Task::Lock(LockTask::ReleaseAll))?;
+            add(parts, Task::Lock(LockTask::Claim(names, timed)))?;
+            Ok(())
+        }
+        Sign::Plus => add(parts, Task::Lock(LockTask::Claim(names, timed))),
+        Sign::Minus => add(parts, Task::Lock(LockTask::Release(names))),
+    }
 }
 
 // Evaluates further arguments of a function.

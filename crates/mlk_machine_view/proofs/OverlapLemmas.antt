@@ -1,24 +1,17 @@
 -- The test of two regions decides whether they share a node.
-use Rattle.std.proofs.Common.{◌≡◌, ◌∙◌, ℕ, true, List, [], ◌∷◌, ◌++◌, refl, sym, ap, subst, append-nil}
+use Rattle.std.proofs.Common.{◌≡◌, ◌∙◌, ℕ, true, List, [], ◌∷◌, ◌++◌, refl, sym, subst}
 use Rattle.std.specs.Prelude.{bytes_eq}
 use Rattle.std.proofs.lemmas.Bool.{and_parts, and_from, false≢true}
 use Rattle.std.proofs.lemmas.Slice.Eq.{bytes_eq-Decides}
 use Rattle.mlk_names.specs.declared.reference.Extent.{Extent}
 use Rattle.mlk_names.specs.declared.reference.Extent.TheVariants.{Node, Tree}
 use Rattle.mlk_names.specs.References.{GlobalNode, Region, Reaches, Overlap}
+use Rattle.mlk_names.proofs.OverlapLemmas.{reaches_itself, reaches_cons}
 use Rattle.mlk_machine_view.specs.Regions.{is_tree, subs_meet, overlap, OverlapIsTested}
 
 -- subscripts that are reached from both
 abbrev Meet : List (List ℕ) → Extent → List (List ℕ) → Extent → Type 0
 Meet xs far ys wide = (ws : List (List ℕ)) × Reaches far xs ws × Reaches wide ys ws
-
-reaches_self : (e : Extent) (xs : List (List ℕ)) → Reaches e xs xs
-reaches_self Node xs = refl
-reaches_self Tree xs = record { tail = []; is = append-nil xs }
-
-reaches_more : (e : Extent) (x : List ℕ) (xs ws : List (List ℕ)) → Reaches e xs ws → Reaches e (x ∷ xs) (x ∷ ws)
-reaches_more Node x xs ws h = ap (λ (zs : List (List ℕ)). x ∷ zs) h
-reaches_more Tree x xs ws h = record { tail = h.tail; is = ap (λ (zs : List (List ℕ)). x ∷ zs) h.is }
 
 reaches_all : (e : Extent) (ws : List (List ℕ)) → is_tree e ≡ true → Reaches e [] ws
 reaches_all Node ws h = absurd (false≢true h)
@@ -26,15 +19,15 @@ reaches_all Tree ws h = record { tail = ws; is = refl }
 
 meets : (xs : List (List ℕ)) (far : Extent) (ys : List (List ℕ)) (wide : Extent) → subs_meet xs far ys wide ≡ true
     → Meet xs far ys wide
-meets [] far [] wide h = ([], reaches_self far [], reaches_self wide [])
-meets [] far (y ∷ ys) wide h = (y ∷ ys, reaches_all far (y ∷ ys) h, reaches_self wide (y ∷ ys))
-meets (x ∷ xs) far [] wide h = (x ∷ xs, reaches_self far (x ∷ xs), reaches_all wide (x ∷ xs) h)
+meets [] far [] wide h = ([], reaches_itself far [], reaches_itself wide [])
+meets [] far (y ∷ ys) wide h = (y ∷ ys, reaches_all far (y ∷ ys) h, reaches_itself wide (y ∷ ys))
+meets (x ∷ xs) far [] wide h = (x ∷ xs, reaches_itself far (x ∷ xs), reaches_all wide (x ∷ xs) h)
 meets (x ∷ xs) far (y ∷ ys) wide h =
     let p = and_parts (bytes_eq x y) (subs_meet xs far ys wide) h in
     let e : x ≡ y = (bytes_eq-Decides x y).0 p.0 in
     let m = meets xs far ys wide p.1 in
     let P : List ℕ → Type 0 = λ z. Reaches wide (y ∷ ys) (z ∷ m.0) in
-    (x ∷ m.0, reaches_more far x xs m.0 m.1, subst P (sym e) (reaches_more wide y ys m.0 m.2))
+    (x ∷ m.0, reaches_cons far x xs m.0 m.1, subst P (sym e) (reaches_cons wide y ys m.0 m.2))
 
 reached : (e : Extent) (x : List ℕ) (xs ws : List (List ℕ)) → Reaches e (x ∷ xs) ws
     → (vs : List (List ℕ)) × (ws ≡ x ∷ vs) × Reaches e xs vs

@@ -44,7 +44,7 @@ pub(crate) fn call_state<'j>(program: &Program, job: &Job, callee: &Callee) -> S
 }
 
 /// The state of a job at lines: it does not continue into one with a formal list.
-pub(crate) fn goes_on<'j>(lines: &[Line]) -> State<'j>
+pub(crate) fn lines_state<'j>(lines: &[Line]) -> State<'j>
     ensures { state_of result ≡ by_lines (map line_of lines.now) }
 {
     match lines.first() {

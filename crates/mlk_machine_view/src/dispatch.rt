@@ -12,7 +12,7 @@ ghost use Rattle.mlk_machine_view.specs.StateViews.{state_of};
 use crate::asking::{
     applies_binary, applies_unary, ends_frame, fetch_state, select_state, uses_last, uses_truth,
 };
-use crate::call::{call_state, goes_on};
+use crate::call::{call_state, lines_state};
 use crate::shown::State;
 use mlk_machine_jobs::{
     Job, LineTask, LocalTask, LockTask, Pending, ScopeTask, Task, TestTask, ValueTask,
@@ -107,7 +107,7 @@ fn line_state<'j>(program: &Program, job: &Job, task: &'j LineTask) -> State<'j>
         ≡ state_in (map routine_of program.now) (job_of job.now) (line_task task.now ∷ ts) }
 {
     match task {
-        LineTask::RunLines(lines) => goes_on(lines),
+        LineTask::RunLines(lines) => lines_state(lines),
         LineTask::FirstRound(_, _, _) | LineTask::LaterRound(_, _, _) => State::AsksChoice,
         LineTask::RunCommands(_)
         | LineTask::NextArgument(_, _)

@@ -1,4 +1,4 @@
--- Declared entries that a program lacks. This project's own choice.
+-- Declared entries that are not in a program. This project's own choice.
 use Rattle.std.specs.Prelude.{ℕ, Bool, List, is_none, find, Some, None, ◌≡◌}
 use Rattle.mlk_text.specs.declared.failure.Failure.{Failure}
 use Rattle.mlk_text.specs.declared.failure.Failure.TheVariants as failure
@@ -18,10 +18,11 @@ IsUnspelled (error.EntryMissing text) = ⊥
 IsUnspelled (error.TooLong fault) = (fault.code ≡ CertLimit) × (fault.line ≡ 1)
 IsUnspelled (error.GaveUp place) = Unit {0}
 
--- Why no certificate is made: the first of these entry texts that the program lacks, where it lacks one; else its text is
--- too long, which is a limit at its first line, or the maker gave up. Of want of memory nothing is said.
+-- Why no certificate is made: the first of these entry texts that is not in the program, if there is one; else its text is
+-- too long, which is a limit at its first line, or the maker gave up. Out of memory promises nothing.
 abbrev pub IsUnmade : List RoutineTree → List (List ℕ) → Failure MakeError → Type 0
 IsUnmade routines texts failure.OutOfMemory = Unit {0}
 IsUnmade routines texts (failure.Refused (error.EntryMissing text)) = find (is_missing routines) texts ≡ Some text
-IsUnmade routines texts (failure.Refused (error.TooLong fault)) = (find (is_missing routines) texts ≡ None) × (fault.code ≡ CertLimit) × (fault.line ≡ 1)
+IsUnmade routines texts (failure.Refused (error.TooLong fault)) =
+    (find (is_missing routines) texts ≡ None) × (fault.code ≡ CertLimit) × (fault.line ≡ 1)
 IsUnmade routines texts (failure.Refused (error.GaveUp place)) = find (is_missing routines) texts ≡ None

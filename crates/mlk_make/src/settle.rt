@@ -3,12 +3,12 @@
 use crate::maker::{Ground, Maker, has_changed};
 use crate::mend::mend_all;
 use crate::stop::Stop;
-use crate::walk::{CalledEntry, Site, Start, Surroundings, Walked, targets_of, walk_site};
+use crate::walk::{CalledEntry, Site, Start, Walked, targets_of, walk_site};
 use mlk_make_drafts::Draft;
 use mlk_syntax::Line;
 use mlk_text::{Code, Column, Failure};
 use mlk_walk_exprs::Fault;
-use mlk_walk_lines::Around;
+use mlk_walk_lines::{Around, Surroundings};
 use std::alloc::AllocError;
 
 /// How often one line is walked at most before the maker gives up. Each time, something with a limit has grown.

@@ -9,16 +9,9 @@ use mlk_rules::{RuleLists, Rules};
 use mlk_syntax::{Action, Command, Commands, Line};
 use mlk_text::{Column, List, Value};
 use mlk_walk_exprs::Note;
-use mlk_walk_lines::{Around, LineFault, LineFaults, walk_alone};
+use mlk_walk_lines::{LineFault, LineFaults, Surroundings, walk_alone};
 use std::alloc::{AllocError, Global};
 use std::collections::BTreeSet;
-
-/// What is around a line: its block or its frame, and the line to which a job continues, if there is one.
-#[derive(Clone, Copy, Drop)]
-pub(crate) struct Surroundings<'a> {
-    pub(crate) around: Around<'a>,
-    pub(crate) next: Option<&'a Line>,
-}
 
 /// A line, what is around it, and what its calls name.
 #[derive(Clone, Copy, Drop)]
@@ -186,9 +179,15 @@ fn walk_among(
         site,
     } = *start;
     let scope = Scope::with_counted(ground.program, ground.rules, entries, entry, block, own);
-    let Surroundings { around, next } = site.surroundings;
     let mut found = LineFaults::new(alloc);
-    let ends = walk_alone(alloc, &scope, site.line, around, next, inner, &mut found)?;
+    let ends = walk_alone(
+        alloc,
+        &scope,
+        site.line,
+        site.surroundings,
+        inner,
+        &mut found,
+    )?;
     Ok(Walked {
         faults: found.into_vec(),
         ends,

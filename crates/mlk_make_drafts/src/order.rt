@@ -5,7 +5,7 @@ ghost use Rattle.std.specs.Prelude.{◌≤◌, IfOk, length};
 use mlk_cert_lexemes::{Written, WrittenText};
 use mlk_cert_parts::{Case, NameSet, Test};
 use mlk_text::{List, Name};
-use mlk_walk_commands::in_order;
+use mlk_walk_variables::in_order;
 use std::alloc::{AllocError, Global};
 
 fn text_of(alloc: Global, names: &[Name]) -> Result<Vec<u8>, AllocError> {
@@ -70,7 +70,7 @@ fn how_many(cases: &[Case], test: Test) -> usize {
 }
 
 // Whether no two of the cases have the same `$TEST`.
-fn are_told_apart(cases: &[Case]) -> bool {
+fn have_distinct_tests(cases: &[Case]) -> bool {
     how_many(cases, Test::Any) < 2
         && how_many(cases, Test::Zero) < 2
         && how_many(cases, Test::One) < 2
@@ -103,7 +103,7 @@ pub(crate) fn cases_in_order(
     alloc: Global,
     mut cases: Vec<Case>,
 ) -> Result<List<Case>, AllocError> {
-    if are_told_apart(cases.as_slice()) {
+    if have_distinct_tests(cases.as_slice()) {
         cases.sort_by_key(place_of_test)?;
         return Ok(List::of(cases));
     }

@@ -42,7 +42,7 @@ reaches_after : (far : Extent) (v w : List ℕ) (vs ws : List (List ℕ)) → Re
 reaches_after Node v w vs ws h = cc
 reaches_after Tree v w vs ws h = begins_tail v w vs ws h
 
-reaches_cons : (far : Extent) (v : List ℕ) (vs ws : List (List ℕ)) → Reaches far vs ws → Reaches far (v ∷ vs) (v ∷ ws)
+pub reaches_cons : (far : Extent) (v : List ℕ) (vs ws : List (List ℕ)) → Reaches far vs ws → Reaches far (v ∷ vs) (v ∷ ws)
 reaches_cons Node v vs ws h = cc
 reaches_cons Tree v vs ws h = begins_cons v v vs ws refl h
 

@@ -6,7 +6,8 @@ use Rattle.mlk_numbers.specs.Numbers.{pointed, after_point}
 
 -- exact digits before and after a point, as a test
 abbrev pub are_exact : List ℕ → List ℕ → Bool
-are_exact before after = nat_le (length before) 25 && nat_le (length after) 25 && nat_le (to_last (before ++ after)) (zeros (before ++ after) + 15)
+are_exact before after = nat_le (length before) 25 && nat_le (length after) 25
+    && nat_le (to_last (before ++ after)) (zeros (before ++ after) + 15)
 
 abbrev pub canonical_by : List ℕ → Option (List ℕ) → Option (List ℕ)
 canonical_by before None = None

@@ -16,7 +16,8 @@ pub record OneText : Type 0 where
 
 -- An exact literal has one canonical text, which is an exact literal and its own canonical text.
 pub record OneCanonical : Type 0 where
-  pub some : (before after literal : List ℕ) → IsNumeral before after literal → IsExact before after → (text : List ℕ) × IsCanonical literal text
+  pub some : (before after literal : List ℕ) → IsNumeral before after literal → IsExact before after
+      → (text : List ℕ) × IsCanonical literal text
   pub one : (literal text other : List ℕ) → IsCanonical literal text → IsCanonical literal other → text ≡ other
   pub itself : (literal text : List ℕ) → IsCanonical literal text → IsCanonical text text
 

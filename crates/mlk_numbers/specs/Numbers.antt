@@ -1,5 +1,6 @@
 -- Numeric literals, the numbers that they denote, and the unique text of each number.
-use Rattle.std.specs.Prelude.{ℕ, ◌≡◌, ◌≢◌, ◌≤◌, ◌<◌, ◌+◌, ◌-◌, ◌*◌, ◌%◌, ◌^◌, ◌⊎◌, true, Option, Some, None, ◌==◌, if◌then◌else◌, List, [], ◌∷◌, ◌++◌, length, get_or, replicate}
+use Rattle.std.specs.Prelude.{ℕ, ◌≡◌, ◌≢◌, ◌≤◌, ◌<◌, ◌+◌, ◌-◌, ◌*◌, ◌%◌, ◌^◌, ◌⊎◌, true, Option, Some}
+use Rattle.std.specs.Prelude.{None, ◌==◌, if◌then◌else◌, List, [], ◌∷◌, ◌++◌, length, get_or, replicate}
 use Rattle.mlk_text.specs.Lexemes.{are_digits}
 
 -- the whole number that digits denote: each is multiplied by the power of ten of its place
@@ -17,7 +18,8 @@ pub record IsNumeral (before after text : List ℕ) : Type 0 where
 
 -- Zeros, then at most the given number of digits, then zeros.
 abbrev pub HasSignificant : ℕ → List ℕ → Type 0
-HasSignificant most ds = (leading trailing : ℕ) × (digits : List ℕ) × (ds ≡ replicate leading 48 ++ (digits ++ replicate trailing 48)) × (length digits ≤ most)
+HasSignificant most ds = (leading trailing : ℕ) × (digits : List ℕ)
+    × (ds ≡ replicate leading 48 ++ (digits ++ replicate trailing 48)) × (length digits ≤ most)
 
 -- Whether every system represents these digits exactly: at most 25 on either side of the point, and at most 15 from the first to
 -- the last nonzero one. This project's own choice.

@@ -1,7 +1,8 @@
 -- Results of operators on known texts: the exact result, or none. Standard: operators, canonic numeric values. It is this
 -- project's own choice that only whole numbers of at most 15 digits and texts of at most 255 bytes are computed. A law says that
 -- the results are those of `Folding`.
-use Rattle.std.specs.Prelude.{ℕ, ℤ, pos, neg_ℤ, Bool, true, false, ◌&&◌, ◌==◌, nat_le, if◌then◌else◌, List, [], ◌∷◌, ◌++◌, length, Option, Some, None}
+use Rattle.std.specs.Prelude.{ℕ, ℤ, pos, neg_ℤ, Bool, true, false, ◌&&◌, ◌==◌, nat_le}
+use Rattle.std.specs.Prelude.{if◌then◌else◌, List, [], ◌∷◌, ◌++◌, length, Option, Some, None}
 use Rattle.std.specs.Prelude.{option_map, option_and_then, bytes_eq, codes}
 use Rattle.std.specs.Fmt.{signed_decimal}
 use Rattle.mlk_numbers.specs.Numbers.{number_of_digits}

@@ -1,6 +1,7 @@
 // Exact results of operators.
 
-ghost use Rattle.std.specs.Prelude.{◌≡◌, ◌<◌, ◌≤◌, ◌^◌, ℕ, true, length, ℤ, List, pos, neg_ℤ, unsigned_abs, decimal, Decides, IfOk, MatchOption};
+ghost use Rattle.std.specs.Prelude.{◌≡◌, ◌<◌, ◌≤◌, ◌^◌, ℕ, true, length, ℤ, List, pos, neg_ℤ};
+ghost use Rattle.std.specs.Prelude.{unsigned_abs, decimal, Decides, IfOk, MatchOption};
 ghost use Rattle.std.specs.Fmt.{signed_decimal};
 ghost use Rattle.mlk_numbers.specs.Numbers.{number_of_digits};
 ghost use Rattle.mlk_text.specs.Lexemes.{are_digits};

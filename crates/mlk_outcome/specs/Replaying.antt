@@ -31,7 +31,8 @@ ReportsEntry entry r = (r ≡ no_memory) ⊎ (r ≡ refusal.Check (error.Entry e
 
 -- The first text that names none is reported, unless memory runs out.
 abbrev pub IsUndeclared : List RoutineTree → List (List ℕ) → NoReport → Type 0
-IsUndeclared trees texts r = (r ≡ no_memory) ⊎ ((entry : List ℕ) × (find (is_missing trees) texts ≡ Some entry) × (r ≡ refusal.Check (error.Entry entry)))
+IsUndeclared trees texts r = (r ≡ no_memory)
+    ⊎ ((entry : List ℕ) × (find (is_missing trees) texts ≡ Some entry) × (r ≡ refusal.Check (error.Entry entry)))
 
 -- the text is plain, or explained
 abbrev pub has_notes : Showing → Bool
@@ -67,6 +68,6 @@ pub record IsStoppedThere (trees : List RoutineTree) (rules : RuleLists) (events
   pub declared : AreDeclared trees rules.entries entries
   pub stopped : IsStopped routines entries events r
 
--- Why nothing is shown: the first declared entry that the routines lack, before what is wrong with the events.
+-- Why nothing is shown: the first declared entry that is not in the routines, before what is wrong with the events.
 abbrev pub IsUnreplayed : List RoutineTree → RuleLists → List ℕ → NoReport → Type 0
 IsUnreplayed trees rules events r = IsUndeclared trees rules.entries r ⊎ IsStoppedThere trees rules events r

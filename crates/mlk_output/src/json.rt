@@ -209,7 +209,7 @@ pub fn notice_json(alloc: Global, notice: &Notice<'_>) -> Result<String, AllocEr
     Value::Object(members).to_string_pretty(alloc)
 }
 
-/// The refusal of a program of which no certificate can be made, as one JSON object: besides `answer` and `refusal` it has `faults`,
+/// The refusal of a program for which no certificate can be made, as one JSON object: besides `answer` and `refusal` it has `faults`,
 /// those that are found all the same.
 pub fn given_up_json(
     alloc: Global,

@@ -32,7 +32,7 @@ const VERSION: &str = "0.1.0";
 
 const REFUSED: usize = 2;
 
-// What is said of a fault: what its code means, and of which lock or global, if that is known.
+// What is said of a fault: what its code means, and the lock or global that it is about, if that is known.
 fn fault_message(alloc: Global, code: Code, story: Option<&Story>) -> Result<Vec<u8>, AllocError> {
     match story {
         Some(story) => story_line(alloc, code.word(), story),
@@ -434,7 +434,7 @@ pub fn notice_sarif(alloc: Global, notice: &Notice<'_>) -> Result<String, AllocE
     sarif_document(alloc, results, run)
 }
 
-/// Writes the refusal of a program of which no certificate can be made as SARIF. The faults that are found all the same are no
+/// Writes the refusal of a program for which no certificate can be made as SARIF. The faults that are found all the same are no
 /// results, but a property of the run.
 pub fn given_up_sarif(
     alloc: Global,

@@ -14,7 +14,7 @@ use Rattle.mlk_pool.specs.Reading.{IsRead, AreRead, RefusesFirst}
 use Rattle.mlk_pool.specs.Answers.{IsAnswer, IsFirstError}
 
 pub first-refused : (sources front after : List Source) (source : Source) (trees : List RoutineTree) (e : Failure Fault)
-    → sources ≡ front ++ source ∷ after → AreRead front trees → NoRoutine source.stem.now source.text.items e → Places source.stem.now source.text.items e
+    → sources ≡ front ++ source ∷ after → AreRead front trees → NoRoutine source.dialect source.stem.now source.text.items e → Places source.stem.now source.text.items e
     → RefusesFirst sources e
 first-refused sources front after source trees failure.OutOfMemory cut read none place = record {}
 first-refused sources front after source trees (failure.Refused fault) cut read none place = record {
@@ -70,7 +70,7 @@ many-more [] next (t ∷ trees) more read then = absurd read
 many-more (s ∷ front) next [] more read then = absurd read
 many-more (s ∷ front) next (t ∷ trees) more read then = (read.0, many-more front next trees more read.1 then)
 
--- a refusal is one whatever stands after it, and after what is read
+-- a refusal is one whatever comes after it, and after what is read
 more-after : (next after : List Source) (e : Failure Fault) → RefusesFirst next e → RefusesFirst (next ++ after) e
 more-after next after failure.OutOfMemory refused = record {}
 more-after next after (failure.Refused fault) refused = record {

@@ -15,6 +15,6 @@ read_formed [] (tree ∷ trees) read r i = absurd read
 read_formed (source ∷ sources) [] read r i = absurd (omega (arith, i.1))
 read_formed (source ∷ sources) (tree ∷ trees) read r i =
     ⊎_elim
-    (λ (e : tree ≡ r). subst IsWellFormed e (well-formed source.stem.now source.text.items tree read.0))
+    (λ (e : tree ≡ r). subst IsWellFormed e (well-formed source.dialect source.stem.now source.text.items tree read.0))
     (λ (k : Contains trees r). read_formed sources trees read.1 r k)
     (contains_cases tree trees r i)

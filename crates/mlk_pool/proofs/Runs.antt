@@ -53,7 +53,7 @@ tasks_inputs given routines rules blocks entries all tasks inputs first all_are 
     tasks_by given routines entries.0 all tasks inputs.same_routines
     (first ∙ ap (λ r. certified r blocks) inputs.same_routines ∙ ap (certified given.routines) inputs.same_blocks) all_are tasks_are
 
--- what stands at the tasks stands at the certified ones of all entries
+-- what is at the tasks is at the certified ones of all entries
 pub slots_known : (given : Given) (routines : List RoutineTree) (rules : RuleLists) (entries : List (EntryId × EntryCert) × List EntryId) (all : List EntryId) (slots : List Slot)
     → AreKnown given routines rules entries → all ≡ entries_from 0 routines → AllZip (IsSlotOf given) (tasks_of given) slots
     → AllZip (IsSlotOf given) (filter (is_certified entries.0) all) slots

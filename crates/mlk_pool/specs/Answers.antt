@@ -12,7 +12,7 @@ use Rattle.mlk_pool.specs.Reading.{IsRead}
 -- the routine of a text, or why it is none
 abbrev pub IsAnswer : Source → Result Routine (Failure Fault) → Type 0
 IsAnswer source (Ok routine) = IsRead source (routine_of routine)
-IsAnswer source (Err failure) = NoRoutine source.stem.now source.text.items failure × Places source.stem.now source.text.items failure
+IsAnswer source (Err failure) = NoRoutine source.dialect source.stem.now source.text.items failure × Places source.stem.now source.text.items failure
 
 -- The first failure, before which all is read. This and what follows only serve private clauses.
 pub record IsFirst (answers : List (Result Routine (Failure Fault))) (failure : Failure Fault) : Type 0 where
@@ -20,7 +20,7 @@ pub record IsFirst (answers : List (Result Routine (Failure Fault))) (failure : 
   pub after : List (Result Routine (Failure Fault))
   pub cut : answers ≡ map Ok read ++ Err failure ∷ after
 
--- the failure that is told. Want of memory says nothing.
+-- the failure that is reported. Out of memory promises nothing.
 abbrev pub IsFirstError : List (Result Routine (Failure Fault)) → Failure Fault → Type 0
 IsFirstError answers failure.OutOfMemory = Unit {0}
 IsFirstError answers (failure.Refused fault) = IsFirst answers (failure.Refused fault)

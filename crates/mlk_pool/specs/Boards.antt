@@ -1,5 +1,6 @@
 -- What every board keeps. This project's own choice.
-use Rattle.std.specs.Prelude.{ℕ, ◌≡◌, ◌+◌, ◌≤◌, ◌<◌, Bool, true, false, List, [], ◌∷◌, Vec, Option, Some, None, length, map, replicate, slice_get, sum_by, vec_capacity, vec_len}
+use Rattle.std.specs.Prelude.{ℕ, ◌≡◌, ◌+◌, ◌≤◌, ◌<◌, Bool, true, false, List, [], ◌∷◌, Vec, Option, Some}
+use Rattle.std.specs.Prelude.{None, length, map, replicate, slice_get, sum_by, vec_capacity, vec_len}
 use Rattle.std.specs.List.{AllZip}
 use Rattle.std.specs.declared.alloc.Global.{Global}
 use Rattle.mlk_program.specs.declared.entry.EntryId.{EntryId}
@@ -28,7 +29,7 @@ stage_of Open = Unclaimed
 stage_of (Claimed worker) = ClaimedBy worker
 stage_of (Posted worker outcome) = PostedBy worker
 
--- The log is a history from a board with so many unclaimed tasks on, and the slots stand as it leaves them.
+-- The log is a history from a board with that many unclaimed tasks on, and the slots are as it leaves them.
 pub record IsLogOf (log : List Event) (slots : List Slot) : Type 0 where
   pub history : IsHistory (replicate (length slots) Unclaimed) log
   pub stages : map stage_of slots ≡ stages_at_end (replicate (length slots) Unclaimed) log
@@ -53,7 +54,7 @@ pub record IsKept (given : Given) (tasks : List EntryId) (next : ℕ) (slots : V
 abbrev pub shown_of : Vec Slot Global → Vec Event Global → Shown
 shown_of slots log = record { slots = slots.items; log = log.items }
 
--- what stands at an entry's task, where it is one, and the slots of the later tasks
+-- the slot of an entry's task, if it is one, and the slots of the later tasks
 abbrev pub next_slot : Bool → List Slot → Option Slot × List Slot
 next_slot false slots = (None, slots)
 next_slot true [] = (None, [])

@@ -42,8 +42,9 @@ pub record AreInputs (given : Given) (routines : List RoutineTree) (rules : Rule
   pub same_rules : rules ≡ given.rules
   pub same_blocks : blocks ≡ given.blocks
 
--- the same where the entries of the certificate and the rules stand in their tables
-pub record AreKnown (given : Given) (routines : List RoutineTree) (rules : RuleLists) (entries : List (EntryId × EntryCert) × List EntryId) : Type 0 where
+-- the same where the entries of the certificate and the rules are in their tables
+pub record AreKnown (given : Given) (routines : List RoutineTree) (rules : RuleLists)
+    (entries : List (EntryId × EntryCert) × List EntryId) : Type 0 where
   pub same_routines : routines ≡ given.routines
   pub same_rules : rules ≡ given.rules
   pub same_entries : entries ≡ known given.routines given.rules given.blocks

@@ -62,7 +62,7 @@ IsUnreportedBy is_open workers trees rules blocks (error.Entry entry) = missing 
 IsUnreportedBy is_open workers trees rules blocks error.Workers = (missing trees rules blocks ≡ None) × AreTooFewOrMany workers
 IsUnreportedBy is_open workers trees rules blocks (error.GateShut task) = (missing trees rules blocks ≡ None) × (is_open → ⊥)
 
--- The stages from texts to a report, each with what it refuses: the reading of routines, of which the first that is refused is
+-- The stages from texts to a report, each with what it refuses: the reading of routines, where the first refusal is
 -- reported; their linking; the text of the rules; the text of the certificate; and the report by it. `from` is how the answer has
 -- the check's own error: as it is for `verify`. If memory runs out, nothing is said.
 abbrev pub RefusesRoutines : {R : Type 0} → (CheckError → R) → List Source → R → Type 0
@@ -78,13 +78,16 @@ abbrev pub RefusesCertText : {R : Type 0} → (CheckError → R) → List ℕ �
 RefusesCertText from cert_text r = (f : Failure CertFault) × IfRefused f (NoCertificate cert_text) × (r ≡ from (error_of_certificate f))
 
 abbrev pub RefusesReport : {R : Type 0} → (CheckError → R) → Type 0 → ℕ → List RoutineTree → RuleLists → List EntryCert → R → Type 0
-RefusesReport from is_open workers trees rules blocks r = (e : CheckError) × IsUnreportedBy is_open workers trees rules blocks e × (r ≡ from e)
+RefusesReport from is_open workers trees rules blocks r =
+    (e : CheckError) × IsUnreportedBy is_open workers trees rules blocks e × (r ≡ from e)
 
 -- What is refused of trees and of the text of rules, and after both by `Why`, of the program and its rules. Each stage is reached
 -- only if the ones before it refuse nothing.
-abbrev pub RefusesTrees : {R : Type 0} → (CheckError → R) → List RoutineTree → List ℕ → (List RoutineTree → RuleLists → R → Type 0) → R → Type 0
+abbrev pub RefusesTrees : {R : Type 0} → (CheckError → R) → List RoutineTree → List ℕ
+    → (List RoutineTree → RuleLists → R → Type 0) → R → Type 0
 RefusesTrees from trees rules_text Why r =
-    RefusesLink from trees r ⊎ (IsProgram trees × (RefusesRuleText from rules_text r ⊎ ((rules : RuleLists) × SaysRules rules_text rules × Why trees rules r)))
+    RefusesLink from trees r ⊎ (IsProgram trees × (RefusesRuleText from rules_text r
+    ⊎ ((rules : RuleLists) × SaysRules rules_text rules × Why trees rules r)))
 
 -- the same from the reading of routines on
 abbrev pub RefusesTexts : {R : Type 0} → (CheckError → R) → List Source → List ℕ → (List RoutineTree → RuleLists → R → Type 0) → R → Type 0
@@ -94,8 +97,10 @@ RefusesTexts from sources rules_text Why r =
 -- why a program with rules has no report by the text of a certificate
 abbrev pub RefusesByText : {R : Type 0} → (CheckError → R) → Type 0 → ℕ → List ℕ → List RoutineTree → RuleLists → R → Type 0
 RefusesByText from is_open workers cert_text trees rules r =
-    RefusesCertText from cert_text r ⊎ ((blocks : List EntryCert) × Spells blocks cert_text × RefusesReport from is_open workers trees rules blocks r)
+    RefusesCertText from cert_text r
+    ⊎ ((blocks : List EntryCert) × Spells blocks cert_text × RefusesReport from is_open workers trees rules blocks r)
 
 -- Why texts have no report.
 abbrev pub IsUnverified : Type 0 → ℕ → List Source → List ℕ → List ℕ → CheckError → Type 0
-IsUnverified is_open workers sources rules_text cert_text e = RefusesTexts (λ e. e) sources rules_text (RefusesByText (λ e. e) is_open workers cert_text) e
+IsUnverified is_open workers sources rules_text cert_text e =
+    RefusesTexts (λ e. e) sources rules_text (RefusesByText (λ e. e) is_open workers cert_text) e

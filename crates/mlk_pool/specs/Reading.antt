@@ -9,9 +9,9 @@ use Rattle.mlk_routine.specs.RoutineGrammar.{IsRoutine}
 use Rattle.mlk_routine.specs.Refusals.{NoRoutine, Places}
 use Rattle.mlk_pool.specs.declared.source.Source.{Source}
 
--- the tree is written by the file's stem and its text
+-- the tree is written by the file's stem and its text, in its dialect
 abbrev pub IsRead : Source → RoutineTree → Type 0
-IsRead source tree = IsRoutine source.stem.now tree source.text.items
+IsRead source tree = IsRoutine source.dialect source.stem.now tree source.text.items
 
 -- each tree is written by its file, and there are no others
 abbrev pub AreRead : List Source → List RoutineTree → Type 0
@@ -28,7 +28,7 @@ pub record IsFirstRefused (sources : List Source) (fault : Fault) : Type 0 where
   pub cut : sources ≡ front ++ source ∷ after
   pub trees : List RoutineTree
   pub read : AreRead front trees
-  pub none : NoRoutine source.stem.now source.text.items (failure.Refused fault)
+  pub none : NoRoutine source.dialect source.stem.now source.text.items (failure.Refused fault)
   pub place : Places source.stem.now source.text.items (failure.Refused fault)
 
 -- the refusal of texts. Want of memory says nothing.

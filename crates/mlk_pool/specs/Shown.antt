@@ -4,7 +4,7 @@ use Rattle.mlk_pool.specs.declared.board.Slot.{Slot}
 use Rattle.mlk_pool.specs.declared.board.Event.{Event}
 
 pub record Shown : Type 0 where
-  -- what stands at each task
+  -- what is at each task
   pub slots : List Slot
   -- the claims and posts so far
   pub log : List Event

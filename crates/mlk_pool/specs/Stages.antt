@@ -13,8 +13,10 @@ use Rattle.mlk_pool.specs.Headline.{IsReportBy, RefusesTrees, RefusesByText}
 -- the report of trees that make a program, by the texts of rules and of a certificate
 abbrev pub IsReportOfTrees : List RoutineTree → List ℕ → List ℕ → List Row → Type 0
 IsReportOfTrees trees rules_text cert_text rows =
-    IsProgram trees × (rules : RuleLists) × SaysRules rules_text rules × (blocks : List EntryCert) × Spells blocks cert_text × IsReportBy trees rules blocks rows
+    IsProgram trees × (rules : RuleLists) × SaysRules rules_text rules
+    × (blocks : List EntryCert) × Spells blocks cert_text × IsReportBy trees rules blocks rows
 
 -- why trees have none
 abbrev pub IsUnreportedOfTrees : Type 0 → ℕ → List RoutineTree → List ℕ → List ℕ → CheckError → Type 0
-IsUnreportedOfTrees is_open workers trees rules_text cert_text e = RefusesTrees (λ e. e) trees rules_text (RefusesByText (λ e. e) is_open workers cert_text) e
+IsUnreportedOfTrees is_open workers trees rules_text cert_text e =
+    RefusesTrees (λ e. e) trees rules_text (RefusesByText (λ e. e) is_open workers cert_text) e

@@ -1,6 +1,7 @@
 // The board: which tasks are claimed and posted, and by whom.
 
-ghost use Rattle.std.specs.Prelude.{◌≡◌, ◌<◌, ◌↔◌, ◌++◌, ◌∷◌, [], Some, IfOk, IfSome, IfNone, IsNone, IsTrue, length, map, slice_get, slice_set, replicate};
+ghost use Rattle.std.specs.Prelude.{◌≡◌, ◌<◌, ◌↔◌, ◌++◌, ◌∷◌, [], Some, IfOk, IfSome, IfNone};
+ghost use Rattle.std.specs.Prelude.{IsNone, IsTrue, length, map, slice_get, slice_set, replicate};
 ghost use Rattle.mlk_syntax.specs.Views.{routine_of};
 ghost use Rattle.mlk_pool.specs.Given.{AreInputs, tasks_of};
 

@@ -49,7 +49,7 @@ pub(crate) fn reader_answers<R: Threads + Sync>(
         .map(
             move |source: &Source<'_>| -> Result<Routine, Failure<Fault>>
                 ensures { IsAnswer source.now result }
-            { read_routine(alloc, source.stem, source.text.as_slice()) },
+            { read_routine(alloc, source.dialect, source.stem, source.text.as_slice()) },
         )
         .collect(rt, alloc)
 }

@@ -1,11 +1,11 @@
 // The report that workers make together.
 
-ghost use Rattle.std.specs.Prelude.{◌≡◌, ◌<◌, ◌≤◌, ◌++◌, [], IfOk, IfErr, OnOk, filter, flat_map, map};
+ghost use Rattle.std.specs.Prelude.{◌≡◌, ◌<◌, ◌≤◌, [], IfOk, IfErr, filter, flat_map, map};
 ghost use Rattle.std.specs.List.{AllZip};
 ghost use Rattle.std.specs.Option.{ForSome};
 ghost use Rattle.mlk_syntax.specs.Views.{routine_of};
 ghost use Rattle.mlk_walk.specs.Verdicts.{verdict};
-ghost use Rattle.mlk_walk.specs.Reports.{entries_from, is_checked, report, row_of, rows_of};
+ghost use Rattle.mlk_walk.specs.Reports.{entries_from, is_checked, report, rows_of};
 ghost use Rattle.mlk_soundness_walk.specs.Forms.{AreFormed};
 ghost use Rattle.mlk_check.specs.Theorem.{KeepsRules};
 ghost use Rattle.mlk_pool.specs.Given.{AreInputs, AreKnown, is_certified};
@@ -23,7 +23,7 @@ use mlk_cert::Certificate;
 use mlk_program::{EntryId, Program};
 use mlk_rules::Rules;
 use mlk_text::Failure;
-use mlk_walk::{Checks, DEEPEST_CUT, Report, verdict_of};
+use mlk_walk::{Checks, DEEPEST_CUT, Report, Verdict, verdict_of};
 use mlk_watch::{Runner, Watch};
 use std::alloc::{AllocError, Global};
 use std::collections::VecDeque;
@@ -46,33 +46,31 @@ pub enum PoolFault {
 /// The largest number of workers.
 pub const MOST_WORKERS: usize = 64;
 
-// Adds the rows of an entry after all workers have ended, where it is a task by what is at it: by the verdict that was
-// posted, else by a walk on the caller's thread. Where the gate was shut it is asked once more.
+// The verdict of an entry after all workers have ended, where it is a task by what is at it: the one that was posted, else
+// that of a walk on the caller's thread. Where the gate was shut it is asked once more.
 #[tactic(auto, using(crate::proofs::Runs::verdict_given))]
-fn settle<N: Inputs, G: Gate>(
+fn settled_verdict<N: Inputs, G: Gate>(
     alloc: Global,
     checks: &Checks<'_>,
     entry: EntryId,
     task: usize,
     slot: Option<Slot>,
     gate: &G,
-    report: &mut Report,
-) -> Result<(), Failure<PoolFault>>
+) -> Result<Verdict, Failure<PoolFault>>
     requires inputs { AreKnown N.given (map routine_of checks.now.program.now) checks.now.rules.now checks.now.entries.now }
     requires slot { ForSome slot (IsSlotOf N.given entry) }
-    ensures ok { OnOk result (report.new ≡ report.old ++ map (row_of entry)
-        (verdict (map routine_of checks.now.program.now) checks.now.rules.now checks.now.entries.now entry)) }
+    ensures ok { IfOk result (λ v. v ≡ verdict (map routine_of checks.now.program.now) checks.now.rules.now
+        checks.now.entries.now entry) }
     ensures refused { IfErr result (IsShut (G.is_open gate.now)) }
 {
     match slot {
-        Some(Slot::Posted(_, Outcome::Done(verdict))) => report.add(entry, verdict)?,
-        Some(Slot::Posted(_, Outcome::NoMemory)) => return Err(Failure::OutOfMemory),
+        Some(Slot::Posted(_, Outcome::Done(verdict))) => Ok(verdict),
+        Some(Slot::Posted(_, Outcome::NoMemory)) => Err(Failure::OutOfMemory),
         Some(Slot::Posted(_, Outcome::Shut)) if !gate.pass(0, task) => {
-            return Err(Failure::Refused(PoolFault::GateShut(task)));
+            Err(Failure::Refused(PoolFault::GateShut(task)))
         }
-        _ => report.add(entry, verdict_of(alloc, checks, entry)?)?,
+        _ => Ok(verdict_of(alloc, checks, entry)?),
     }
-    Ok(())
 }
 
 fn is_checked(known: &Entries<'_>, entry: EntryId) -> bool
@@ -113,7 +111,8 @@ fn collect_report<N: Inputs, G: Gate>(
         let task = count.saturating_sub(left.len());
         let slot = next_slot(checks.entries, *entry, &mut left);
         if is_checked(checks.entries, *entry) {
-            settle::<N, G>(alloc, checks, *entry, task, slot, gate, &mut report)?;
+            let verdict = settled_verdict::<N, G>(alloc, checks, *entry, task, slot, gate)?;
+            report.add(*entry, verdict)?;
         }
     }
     Ok(report)

@@ -19,7 +19,6 @@ use mlk_rules_file::read_rules;
 use mlk_syntax::Routine;
 use mlk_walk::missing_entry;
 use mlk_watch::{Runner, Watch};
-use std::alloc::Global;
 use std::sync::Wait;
 use std::thread::Threads;
 
@@ -66,7 +65,8 @@ fn rows_of_routines<G: Gate + Sync, W: Watch, R: Threads + Wait + Sync>(
     requires { AreFormed (map routine_of routines.now) }
     ensures ok { IfOk result (IsReportOfTrees (map routine_of routines.now) rules_text.now cert_text.now) }
     ensures allowed { IfOk result (λ _. AreAllowed workers) }
-    ensures refused { IfErr result (IsUnreportedOfTrees (G.is_open gate.now) workers (map routine_of routines.now) rules_text.now cert_text.now) }
+    ensures refused { IfErr result (IsUnreportedOfTrees (G.is_open gate.now) workers (map routine_of routines.now)
+        rules_text.now cert_text.now) }
 {
     let program = link(runner.alloc, routines)?;
     let rules = read_rules(runner.alloc, rules_text)?;
@@ -83,25 +83,22 @@ fn rows_of_routines<G: Gate + Sync, W: Watch, R: Threads + Wait + Sync>(
 /// other's locks in a ring.
 ///
 /// The first refusal is reported: of the routines in order, of their linking, of the rules, of the certificate, of an entry
-/// that is not in the program, of the number of workers, or of the first task that `gate` lets nobody walk. `watch` sees how far
-/// the work has come.
+/// that is not in the program, of the number of workers, or of the first task that `gate` lets nobody walk. The watcher sees how
+/// far the work has come.
 pub fn verify<G: Gate + Sync, W: Watch, R: Threads + Wait + Sync>(
-    rt: &R,
-    alloc: Global,
+    runner: &Runner<'_, R, W>,
     sources: &[Source<'_>],
     rules: &[u8],
     certificate: &[u8],
     workers: usize,
     gate: &G,
-    watch: &W,
 ) -> Result<ProgramReport, CheckError>
     ensures ok { IfOk result (λ r. Verified sources.now rules.now certificate.now (map routine_of r.routines.items) r.rows) }
     ensures allowed { IfOk result (λ _. AreAllowed workers) }
     ensures refused { IfErr result (IsUnverified (G.is_open gate.now) workers sources.now rules.now certificate.now) }
 {
-    let runner = Runner { rt, alloc, watch };
-    let routines = read_routines(&runner, sources)?;
+    let routines = read_routines(runner, sources)?;
     let trees = routines.as_slice();
-    let rows = rows_of_routines(&runner, trees, rules, certificate, workers, gate)?;
+    let rows = rows_of_routines(runner, trees, rules, certificate, workers, gate)?;
     Ok(ProgramReport { routines, rows })
 }

@@ -80,7 +80,7 @@ fn work_on<N: Inputs, G: Gate, W: Watch, P: Pieces + Sync, R: Threads + Wait + S
 }
 
 /// What one worker does: it claims, asks the gate, walks, posts and notifies the gate, until no task is left to claim. It walks an
-/// entry's lines in parts, side by side, as `check_entry_split` does. Where there is no memory for the tables of the
+/// entry's lines in parts, side by side, as `verdict_split` does. Where there is no memory for the tables of the
 /// certificate's entries, it claims nothing.
 #[tactic(auto, using(crate::proofs::Runs::known_inputs))]
 pub fn work<N: Inputs, G: Gate, P: Pieces + Sync, R: Threads + Wait + Sync>(

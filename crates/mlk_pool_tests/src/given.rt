@@ -4,6 +4,7 @@ use crate::halves::{FOUR_LINES, are_same_at_each_depth, long_routine, meet_in_ha
 use crate::reports::{Run, is_reported, is_verified};
 use crate::working::meet_at_work;
 use mlk_cert::{CertFormat, Spelled};
+use mlk_dialect::Dialect;
 use mlk_make::make;
 use mlk_program::{Program, link};
 use mlk_routine::read_routine;
@@ -15,7 +16,7 @@ use std::alloc::{AllocError, Global};
 use std::sync::Wait;
 use std::thread::Threads;
 
-/// Twelve entries, of which the first five write a global that no rule names.
+/// Twelve entries, the first five of which write a global that no rule names.
 pub(crate) const TWELVE: &[u8] = b"E1 SET ^ACCT(1)=1 QUIT\n\
 E2 SET ^ACCT(2)=1 QUIT\n\
 E3 SET ^ACCT(3)=1 QUIT\n\
@@ -100,7 +101,7 @@ fn is_linked_so<R: Threads + Wait + Sync>(
 
 fn is_so<R: Threads + Wait + Sync>(rt: &R, alloc: Global, trial: Trial) -> Option<bool> {
     let text = trial.routine(alloc).ok()?;
-    let routine = read_routine(alloc, b"R", text.as_slice()).ok()?;
+    let routine = read_routine(alloc, Dialect::Standard, b"R", text.as_slice()).ok()?;
     is_linked_so(rt, alloc, &[routine], trial)
 }
 

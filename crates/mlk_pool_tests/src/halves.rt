@@ -2,10 +2,11 @@
 
 use crate::given::{Trial, passes};
 use crate::meeting::Meeting;
+use mlk_calls::Entries;
 use mlk_cert::Certificate;
 use mlk_program::Program;
 use mlk_rules::Rules;
-use mlk_walk::{DEEPEST_CUT, Unseen, check_entry, check_entry_split};
+use mlk_walk::{Checks, DEEPEST_CUT, Unseen, verdict_of, verdict_split};
 use std::alloc::{AllocError, Global};
 use std::sync::Wait;
 use std::thread::Threads;
@@ -16,7 +17,7 @@ pub(crate) const FOUR_LINES: &[u8] = b"E1 SET A=1\n SET A=2\n SET A=3\n QUIT\n";
 // How many times three lines a long routine has, besides its first.
 const TRIPLES: usize = 1365;
 
-/// A routine of 4,096 lines, of which each third is in a block, and has a fault.
+/// A routine of 4,096 lines, every third of which is in a block and has a fault.
 pub(crate) fn long_routine(alloc: Global) -> Result<Vec<u8>, AllocError> {
     let mut text = Vec::from_slice(alloc, b"E1 SET A=1\n")?;
     for _ in 0..TRIPLES {
@@ -35,7 +36,13 @@ pub(crate) fn meet_in_halves<R: Threads + Wait + Sync>(
 ) -> Option<bool> {
     let meeting = Meeting::new(1, 3);
     let entry = program.entry(b"E1^R")?;
-    let verdict = check_entry_split(rt, alloc, program, rules, certificate, entry, 1, &meeting);
+    let entries = Entries::of(alloc, program, rules, certificate.blocks()).ok()?;
+    let checks = Checks {
+        program,
+        rules,
+        entries: &entries,
+    };
+    let verdict = verdict_split(rt, alloc, &checks, entry, 1, &meeting);
     Some(verdict.is_ok() && meeting.have_met())
 }
 
@@ -53,19 +60,15 @@ pub(crate) fn are_same_at_each_depth<R: Threads + Wait + Sync>(
     certificate: &Certificate,
 ) -> Option<bool> {
     let entry = program.entry(b"E1^R")?;
-    let whole = check_entry(alloc, program, rules, certificate, entry).ok()?;
+    let entries = Entries::of(alloc, program, rules, certificate.blocks()).ok()?;
+    let checks = Checks {
+        program,
+        rules,
+        entries: &entries,
+    };
+    let whole = verdict_of(alloc, &checks, entry).ok()?;
     for depth in 0..=DEEPEST_CUT {
-        let split = check_entry_split(
-            rt,
-            alloc,
-            program,
-            rules,
-            certificate,
-            entry,
-            depth,
-            &Unseen,
-        )
-        .ok()?;
+        let split = verdict_split(rt, alloc, &checks, entry, depth, &Unseen).ok()?;
         if !split.iter().eq(whole.iter()) {
             return Some(false);
         }

@@ -3,6 +3,7 @@
 use crate::gates::{EACH_ONCE, Holds, Turnstile};
 use crate::given::{TWELVE, TWELVE_RULES, Trial, passes};
 use mlk_cert::Certificate;
+use mlk_dialect::Dialect;
 use mlk_pool::{CheckError, ProgramReport, Source, read_routines, render, report_by, verify};
 use mlk_program::Program;
 use mlk_rules::Rules;
@@ -83,16 +84,24 @@ pub(crate) fn is_verified<R: Threads + Wait + Sync>(
     let gate = Turnstile::new(run.holds);
     let text = Vec::from_slice(alloc, TWELVE).ok()?;
     let mut sources = Vec::new(alloc);
-    sources.push(Source { stem: b"R", text }).ok()?;
-    let answer = verify(
+    let source = Source {
+        dialect: Dialect::Standard,
+        stem: b"R",
+        text,
+    };
+    sources.push(source).ok()?;
+    let runner = Runner {
         rt,
         alloc,
+        watch: &Unwatched,
+    };
+    let answer = verify(
+        &runner,
         sources.as_slice(),
         TWELVE_RULES,
         certificate,
         run.workers,
         &gate,
-        &Unwatched,
     );
     let is_so = match &answer {
         Ok(report) => matches!(run.end, End::Report) && is_the_report(alloc, report),

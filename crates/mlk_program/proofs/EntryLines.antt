@@ -6,14 +6,14 @@ use Rattle.std.proofs.lemmas.List.{length-map, take-map}
 use Rattle.mlk_syntax.specs.declared.routine.Line.{Line}
 use Rattle.mlk_syntax.specs.declared.routine.Routine.{Routine}
 use Rattle.mlk_syntax.specs.Views.{line_of, routine_of}
-use Rattle.mlk_program.specs.Entries.{lines_from, lines_of, line_of_entry, line_after, up_to_formals, lacks_formals}
-use Rattle.mlk_program.specs.Tables.{trees, line_lacks, later_lines, later_of, AreLater}
+use Rattle.mlk_program.specs.Entries.{lines_from, lines_of, line_of_entry, line_after, up_to_formals, has_no_formals}
+use Rattle.mlk_program.specs.Tables.{trees, line_has_no_formals, later_lines, later_of, AreLater}
 use Rattle.mlk_program.specs.declared.entry.EntryId.{EntryId}
 use Rattle.mlk_program.proofs.Directories.{lines_same, line_some, line_none}
 
-prefix-map : (lines : List Line) → prefix_len line_lacks lines ≡ prefix_len lacks_formals (map line_of lines)
+prefix-map : (lines : List Line) → prefix_len line_has_no_formals lines ≡ prefix_len has_no_formals (map line_of lines)
 prefix-map [] = refl
-prefix-map (l ∷ lines) = ap (λ n. cond (lacks_formals (line_of l)) (1 + n) 0) (prefix-map lines)
+prefix-map (l ∷ lines) = ap (λ n. cond (has_no_formals (line_of l)) (1 + n) 0) (prefix-map lines)
 
 one_more : (l : Line) (later : List Line) (n : ℕ) → take (1 + n) (l ∷ later) ≡ l ∷ take n later
 one_more l later n = ap (λ m. take m (l ∷ later)) (more n)
@@ -21,7 +21,7 @@ one_more l later n = ap (λ m. take m (l ∷ later)) (more n)
     more : (m : ℕ) → 1 + m ≡ suc m
     more m = omega (arith)
 
-drop-map : (n : ℕ) (lines : List Line) → drop n (map line_of lines) ≡ map line_of (drop n lines)
+pub drop-map : (n : ℕ) (lines : List Line) → drop n (map line_of lines) ≡ map line_of (drop n lines)
 drop-map zero lines = refl
 drop-map (suc n) [] = refl
 drop-map (suc n) (l ∷ lines) = drop-map n lines
@@ -89,7 +89,7 @@ taken [] n later h = cc h
 taken (l ∷ lines) zero later h = ap (λ more. line_of l ∷ more) (sym (take-map line_of later lines)
     ∙ ap (λ k. take k (map line_of lines)) (sym (one h) ∙ prefix-map lines))
   where
-    one : Some (prefix_len line_lacks lines) ≡ Some later → prefix_len line_lacks lines ≡ later
+    one : Some (prefix_len line_has_no_formals lines) ≡ Some later → prefix_len line_has_no_formals lines ≡ later
     one q = cc q
 taken (l ∷ lines) (suc n) later h = taken lines n later h
 

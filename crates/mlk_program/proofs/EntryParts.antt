@@ -5,25 +5,25 @@ use Rattle.std.specs.List.{prefix_len}
 use Rattle.std.proofs.lemmas.Bool.{cases_Bool}
 use Rattle.mlk_syntax.specs.declared.routine.Line.{Line}
 use Rattle.mlk_syntax.specs.declared.routine.Routine.{Routine}
-use Rattle.mlk_program.specs.Tables.{line_lacks, later_lines, later_of}
+use Rattle.mlk_program.specs.Tables.{line_has_no_formals, later_lines, later_of}
 use Rattle.mlk_program.specs.Frames.{past_of, part_of}
 use Rattle.mlk_program.specs.declared.entry.EntryId.{EntryId}
 
 one_more : (n : ℕ) → 1 + n ≡ suc n
 one_more n = omega (arith)
 
-past_is : (later : List Line) → length (drop (prefix_len line_lacks later) later) ≡ past_of later
+past_is : (later : List Line) → length (drop (prefix_len line_has_no_formals later) later) ≡ past_of later
 past_is [] = refl
 past_is (l ∷ later) = ⊎_elim
-    (λ h. rw h (ap (λ n. length (drop n (l ∷ later))) (one_more (prefix_len line_lacks later)) ∙ past_is later))
+    (λ h. rw h (ap (λ n. length (drop n (l ∷ later))) (one_more (prefix_len line_has_no_formals later)) ∙ past_is later))
     (λ h. rw h refl)
-    (cases_Bool (line_lacks l))
+    (cases_Bool (line_has_no_formals l))
 
 later_here : (lines : List Line) (n : ℕ) (l : Line) (others : List Line) → drop n lines ≡ l ∷ others
-    → slice_get (later_lines lines) n ≡ Some (prefix_len line_lacks others)
+    → slice_get (later_lines lines) n ≡ Some (prefix_len line_has_no_formals others)
 later_here [] zero l others h = cc h
 later_here [] (suc n) l others h = cc h
-later_here (x ∷ xs) zero l others h = ap (λ ys. Some (prefix_len line_lacks ys)) (rest h)
+later_here (x ∷ xs) zero l others h = ap (λ ys. Some (prefix_len line_has_no_formals ys)) (rest h)
   where
     rest : x ∷ xs ≡ l ∷ others → xs ≡ others
     rest q = cc q
@@ -39,7 +39,7 @@ pub part_some : (routines : List Routine) (e : EntryId) (r : Routine) (l : Line)
 part_some routines e r l others later is here count =
     let counted : slice_get (later_lines r.lines.items) e.line ≡ Some later =
     sym (count ∙ ap (option_and_then (λ q. slice_get (later_lines q.lines.items) e.line)) is) in
-    let same : prefix_len line_lacks others ≡ later = same_some (sym (later_here r.lines.items e.line l others here) ∙ counted) in
+    let same : prefix_len line_has_no_formals others ≡ later = same_some (sym (later_here r.lines.items e.line l others here) ∙ counted) in
     let past : length (drop later others) ≡ past_of others = ap (λ n. length (drop n others)) (sym same) ∙ past_is others in
     rw (is, here) (ap (λ p. record { routine = e.routine; past = p; left = suc (length others) }) past)
 

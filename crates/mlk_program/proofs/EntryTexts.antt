@@ -15,15 +15,15 @@ use Rattle.mlk_program.specs.Laws.{IsEntryOf, EntriesNamed, EntriesHaveLines, Te
 use Rattle.mlk_program.specs.declared.entry.EntryId.{EntryId}
 use Rattle.mlk_program.proofs.NameTables.{position-cons}
 
-one_place : (m n : ℕ) → Some m ≡ Some n → m ≡ n
+pub one_place : (m n : ℕ) → Some m ≡ Some n → m ≡ n
 one_place m n h = cc h
 
 -- the element at the index of the first that passes a test
 module _ {A : Type 0} (p : A → Bool) where
-  abbrev Passes : List A → ℕ → Type 0
+  abbrev pub Passes : List A → ℕ → Type 0
   Passes xs n = (x : A) × (slice_get xs n ≡ Some x) × (p x ≡ true)
 
-  first_passes : (xs : List A) (n : ℕ) → position p xs ≡ Some n → Passes xs n
+  pub first_passes : (xs : List A) (n : ℕ) → position p xs ≡ Some n → Passes xs n
   first_passes [] n h = cc h
   first_passes (x ∷ xs) n h = ⊎_elim here (later (first_passes xs)) (cases_Bool (p x))
     where

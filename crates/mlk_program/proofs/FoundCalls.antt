@@ -5,17 +5,14 @@ use Rattle.mlk_text.specs.declared.operator.Op.{Op}
 use Rattle.mlk_syntax.specs.declared.expr.Expr.{Expr}
 use Rattle.mlk_syntax.specs.declared.expr.Actual.{Actual}
 use Rattle.mlk_syntax.specs.declared.expr.Subscript.{Subscript}
-use Rattle.mlk_syntax.specs.ExprTrees.{tree_of, trees, actual_trees, sub_trees, links, choices}
-use Rattle.mlk_syntax.specs.ExprTrees.{trees_from, actuals_from, subs_from, links_from, choices_from, ActualTree}
-use Rattle.mlk_syntax.specs.ExprTrees.{Tree, Chain, Selected, actual_step, expr_step, subscript_step, as_list}
+use Rattle.mlk_syntax.specs.ExprTrees.{trees, actual_trees, sub_trees, links, choices}
+use Rattle.mlk_syntax.specs.ExprTrees.{trees_from, actuals_from, subs_from, links_from, choices_from}
 use Rattle.mlk_syntax.specs.declared.expr.Callee.{Callee}
 use Rattle.mlk_syntax.specs.declared.expr.Function.{Function}
-use Rattle.mlk_syntax.specs.declared.expr.Expr.{fold-roll-Expr}
 use Rattle.mlk_syntax.specs.declared.expr.Expr.TheVariants as rust
-use Rattle.mlk_syntax.specs.declared.expr.Expr.TheVariants.{rolls-Binary, rolls-Select}
-use Rattle.mlk_syntax.specs.declared.expr.Actual.TheOpen as open'
-use Rattle.mlk_syntax.proofs.Variants.{tree_func, tree_local, tree_global, tree_call}
+use Rattle.mlk_syntax.proofs.Variants.{tree_func, tree_local, tree_global, tree_call, tree_binary, tree_select}
 use Rattle.mlk_syntax.specs.Trees.{CallTree, Called}
+use Rattle.mlk_syntax.proofs.TreeLists.{as_list_same}
 use Rattle.mlk_program.specs.Calls.{in_tree, in_trees, in_subs, in_links, in_choices, in_actuals}
 use Rattle.mlk_program.specs.declared.call.CallSite.{CallSite}
 use Rattle.mlk_program.specs.Found.{Finds, site_of, of_expr, of_subscript, of_link, of_choice, of_actual, given_of}
@@ -41,10 +38,6 @@ pub actuals_flat : (given : List Actual) → in_actuals (actuals_from (actual_tr
 actuals_flat [] = refl
 actuals_flat (a ∷ given) = ap (λ more. of_actual a ++ more) (actuals_flat given)
 
-pub as_list_same : (given : List ActualTree) → as_list (actuals_from given) ≡ given
-as_list_same [] = refl
-as_list_same (a ∷ given) = ap (λ more. a ∷ more) (as_list_same given)
-
 -- The calls in the parts of an expression of the code.
 pub of_func : (f : Function) (v : Vec Expr Global) → of_expr (rust.Func f v) ≡ flat_map of_expr v.items
 of_func f v = ap in_tree (tree_func f v) ∙ trees_flat v.items
@@ -56,18 +49,9 @@ pub of_global : (column : ℕ) (name : List ℕ) (v : Vec Subscript Global)
     → of_expr (rust.Global column name v) ≡ flat_map of_subscript v.items
 of_global column name v = ap in_tree (tree_global column name v) ∙ subs_flat v.items
 
-tree_binary : (b : Box Expr Global) (v : Vec (Op × Expr) Global)
-    → tree_of (rust.Binary b v) ≡ Chain (tree_of b.value) (links_from (links v.items))
-tree_binary b v = ap tree_of (sym (rolls-Binary b v))
-    ∙ fold-roll-Expr ActualTree Tree (ℕ × Tree) actual_step expr_step subscript_step (open'.Binary b v)
-
 pub of_binary : (b : Box Expr Global) (v : Vec (Op × Expr) Global)
     → of_expr (rust.Binary b v) ≡ of_expr b.value ++ flat_map of_link v.items
 of_binary b v = ap in_tree (tree_binary b v) ∙ ap (λ more. of_expr b.value ++ more) (links_flat v.items)
-
-tree_select : (v : Vec (Expr × Expr) Global) → tree_of (rust.Select v) ≡ Selected (choices_from (choices v.items))
-tree_select v = ap tree_of (sym (rolls-Select v))
-    ∙ fold-roll-Expr ActualTree Tree (ℕ × Tree) actual_step expr_step subscript_step (open'.Select v)
 
 pub of_select : (v : Vec (Expr × Expr) Global) → of_expr (rust.Select v) ≡ flat_map of_choice v.items
 of_select v = ap in_tree (tree_select v) ∙ choices_flat v.items

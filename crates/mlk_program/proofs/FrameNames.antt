@@ -9,8 +9,8 @@ use Rattle.std.proofs.lemmas.Grind.{flat_map-append}
 use Rattle.mlk_syntax.specs.declared.routine.Line.{Line}
 use Rattle.mlk_syntax.specs.declared.routine.Routine.{Routine}
 use Rattle.mlk_syntax.specs.Views.{line_of}
-use Rattle.mlk_program.specs.Entries.{up_to_formals, lacks_formals, lines_of}
-use Rattle.mlk_program.specs.Tables.{trees, line_lacks}
+use Rattle.mlk_program.specs.Entries.{up_to_formals, has_no_formals, lines_of}
+use Rattle.mlk_program.specs.Tables.{trees, line_has_no_formals}
 use Rattle.mlk_program.specs.Program.{filled_by, passed_by, calls_of, calls_at, is_formal, is_passed_in, is_shared_in}
 use Rattle.mlk_program.specs.Linking.{placed_in}
 use Rattle.mlk_program.specs.Frames.{NameAt, Kept, same_name, is_kept, is_passed, answers, Learns, entry_name, fillings, part_name, passings, past_of, part_at, part_with, part_of, lines_left_in, passed_in_lines, passed_from}
@@ -131,7 +131,7 @@ past_within [] = omega (arith)
 past_within (l ∷ later) = ⊎_elim
     (λ h. let more : past_of later ≤ length later = past_within later in rw h (omega (arith, more)))
     (λ h. rw h (omega (arith)))
-    (cases_Bool (line_lacks l))
+    (cases_Bool (line_has_no_formals l))
 
 none_past : (r past left : ℕ) (name : List ℕ) (lines : List Line) → length lines ≤ past
     → list_any (answers (r, past, name) left) (passed_in_lines r lines) ≡ false
@@ -164,29 +164,29 @@ while_more test x xs h = rw h (ap (λ n. take n (x ∷ xs)) (one_more (prefix_le
 while_none : {A : Type 0} (test : A → Bool) (x : A) (xs : List A) → test x ≡ false → take_while test (x ∷ xs) ≡ []
 while_none test x xs h = rw h refl
 
-past_more : (l : Line) (later : List Line) → line_lacks l ≡ true → past_of (l ∷ later) ≡ past_of later
+past_more : (l : Line) (later : List Line) → line_has_no_formals l ≡ true → past_of (l ∷ later) ≡ past_of later
 past_more l later h = rw h refl
 
 -- the lines that follow one of a part
 in_later : (r left : ℕ) (name : List ℕ) (lines : List Line) → length lines ≤ left
     → list_any (answers (r, past_of lines, name) left) (passed_in_lines r lines)
-    ≡ list_any (bytes_eq name) (passed_names r (take_while line_lacks lines))
+    ≡ list_any (bytes_eq name) (passed_names r (take_while line_has_no_formals lines))
 in_later r left name [] h = refl
 in_later r left name (l ∷ later) h = let long : suc (length later) ≤ left = h in ⊎_elim
-    (λ (lacks : line_lacks l ≡ true).
+    (λ (lacks : line_has_no_formals l ≡ true).
     ap (λ past. list_any (answers (r, past, name) left) (passed_in_lines r (l ∷ later))) (past_more l later lacks)
     ∙ list_any-append (answers (r, past_of later, name) left) (passings (part_at r later) (placed_in r l)) (passed_in_lines r later)
     ∙ or_both _ _ _ _ (hits (part_at r later) name left long (flat_map passed_by (placed_in r l))) (in_later r left name later (omega (arith, long)))
-    ∙ sym (list_any-append (bytes_eq name) (flat_map passed_by (placed_in r l)) (passed_names r (take_while line_lacks later)))
-    ∙ ap (list_any (bytes_eq name)) (sym (names_more r l (take_while line_lacks later)))
-    ∙ ap (λ ls. list_any (bytes_eq name) (passed_names r ls)) (sym (while_more line_lacks l later lacks)))
-    (λ (has : line_lacks l ≡ false). rw has (none_past r (suc (length later)) left name (l ∷ later) (itself (suc (length later)))))
-    (cases_Bool (line_lacks l))
+    ∙ sym (list_any-append (bytes_eq name) (flat_map passed_by (placed_in r l)) (passed_names r (take_while line_has_no_formals later)))
+    ∙ ap (list_any (bytes_eq name)) (sym (names_more r l (take_while line_has_no_formals later)))
+    ∙ ap (λ ls. list_any (bytes_eq name) (passed_names r ls)) (sym (while_more line_has_no_formals l later lacks)))
+    (λ (has : line_has_no_formals l ≡ false). rw has (none_past r (suc (length later)) left name (l ∷ later) (itself (suc (length later)))))
+    (cases_Bool (line_has_no_formals l))
 
 -- the lines of an entry
 abbrev up_to : List Line → List Line
 up_to [] = []
-up_to (l ∷ later) = l ∷ take_while line_lacks later
+up_to (l ∷ later) = l ∷ take_while line_has_no_formals later
 
 abbrev name_in : ℕ → RoutinePart → List ℕ → NameAt
 name_in r part name = (r, part.past, name)
@@ -203,8 +203,8 @@ from_line r name [] = refl
 from_line r name (l ∷ later) = list_any-append _ (passings (part_at r later) (placed_in r l)) (passed_in_lines r later)
     ∙ or_both _ _ _ _ (hits (part_at r later) name (suc (length later)) (itself (suc (length later))) (flat_map passed_by (placed_in r l)))
     (in_later r (suc (length later)) name later (omega (arith)))
-    ∙ sym (list_any-append (bytes_eq name) (flat_map passed_by (placed_in r l)) (passed_names r (take_while line_lacks later)))
-    ∙ ap (list_any (bytes_eq name)) (sym (names_more r l (take_while line_lacks later)))
+    ∙ sym (list_any-append (bytes_eq name) (flat_map passed_by (placed_in r l)) (passed_names r (take_while line_has_no_formals later)))
+    ∙ ap (list_any (bytes_eq name)) (sym (names_more r l (take_while line_has_no_formals later)))
 
 left_is : (r : ℕ) (lines : List Line) → (part_with r lines).left ≡ length lines
 left_is r [] = refl
@@ -226,14 +226,14 @@ in_lines r (suc n) name (l ∷ lines) =
     (flat_map passed_by (placed_in r l)))
     ∙ in_lines r n name lines
 
-while_map : (lines : List Line) → take_while lacks_formals (map line_of lines) ≡ map line_of (take_while line_lacks lines)
+while_map : (lines : List Line) → take_while has_no_formals (map line_of lines) ≡ map line_of (take_while line_has_no_formals lines)
 while_map [] = refl
 while_map (l ∷ lines) = ⊎_elim
-    (λ (h : line_lacks l ≡ true). while_more lacks_formals (line_of l) (map line_of lines) h ∙ ap (λ more. line_of l ∷ more) (while_map lines)
-    ∙ ap (map line_of) (sym (while_more line_lacks l lines h)))
-    (λ (h : line_lacks l ≡ false). while_none lacks_formals (line_of l) (map line_of lines) h
-    ∙ ap (map line_of) (sym (while_none line_lacks l lines h)))
-    (cases_Bool (line_lacks l))
+    (λ (h : line_has_no_formals l ≡ true). while_more has_no_formals (line_of l) (map line_of lines) h ∙ ap (λ more. line_of l ∷ more) (while_map lines)
+    ∙ ap (map line_of) (sym (while_more line_has_no_formals l lines h)))
+    (λ (h : line_has_no_formals l ≡ false). while_none has_no_formals (line_of l) (map line_of lines) h
+    ∙ ap (map line_of) (sym (while_none line_has_no_formals l lines h)))
+    (cases_Bool (line_has_no_formals l))
 
 up_to_map : (lines : List Line) → up_to_formals (map line_of lines) ≡ map line_of (up_to lines)
 up_to_map [] = refl

@@ -80,14 +80,14 @@ text_of_entry routines e = option_and_then (text_in e.line) (slice_get routines 
 abbrev pub line_of_entry : List RoutineTree → EntryId → Option (HeadTree × LineTrees)
 line_of_entry routines e = option_and_then (λ tree. slice_get (lines_in tree) e.line) (slice_get routines e.routine)
 
-abbrev pub lacks_formals : HeadTree × LineTrees → Bool
-lacks_formals l = is_none (formals_of l.0)
+abbrev pub has_no_formals : HeadTree × LineTrees → Bool
+has_no_formals l = is_none (formals_of l.0)
 
 -- The lines of an entry: from its own to the routine's end, or up to the next line that has a formal list. That a job stops there
 -- is this project's own choice.
 abbrev pub up_to_formals : List (HeadTree × LineTrees) → List (HeadTree × LineTrees)
 up_to_formals [] = []
-up_to_formals (l ∷ later) = l ∷ take_while lacks_formals later
+up_to_formals (l ∷ later) = l ∷ take_while has_no_formals later
 
 abbrev pub lines_from : ℕ → Option RoutineTree → List (HeadTree × LineTrees)
 lines_from n None = []

@@ -2,7 +2,8 @@
 -- the lines of entries. The lines of a routine up to the next that has a formal list are a part, which is identified by the
 -- number of lines after it. For a name that is passed in a part, its last line that passes it is stored, as the number of lines
 -- from it on. For private clauses only. This project's own.
-use Rattle.std.specs.Prelude.{ℕ, suc, ◌≡◌, Bool, false, ◌&&◌, ◌||◌, ◌==◌, nat_le, if◌then◌else◌, List, [], ◌∷◌, ◌++◌, length, drop, map, flat_map, bytes_eq, zip, Option, Some, None, option_map, slice_get}
+use Rattle.std.specs.Prelude.{ℕ, suc, ◌≡◌, Bool, false, ◌&&◌, ◌||◌, ◌==◌, nat_le, if◌then◌else◌, List, [], ◌∷◌, ◌++◌}
+use Rattle.std.specs.Prelude.{length, drop, map, flat_map, bytes_eq, zip, Option, Some, None, option_map, slice_get}
 use Rattle.std.specs.List.{list_any}
 use Rattle.mlk_syntax.specs.declared.routine.Line.{Line}
 use Rattle.mlk_syntax.specs.declared.routine.Routine.{Routine}
@@ -11,11 +12,12 @@ use Rattle.mlk_program.specs.declared.entry.EntryId.{EntryId}
 use Rattle.mlk_program.specs.declared.part.RoutinePart.{RoutinePart}
 use Rattle.mlk_program.specs.declared.frames.NameAt.{NameAt as Key}
 use Rattle.mlk_program.specs.Entries.{target_of, line_of_entry, formals_of}
-use Rattle.mlk_program.specs.Program.{PlacedCall, filled_by, passed_by, lent_by, received_by, received_at, received_with, of_entry, called_formals}
+use Rattle.mlk_program.specs.Program.{PlacedCall, filled_by, passed_by, lent_by, received_by}
+use Rattle.mlk_program.specs.Program.{received_at, received_with, of_entry, called_formals}
 use Rattle.mlk_syntax.specs.ExprTrees.{ActualTree}
 use Rattle.mlk_syntax.specs.declared.expr.Callee.{Callee}
 use Rattle.mlk_program.specs.Linking.{placed_in}
-use Rattle.mlk_program.specs.Tables.{line_lacks}
+use Rattle.mlk_program.specs.Tables.{line_has_no_formals}
 
 -- a name at a place of a routine
 abbrev pub NameAt : Type 0
@@ -108,7 +110,7 @@ LearnsCalls routines part calls old new = Learns (fillings routines calls) (pass
 -- The number of lines after a part, given the lines that follow one of its lines.
 abbrev pub past_of : List Line → ℕ
 past_of [] = 0
-past_of (l ∷ later) = if line_lacks l then past_of later else suc (length later)
+past_of (l ∷ later) = if line_has_no_formals l then past_of later else suc (length later)
 
 abbrev pub part_at : ℕ → List Line → RoutinePart
 part_at r later = record { routine = r; past = past_of later; left = suc (length later) }

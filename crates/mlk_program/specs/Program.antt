@@ -1,7 +1,8 @@
 -- Routines that are linked to a program: every call has a line that accepts its actuals. Standard: routine, actuallist,
 -- formallist; that all routines are known, the limits and the order of refusals are this project's own choice.
 use Rattle.std.specs.Prelude.{ℕ, zero, suc, ◌≡◌, ◌<◌, ◌⊎◌, List, [], ◌∷◌, ◌++◌, length, map, flat_map}
-use Rattle.std.specs.Prelude.{Contains, Bool, true, false, not, ◌&&◌, ◌||◌, nat_lt, zip, bytes_eq, Option, Some, None, option_and_then, option_map}
+use Rattle.std.specs.Prelude.{Contains, Bool, true, false, not, ◌&&◌, ◌||◌, nat_lt, zip}
+use Rattle.std.specs.Prelude.{bytes_eq, Option, Some, None, option_and_then, option_map}
 use Rattle.std.specs.List.{list_any}
 use Rattle.mlk_text.specs.declared.code.Code.{Code}
 use Rattle.mlk_text.specs.declared.code.Code.TheVariants.{RoutineTwice, TooMany, UnknownLabel, Arity}

@@ -7,7 +7,7 @@ use Rattle.mlk_syntax.specs.declared.routine.Line.{Line}
 use Rattle.mlk_syntax.specs.declared.routine.Routine.{Routine}
 use Rattle.mlk_syntax.specs.Trees.{RoutineTree}
 use Rattle.mlk_syntax.specs.Views.{line_of, routine_of}
-use Rattle.mlk_program.specs.Entries.{is_label, label_of, lacks_formals}
+use Rattle.mlk_program.specs.Entries.{is_label, label_of, has_no_formals}
 use Rattle.mlk_program.specs.declared.entry.EntryId.{EntryId}
 
 -- the index of the first item with the name
@@ -49,12 +49,12 @@ first_of [] = None
 first_of (l ∷ lines) = Some 0
 
 -- For each line of the code, how many lines follow it before the next with a formal list.
-abbrev pub line_lacks : Line → Bool
-line_lacks l = lacks_formals (line_of l)
+abbrev pub line_has_no_formals : Line → Bool
+line_has_no_formals l = has_no_formals (line_of l)
 
 abbrev pub later_lines : List Line → List ℕ
 later_lines [] = []
-later_lines (l ∷ later) = prefix_len line_lacks later ∷ later_lines later
+later_lines (l ∷ later) = prefix_len line_has_no_formals later ∷ later_lines later
 
 -- `later_lines` for each routine
 abbrev pub AreLater : List Routine → List (Vec ℕ Global) → Type 0

@@ -2,7 +2,9 @@
 
 ghost use Rattle.std.specs.Prelude.{◌≡◌, IfOk, Some, None, option_map, option_and_then, option_copied, slice_get, map, take, drop, suc};
 ghost use Rattle.mlk_syntax.specs.Views.{line_of};
-ghost use Rattle.mlk_program.specs.Entries.{entry_in, routine_named, target_of, entry_by, line_of_entry, lines_of, line_after, line_named, lines_in, lacks_formals, label_of, text_with, text_of_entry};
+ghost use Rattle.mlk_program.specs.Entries.{entry_in, routine_named, target_of, entry_by};
+ghost use Rattle.mlk_program.specs.Entries.{line_of_entry, lines_of, line_after, line_named, lines_in};
+ghost use Rattle.mlk_program.specs.Entries.{has_no_formals, label_of, text_with, text_of_entry};
 ghost use Rattle.mlk_program.specs.Frames.{part_of};
 ghost use Rattle.mlk_program.specs.Tables.{trees, AreTables, AreLater, first_of, later_lines, later_of};
 
@@ -84,8 +86,8 @@ fn lines_after(lines: &[Line], count: usize) -> &[Line]
 }
 
 /// Whether `line` has no formal list.
-pub(crate) fn lacks_formals(line: &Line) -> bool
-    ensures { result ≡ lacks_formals (line_of line.now) }
+pub(crate) fn has_no_formals(line: &Line) -> bool
+    ensures { result ≡ has_no_formals (line_of line.now) }
 {
     !line.formals.is_some()
 }
@@ -99,7 +101,7 @@ fn later_lines(alloc: Global, lines: &[Line]) -> Result<Vec<usize>, AllocError>
     let mut end = lines.len();
     while let Some((line, before)) = left.split_last() {
         counts.push(end - left.len())?;
-        if !lacks_formals(line) {
+        if !has_no_formals(line) {
             end = before.len();
         }
         left = before;

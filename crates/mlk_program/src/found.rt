@@ -1,8 +1,10 @@
 // The calls in commands.
 
 ghost use Rattle.std.specs.Prelude.{◌≡◌, IfOk, OnOk, flat_map, map, Some};
-ghost use Rattle.mlk_syntax.specs.Views.{variable_of, do_of, kill_of, lock_of, merge_of, read_of, target_of, set_of, write_of, action_of, command_of, parameter_of, call_of, control_of, commands_of};
-ghost use Rattle.mlk_program.specs.Calls.{in_variable, in_call, in_do, in_kill, in_lock, in_merge, in_read, in_target, in_set, in_write, in_action, in_command, in_parameter, in_control, in_commands};
+ghost use Rattle.mlk_syntax.specs.Views.{variable_of, do_of, kill_of, lock_of, merge_of, read_of, target_of, set_of};
+ghost use Rattle.mlk_syntax.specs.Views.{write_of, action_of, command_of, parameter_of, call_of, control_of, commands_of};
+ghost use Rattle.mlk_program.specs.Calls.{in_variable, in_call, in_do, in_kill, in_lock, in_merge, in_read, in_target};
+ghost use Rattle.mlk_program.specs.Calls.{in_set, in_write, in_action, in_command, in_parameter, in_control, in_commands};
 ghost use Rattle.mlk_program.specs.Found.{Finds, site_of, of_expr, of_actual};
 
 use crate::call::{CallSite, add_call};

@@ -8,10 +8,12 @@ ghost use Rattle.mlk_program.specs.Entries.{formals_of};
 ghost use Rattle.mlk_program.specs.Program.{calls_of, is_by_reference};
 ghost use Rattle.mlk_program.specs.Linking.{placed_at, placed_in};
 ghost use Rattle.mlk_program.specs.Tables.{trees};
-ghost use Rattle.mlk_program.specs.Frames.{is_kept, is_passed, lines_from_last, key_of, formals_of_entry, formals_known, filled_at, filled_by_list, filled_in, passed_at, passed_by_list, Learns, LearnsCalls, fillings, passed_in_lines, passed_from};
+ghost use Rattle.mlk_program.specs.Frames.{is_kept, is_passed, lines_from_last, key_of, formals_of_entry};
+ghost use Rattle.mlk_program.specs.Frames.{formals_known, filled_at, filled_by_list, filled_in, passed_at, passed_by_list};
+ghost use Rattle.mlk_program.specs.Frames.{Learns, LearnsCalls, fillings, passed_in_lines, passed_from};
 
 use crate::call::CallSite;
-use crate::directory::{Directory, item, lacks_formals};
+use crate::directory::{Directory, has_no_formals, item};
 use crate::entry::EntryId;
 use crate::found::in_commands;
 use crate::part::RoutinePart;
@@ -340,7 +342,7 @@ fn add_lines<'a>(
             left: lines.len() - before.len(),
         };
         add_line(frames, alloc, directory, part, line)?;
-        if !lacks_formals(line) {
+        if !has_no_formals(line) {
             past = part.left;
         }
         left = before;

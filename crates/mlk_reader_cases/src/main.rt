@@ -11,9 +11,10 @@
 //!
 //! Or a line has `canonical` or `whole` and a text: the answer is the number, or `none`. Or it has `routine`, `program`,
 //! `rules` or `cert` and a text: then the answer is `read`, or the fault. For a routine, which is named `R`, that is its place,
-//! its code, and the word of the part of M that is not read; likewise for a program of such a single routine. For rules it is the
-//! section, the index in it, and the code; for a certificate the line and the code. `families` are rules, and prints the rank of
-//! each family and the bytes of its subscripts; `needs` is a certificate, and prints the bytes of the constants in its needs.
+//! its code, and the word of the part of M that is not read; likewise for a program of such a single routine. `extended` is a
+//! routine that is read in the extended dialect; the others are read in the standard one. For rules the fault is the section, the
+//! index in it, and the code; for a certificate the line and the code. `families` are rules, and prints the rank of each family
+//! and the bytes of its subscripts; `needs` is a certificate, and prints the bytes of the constants in its needs.
 #![tactic(auto)]
 
 mod number;
@@ -26,6 +27,7 @@ use crate::number::{answer_canonical, answer_whole};
 use crate::part::answer_part;
 use bstr::ByteSlice;
 use mlk_cert::{CertFault, Certificate, Summary, read_cert};
+use mlk_dialect::Dialect;
 use mlk_names::{KnownSym, LockTerm};
 use mlk_program::link;
 use mlk_routine::read_routine;
@@ -107,13 +109,13 @@ pub(crate) fn no_memory() -> io::Error {
     io::Error::from(ErrorKind::OutOfMemory)
 }
 
-fn read_alone(alloc: Global, text: &[u8]) -> Result<(), Failure<Fault>> {
-    read_routine(alloc, b"R", text)?;
+fn read_alone(alloc: Global, dialect: Dialect, text: &[u8]) -> Result<(), Failure<Fault>> {
+    read_routine(alloc, dialect, b"R", text)?;
     Ok(())
 }
 
 fn link_alone(alloc: Global, text: &[u8]) -> Result<(), Failure<Fault>> {
-    let routines = [read_routine(alloc, b"R", text)?];
+    let routines = [read_routine(alloc, Dialect::Standard, b"R", text)?];
     link(alloc, &routines)?;
     Ok(())
 }
@@ -127,9 +129,14 @@ fn write_read(read: Result<(), Failure<Fault>>, out: &mut Vec<u8>) -> io::Result
     }
 }
 
-fn answer_routine(alloc: Global, written: &[u8], out: &mut Vec<u8>) -> io::Result<()> {
+fn answer_routine(
+    alloc: Global,
+    dialect: Dialect,
+    written: &[u8],
+    out: &mut Vec<u8>,
+) -> io::Result<()> {
     let text = text_of(alloc, written)?;
-    write_read(read_alone(alloc, text.as_slice()), out)
+    write_read(read_alone(alloc, dialect, text.as_slice()), out)
 }
 
 fn answer_program(alloc: Global, written: &[u8], out: &mut Vec<u8>) -> io::Result<()> {
@@ -251,7 +258,8 @@ fn answer(alloc: Global, line: &[u8], out: &mut Vec<u8>) -> io::Result<()> {
         Some((b"needs", written)) => answer_needs(alloc, written, out),
         Some((b"rules", written)) => answer_rules(alloc, written, out),
         Some((b"families", written)) => answer_families(alloc, written, out),
-        Some((b"routine", written)) => answer_routine(alloc, written, out),
+        Some((b"routine", written)) => answer_routine(alloc, Dialect::Standard, written, out),
+        Some((b"extended", written)) => answer_routine(alloc, Dialect::Extended, written, out),
         Some((b"program", written)) => answer_program(alloc, written, out),
         Some((reader, rest)) => answer_part(alloc, reader, rest, out),
     }

@@ -192,7 +192,7 @@ const MORE: &[(&str, u8, (bool, usize, u8))] = &[
 ];
 
 #[test]
-fn one_more_case_stands_in_its_place_or_comes_back(rt: HostRuntime) -> Result<(), Fail> {
+fn one_more_case_is_inserted_or_returned(rt: HostRuntime) -> Result<(), Fail> {
     for (letters, letter, wanted) in MORE {
         let found = one_more(rt.alloc(), letters, *letter)?;
         assert!(rt; found == *wanted, "{letters}");

@@ -35,7 +35,7 @@ fn fails(alloc: Global) -> bool {
 }
 
 #[test]
-fn a_writers_fault_is_told(rt: HostRuntime) {
+fn a_writer_fault_is_reported(rt: HostRuntime) {
     assert!(rt; fails(rt.alloc()));
 }
 

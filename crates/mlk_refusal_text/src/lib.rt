@@ -2,6 +2,7 @@
 //! helps. The line of the refusal itself is written by `mlk_app`.
 #![tactic(auto)]
 
+mod dialect;
 mod element;
 mod exchange;
 mod explanation;
@@ -13,6 +14,7 @@ mod rule_finding;
 mod rule_lines;
 mod spelling;
 
+pub use dialect::extended_note;
 pub use explanation::{GivenFile, Spot};
 pub use file::{code_help, entry_help, entry_place, line_help, unread_help};
 pub use routine::routine_help;

@@ -53,16 +53,17 @@ fn spot_of(fault: &Fault) -> Option<Spot> {
     })
 }
 
-/// Explains why the routine in `file` is refused.
+/// Explains why the routine in `file` is refused, with a `note` if there is one. A file that looks like rules has a note of its own.
 pub fn routine_help(
     alloc: Global,
     file: &GivenFile<'_>,
     fault: &Fault,
+    note: Option<&'static str>,
 ) -> Result<Vec<u8>, AllocError> {
     let note = if is_like_rules(file.path, file.text) {
         Some(EXCHANGED)
     } else {
-        None
+        note
     };
     let it = Explanation {
         code: fault.code,

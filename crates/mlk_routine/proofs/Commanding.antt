@@ -1,4 +1,5 @@
 -- A command from its word, its postconditional and its arguments.
+use Rattle.mlk_dialect.specs.declared.dialect.Dialect.{Dialect}
 use Rattle.mlk_text.specs.Places.{column_at}
 use Rattle.std.proofs.Common.{◌≡◌, ◌+◌, ℕ, suc, List, [], ◌∷◌, ◌++◌, length, Some, None, Bool, true, false, inl, inr, refl, sym, ap, ◌∙◌, subst, add-one, arith, ◌==◌}
 use Rattle.std.specs.Prelude.{Option, ◌⊎◌}
@@ -19,8 +20,8 @@ use Rattle.mlk_routine_arguments.proofs.Sequences.{Parts}
 use Rattle.mlk_routine_arguments.proofs.Words.{means_written, written_means}
 
 -- a postconditional and what the command does, after the word
-abbrev pub IsTail : Word → Bool → ℕ → Option Tree × ActionTree → List ℕ → Type 0
-IsTail w returns at t s = Both (λ n r. IsConditionOf w n t.0 r) (λ n r. IsActionOf w returns n t.1 r) at s
+abbrev pub IsTail : Word → Dialect → Bool → ℕ → Option Tree × ActionTree → List ℕ → Type 0
+IsTail w d returns at t s = Both (λ n r. IsConditionOf w n t.0 r) (λ n r. IsActionOf w d returns n t.1 r) at s
 
 abbrev pub TailEnds : Option Tree × ActionTree → List ℕ → Type 0
 TailEnds t rest = ActionEnds t.1 rest
@@ -62,25 +63,25 @@ quit_space : (returns : Bool) (k : ℕ) (value : Option Tree) (s : List ℕ) →
 quit_space returns k None s is = inl is
 quit_space returns k (Some t) s (may, (r, is, one)) = inr (r, is)
 
-arguments_space : (returns : Bool) (k : ℕ) (a : ActionTree) (s : List ℕ) → AreArgumentsOf returns k a s → (s ≡ []) ⊎ ((r : List ℕ) × (s ≡ 32 ∷ r))
-arguments_space returns k (Do calls) s is = perhaps_space IsDo k calls s is
-arguments_space returns k Else s is = inl is
-arguments_space returns k Halt s is = inl is
-arguments_space returns k (Hang times) s is = inr (some_space IsValue k times s is)
-arguments_space returns k (If conditions) s is = perhaps_space IsValue k conditions s is
-arguments_space returns k (Job calls) s is = inr (some_space IsJob k calls s is)
-arguments_space returns k (Kill kills) s is = perhaps_space IsKill k kills s is
-arguments_space returns k (Lock locks) s is = perhaps_space IsLock k locks s is
-arguments_space returns k (Merge merges) s is = inr (some_space IsMerge k merges s is)
-arguments_space returns k (New news) s is = perhaps_space IsNew k news s is
-arguments_space returns k (Quit value) s is = quit_space returns k value s is
-arguments_space returns k (Read reads) s is = inr (some_space IsRead k reads s is)
-arguments_space returns k (Set sets) s is = inr (some_space IsSet k sets s is)
-arguments_space returns k (Write writes) s is = inr (some_space IsWrite k writes s is)
+arguments_space : (d : Dialect) (returns : Bool) (k : ℕ) (a : ActionTree) (s : List ℕ) → AreArgumentsOf d returns k a s → (s ≡ []) ⊎ ((r : List ℕ) × (s ≡ 32 ∷ r))
+arguments_space d returns k (Do calls) s is = perhaps_space IsDo k calls s is
+arguments_space d returns k Else s is = inl is
+arguments_space d returns k Halt s is = inl is
+arguments_space d returns k (Hang times) s is = inr (some_space IsValue k times s is)
+arguments_space d returns k (If conditions) s is = perhaps_space IsValue k conditions s is
+arguments_space d returns k (Job calls) s is = inr (some_space IsJob k calls s is)
+arguments_space d returns k (Kill kills) s is = perhaps_space IsKill k kills s is
+arguments_space d returns k (Lock locks) s is = perhaps_space (IsLock d) k locks s is
+arguments_space d returns k (Merge merges) s is = inr (some_space IsMerge k merges s is)
+arguments_space d returns k (New news) s is = perhaps_space IsNew k news s is
+arguments_space d returns k (Quit value) s is = quit_space returns k value s is
+arguments_space d returns k (Read reads) s is = inr (some_space (IsRead d) k reads s is)
+arguments_space d returns k (Set sets) s is = inr (some_space IsSet k sets s is)
+arguments_space d returns k (Write writes) s is = inr (some_space IsWrite k writes s is)
 
 -- so what precedes them is followed by a space, or by what may end the command
-before_arguments : (returns : Bool) (k : ℕ) (a : ActionTree) (s rest : List ℕ) → AreArgumentsOf returns k a s → ActionEnds a rest → is_command_end (s ++ rest) ≡ true
-before_arguments returns k a s rest is e = go (arguments_space returns k a s is)
+before_arguments : (d : Dialect) (returns : Bool) (k : ℕ) (a : ActionTree) (s rest : List ℕ) → AreArgumentsOf d returns k a s → ActionEnds a rest → is_command_end (s ++ rest) ≡ true
+before_arguments d returns k a s rest is e = go (arguments_space d returns k a s is)
   where
     go : (s ≡ []) ⊎ ((r : List ℕ) × (s ≡ 32 ∷ r)) → is_command_end (s ++ rest) ≡ true
     go (inl h) = ap (λ l. is_command_end (l ++ rest)) h ∙ stop_lacks (has_arguments a) rest e
@@ -127,35 +128,35 @@ means_condition : (w : Word) (a : ActionTree) → Means w a → has_condition w 
 means_condition w a (inl same) = ap has_condition (sym same) ∙ own_condition a
 means_condition w a (inr (same, h)) = ap has_condition same ∙ sym (halting_condition a h)
 
-module _ (returns : Bool) (line : List ℕ) where
-  pub tail_parts : (w : Word) (at : ℕ) → Parts line at (IsConditionOf w) (ConditionEnds w) (λ condition. IsActionOf w returns) (λ condition. ActionEnds) (IsTail w returns) TailEnds (λ condition action. (condition, action))
+module _ (d : Dialect) (returns : Bool) (line : List ℕ) where
+  pub tail_parts : (w : Word) (at : ℕ) → Parts line at (IsConditionOf w) (ConditionEnds w) (λ condition. IsActionOf w d returns) (λ condition. ActionEnds) (IsTail w d returns) TailEnds (λ condition action. (condition, action))
   tail_parts w at = record {
     into = λ condition a s t one two. (s, t, refl, one, two);
     ends = λ condition a k t rest is before e. e;
     apart = λ c u rest h (s, t, is, one, two) e.
-        (c.0, c.1, s, t, is, refl, one, two, condition_end w (c.0) (t ++ rest) (before_arguments returns (suc at + length s) (c.1) t rest two.1 e), e);
+        (c.0, c.1, s, t, is, refl, one, two, condition_end w (c.0) (t ++ rest) (before_arguments d returns (suc at + length s) (c.1) t rest two.1 e), e);
   }
 
   -- nothing after the word continues it
-  after_word : (w : Word) (k : ℕ) (t : Option Tree × ActionTree) (s rest : List ℕ) → IsTail w returns k t s → TailEnds t rest → starts is_letter (s ++ rest) ≡ false
+  after_word : (w : Word) (k : ℕ) (t : Option Tree × ActionTree) (s rest : List ℕ) → IsTail w d returns k t s → TailEnds t rest → starts is_letter (s ++ rest) ≡ false
   after_word w k t s rest (front, back, is, one, two) e =
       ap (λ l. starts is_letter (l ++ rest)) is ∙ go (t.0) one.1
     where
       after : is_command_end (back ++ rest) ≡ true
-      after = before_arguments returns (k + length front) (t.1) back rest two.1 e
+      after = before_arguments d returns (k + length front) (t.1) back rest two.1 e
 
       go : (condition : Option Tree) → IsCondition k condition front → starts is_letter ((front ++ back) ++ rest) ≡ false
       go None none = ap (λ l. starts is_letter ((l ++ back) ++ rest)) none ∙ no_letter (back ++ rest) after
       go (Some x) (r, colon, value) = ap (λ l. starts is_letter ((l ++ back) ++ rest)) colon
 
-  pub command_parts : (at : ℕ) → Parts line at IsNamed WordEnds (λ w. IsTail w returns) (λ w. TailEnds) (IsCommand returns) CommandEnd (λ w t. Does (column_at (at + 1)) (t.0) (t.1))
+  pub command_parts : (at : ℕ) → Parts line at IsNamed WordEnds (λ w. IsTail w d returns) (λ w. TailEnds) (IsCommand d returns) CommandEnd (λ w t. Does (column_at (at + 1)) (t.0) (t.1))
   command_parts at = record {
     into = λ w t s r one two. into w t s r one two;
     ends = λ w t k r rest is before e. e;
     apart = λ c u rest h is e. go c u rest is e;
   }
     where
-      into : (w : Word) (t : Option Tree × ActionTree) (s r : List ℕ) → IsNamed (suc at) w s → IsTail w returns (suc at + length s) t r → IsCommand returns (suc at) (Does (column_at (at + 1)) (t.0) (t.1)) (s ++ r)
+      into : (w : Word) (t : Option Tree × ActionTree) (s r : List ℕ) → IsNamed (suc at) w s → IsTail w d returns (suc at + length s) t r → IsCommand d returns (suc at) (Does (column_at (at + 1)) (t.0) (t.1)) (s ++ r)
       into w t s r one (front, back, is, cond, (means, arguments)) =
           (ap column_at (add-one at), either cond.0, (s, r, refl, means_written w (t.1) s means one.1, (front, back, is, cond.1, arguments)))
         where
@@ -163,11 +164,11 @@ module _ (returns : Bool) (line : List ℕ) where
           either (inl none) = inl none
           either (inr may) = inr (sym (means_condition w (t.1) means) ∙ may)
 
-      go : (c : CommandTree) (u rest : List ℕ) → IsCommand returns (suc at) c u → CommandEnd c rest
-          → (w : Word) × (t : Option Tree × ActionTree) × (s r : List ℕ) × (u ≡ s ++ r) × (c ≡ Does (column_at (at + 1)) (t.0) (t.1)) × IsNamed (suc at) w s × IsTail w returns (suc at + length s) t r × WordEnds w (r ++ rest) × TailEnds t rest
+      go : (c : CommandTree) (u rest : List ℕ) → IsCommand d returns (suc at) c u → CommandEnd c rest
+          → (w : Word) × (t : Option Tree × ActionTree) × (s r : List ℕ) × (u ≡ s ++ r) × (c ≡ Does (column_at (at + 1)) (t.0) (t.1)) × IsNamed (suc at) w s × IsTail w d returns (suc at + length s) t r × WordEnds w (r ++ rest) × TailEnds t rest
       go (Does column condition action) u rest (place, may, (s, r, is, word_is, (front, back, also, cond, arguments))) e =
           let (w, letters, named, means) = written_means action s word_is in
-          let tail : IsTail w returns (suc at + length s) (condition, action) r = (front, back, also, (either w means may, cond), (means, arguments)) in
+          let tail : IsTail w d returns (suc at + length s) (condition, action) r = (front, back, also, (either w means may, cond), (means, arguments)) in
           (w, (condition, action), s, r, is, ap (λ k. Does k condition action) (place ∙ ap column_at (sym (add-one at))), (letters, named), tail, after_word w (suc at + length s) (condition, action) r rest tail e, e)
         where
           either : (w : Word) → Means w action → (condition ≡ None) ⊎ (may_have_condition action ≡ true) → (condition ≡ None) ⊎ (has_condition w ≡ true)

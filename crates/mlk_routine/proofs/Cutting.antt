@@ -3,7 +3,7 @@ use Rattle.std.proofs.Common.{◌≡◌, ◌⊎◌, ◌+◌, ◌-◌, ◌<◌, �
 use Rattle.std.specs.Prelude.{not}
 use Rattle.std.specs.List.{list_all}
 use Rattle.std.proofs.Math.Seq.{get_or-append_seam, take-append_seam, drop-append_seam}
-use Rattle.std.proofs.lemmas.Bool.{cases_Bool, and_parts}
+use Rattle.std.proofs.lemmas.Bool.{cases_Bool, and_parts, not-true}
 use Rattle.std.proofs.lemmas.Bool.Decides.{nat_tests}
 use Rattle.bstr.specs.Text.{line_len, lines_of, no_cr, without_terminator}
 use Rattle.bstr.proofs.lemmas.LineLemmas.{lines-nil, lines-step}
@@ -71,10 +71,6 @@ plain_no_lf (b ∷ s) h =
     let p = and_parts (is_line_byte b) (list_all is_line_byte s) h in
     rw (plain_byte b p.0).0 (plain_no_lf s p.1)
 
-not_false : (t : Bool) → not t ≡ true → t ≡ false
-not_false true h = cc h
-not_false false h = refl
-
 -- the first line of a text
 first_len : (s rest : List ℕ) → list_all is_no_lf s ≡ true → line_len (s ++ rest) ≡ length s + line_len rest
 unfolding line_len
@@ -82,7 +78,7 @@ first_len [] rest h = omega arith
 first_len (b ∷ s) rest h =
     let p = and_parts (is_no_lf b) (list_all is_no_lf s) h in
     let more = first_len s rest p.1 in
-    rw (not_false (b == 10) p.0) (omega (arith, more))
+    rw (not-true (b == 10) p.0) (omega (arith, more))
 
 -- a text that begins with a line and its end
 cut_off : (s end rest : List ℕ) → 0 < length (s ++ end) → line_len ((s ++ end) ++ rest) ≡ length (s ++ end) → lines_of ((s ++ end) ++ rest) ≡ (s ++ end) ∷ lines_of rest
@@ -146,7 +142,7 @@ find_lf (b ∷ text) = go (cases_Bool (b == 10)) (find_lf text)
 
 -- what a line feed ends: a line, perhaps with a carriage return
 no_lf_last : (t : List ℕ) (c : ℕ) → list_all is_no_lf (t ++ c ∷ []) ≡ true → (c == 10) ≡ false
-no_lf_last [] c h = not_false (c == 10) (and_parts (is_no_lf c) true h).0
+no_lf_last [] c h = not-true (c == 10) (and_parts (is_no_lf c) true h).0
 no_lf_last (b ∷ t) c h = no_lf_last t c (and_parts (is_no_lf b) (list_all is_no_lf (t ++ c ∷ [])) h).1
 
 cut_line : (s rest : List ℕ) → (end : List ℕ) × (s ++ 10 ∷ rest ≡ no_cr s ++ (end ++ rest)) × IsEnd (no_cr s) end rest

@@ -1,6 +1,7 @@
 -- What a command does, by its word.
 use Rattle.std.proofs.Common.{◌≡◌, ◌≤◌, ℕ, suc, List, [], ◌∷◌, ◌++◌, length, drop, Some, None, Bool, true, false, inl, inr, refl, sym, ap, ◌∙◌, subst}
 use Rattle.std.specs.Prelude.{Option, ◌⊎◌}
+use Rattle.mlk_dialect.specs.declared.dialect.Dialect.{Dialect}
 use Rattle.mlk_syntax.specs.ExprTrees.{Tree}
 use Rattle.mlk_expr.specs.Theorem.{Stands}
 use Rattle.mlk_text.specs.declared.failure.Failure.{Failure}
@@ -10,7 +11,7 @@ use Rattle.mlk_routine_arguments.specs.declared.word.Word.{Word}
 use Rattle.mlk_routine_arguments.specs.declared.word.Word.TheVariants as word
 use Rattle.mlk_syntax.specs.Trees.{DoTree, CallTree, KillTree, LockTree, MergeTree, NewTree, ReadTree, SetTree, WriteTree}
 use Rattle.mlk_syntax.specs.Trees.{ActionTree, Do, Else, Halt, Hang, If, Job, Kill, Lock, Merge, New, Quit, Read, Set, Write}
-use Rattle.mlk_routine_arguments.specs.Told.{Found, Nowhere, Denied}
+use Rattle.mlk_routine_arguments.specs.PartsRead.{Found, Nowhere, Denied}
 use Rattle.mlk_routine_arguments.specs.Faults.{IsFaulty}
 use Rattle.mlk_routine_arguments.specs.Ends.{is_stop, is_bare_end, StopEnds}
 use Rattle.mlk_routine_arguments.specs.CommandWords.{has_any}
@@ -95,19 +96,19 @@ pub content_of : (a : ActionTree) (w : Word) → kind a ≡ w → (c : Content w
 content_of a w same = subst (λ v. (c : Content v) × (a ≡ with v c)) same (own_content a)
 
 -- the commands of one word have one form
-pub opened : (w : Word) → (w ≡ word.HaltOrHang → ⊥) → (returns : Bool) (line : List ℕ) (at : ℕ)
-    → Turned line at (λ k c s. AreArgumentsOf returns k (with w c) s) (λ c. ActionEnds (with w c)) (IsActionOf w returns) ActionEnds (with w)
-opened w other returns line at = record {
+pub opened : (w : Word) → (w ≡ word.HaltOrHang → ⊥) → (d : Dialect) (returns : Bool) (line : List ℕ) (at : ℕ)
+    → Turned line at (λ k c s. AreArgumentsOf d returns k (with w c) s) (λ c. ActionEnds (with w c)) (IsActionOf w d returns) ActionEnds (with w)
+opened w other d returns line at = record {
   into = λ c s is. (inl (kind_with w c), is);
   ends = λ c rest e. e;
   apart = λ a u rest h is e. go a u rest is.0 is.1 e;
 }
   where
-    go : (a : ActionTree) (u rest : List ℕ) → Means w a → AreArgumentsOf returns (suc at) a u → ActionEnds a rest
-        → (c : Content w) × (a ≡ with w c) × AreArgumentsOf returns (suc at) (with w c) u × ActionEnds (with w c) rest
+    go : (a : ActionTree) (u rest : List ℕ) → Means w a → AreArgumentsOf d returns (suc at) a u → ActionEnds a rest
+        → (c : Content w) × (a ≡ with w c) × AreArgumentsOf d returns (suc at) (with w c) u × ActionEnds (with w c) rest
     go a u rest (inl same) is e =
         let r = content_of a w same in
-        (r.0, r.1, subst (λ x. AreArgumentsOf returns (suc at) x u) r.1 is, subst (λ x. ActionEnds x rest) r.1 e)
+        (r.0, r.1, subst (λ x. AreArgumentsOf d returns (suc at) x u) r.1 is, subst (λ x. ActionEnds x rest) r.1 e)
     go a u rest (inr (same, halts)) is e = absurd (other same)
 
 -- the commands of `H`
@@ -127,14 +128,14 @@ halting_only (Read reads) h = cc h
 halting_only (Set sets) h = cc h
 halting_only (Write writes) h = cc h
 
-pub halting_turned : (returns : Bool) (line : List ℕ) (at : ℕ) → Turned line at (ArePerhaps IsValue) (λ items. StopEnds (has_any items)) (IsActionOf word.HaltOrHang returns) ActionEnds halting
-halting_turned returns line at = record {
+pub halting_turned : (d : Dialect) (returns : Bool) (line : List ℕ) (at : ℕ) → Turned line at (ArePerhaps IsValue) (λ items. StopEnds (has_any items)) (IsActionOf word.HaltOrHang d returns) ActionEnds halting
+halting_turned d returns line at = record {
   into = λ times s is. into times s is;
   ends = λ times rest e. ends times rest e;
   apart = λ a u rest h is e. go a u rest is.0 is.1 e;
 }
   where
-    into : (times : List Tree) (s : List ℕ) → ArePerhaps IsValue (suc at) times s → IsActionOf word.HaltOrHang returns (suc at) (halting times) s
+    into : (times : List Tree) (s : List ℕ) → ArePerhaps IsValue (suc at) times s → IsActionOf word.HaltOrHang d returns (suc at) (halting times) s
     into [] s is = (inr (refl, refl), is)
     into (t ∷ times) s is = (inr (refl, refl), is)
 
@@ -142,21 +143,21 @@ halting_turned returns line at = record {
     ends [] rest e = e
     ends (t ∷ times) rest e = e
 
-    hang : (times : List Tree) (u rest : List ℕ) → AreArgumentsOf returns (suc at) (Hang times) u → ActionEnds (Hang times) rest
+    hang : (times : List Tree) (u rest : List ℕ) → AreArgumentsOf d returns (suc at) (Hang times) u → ActionEnds (Hang times) rest
         → (c : List Tree) × (Hang times ≡ halting c) × ArePerhaps IsValue (suc at) c u × StopEnds (has_any c) rest
     hang [] u rest (r, is, (first, others, front, back, same, also, one, next)) e = cc same
     hang (t ∷ times) u rest is e = (t ∷ times, refl, is, e)
 
-    go : (a : ActionTree) (u rest : List ℕ) → Means word.HaltOrHang a → AreArgumentsOf returns (suc at) a u → ActionEnds a rest
+    go : (a : ActionTree) (u rest : List ℕ) → Means word.HaltOrHang a → AreArgumentsOf d returns (suc at) a u → ActionEnds a rest
         → (c : List Tree) × (a ≡ halting c) × ArePerhaps IsValue (suc at) c u × StopEnds (has_any c) rest
     go a u rest (inl same) is e = absurd (content_of a word.HaltOrHang same).0
     go a u rest (inr (same, halts)) is e = by (halting_only a halts) is e
       where
-        by : (a ≡ Halt) ⊎ ((times : List Tree) × (a ≡ Hang times)) → AreArgumentsOf returns (suc at) a u → ActionEnds a rest
+        by : (a ≡ Halt) ⊎ ((times : List Tree) × (a ≡ Hang times)) → AreArgumentsOf d returns (suc at) a u → ActionEnds a rest
             → (c : List Tree) × (a ≡ halting c) × ArePerhaps IsValue (suc at) c u × StopEnds (has_any c) rest
-        by (inl h) is e = ([], h, subst (λ x. AreArgumentsOf returns (suc at) x u) h is, subst (λ x. ActionEnds x rest) h e)
+        by (inl h) is e = ([], h, subst (λ x. AreArgumentsOf d returns (suc at) x u) h is, subst (λ x. ActionEnds x rest) h e)
         by (inr (times, h)) is e =
-            let r = hang times u rest (subst (λ x. AreArgumentsOf returns (suc at) x u) h is) (subst (λ x. ActionEnds x rest) h e) in
+            let r = hang times u rest (subst (λ x. AreArgumentsOf d returns (suc at) x u) h is) (subst (λ x. ActionEnds x rest) h e) in
             (r.0, h ∙ r.1, r.2, r.3)
 
 -- a command that consists of its word

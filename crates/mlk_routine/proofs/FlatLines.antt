@@ -3,13 +3,14 @@ use Rattle.std.proofs.Common.{◌≡◌, ◌<◌, ◌≤◌, ◌+◌, ℕ, zero,
 use Rattle.std.specs.Prelude.{◌||◌, slice_index_or}
 use Rattle.std.specs.List.{list_all}
 use Rattle.std.specs.Borrow.{Bor}
+use Rattle.mlk_dialect.specs.declared.dialect.Dialect.{Dialect}
 use Rattle.mlk_text.specs.declared.failure.Failure.{Failure}
 use Rattle.mlk_text.specs.declared.failure.Failure.TheVariants.{OutOfMemory, Refused}
 use Rattle.mlk_text.specs.declared.fault.Fault.{Fault}
 use Rattle.mlk_text.specs.Failures.{IfRefused}
 use Rattle.mlk_routine.specs.declared.line.Before.{Before}
 use Rattle.mlk_syntax.specs.Trees.{HeadTree, LineHead}
-use Rattle.mlk_routine_arguments.specs.Told.{IsRefusal}
+use Rattle.mlk_routine_arguments.specs.PartsRead.{IsRefusal}
 use Rattle.mlk_routine_arguments.specs.Faults.{IsLineFault}
 use Rattle.mlk_routine.specs.Refusals.{IsOfLine}
 use Rattle.mlk_routine.specs.RoutineGrammar.{AreLines, IsLine, labels_of, level_of, reaches, is_line_byte}
@@ -53,9 +54,9 @@ labels_seen old new heads (LineHead number level end (Some label) formals comman
     more_seen old new (labels_of heads) label seen has q ∙ ap (λ l. among q l) (sym (labels_append heads (LineHead number level end (Some label) formals commands ∷ [])))
 
 -- Lines whose predecessors were read.
-pub record FlatSoFar (ts : List (List ℕ)) (i : ℕ) (heads : List HeadTree) (before : Before) : Type 0 where
-  pub whole : (more : List HeadTree) → AreLines (i + 1) more (drop i ts) → AreLines 1 (heads ++ more) ts
-  pub apart : (others : List HeadTree) → AreLines 1 others ts → (more : List HeadTree) × (others ≡ heads ++ more) × AreLines (i + 1) more (drop i ts)
+pub record FlatSoFar (d : Dialect) (ts : List (List ℕ)) (i : ℕ) (heads : List HeadTree) (before : Before) : Type 0 where
+  pub whole : (more : List HeadTree) → AreLines d (i + 1) more (drop i ts) → AreLines d 1 (heads ++ more) ts
+  pub apart : (others : List HeadTree) → AreLines d 1 others ts → (more : List HeadTree) × (others ≡ heads ++ more) × AreLines d (i + 1) more (drop i ts)
   pub plain : AllPlain (drop i ts) → AllPlain ts
   pub plain_rest : AllPlain ts → AllPlain (drop i ts)
   pub follow : (more : List HeadTree) → Follow before.level before.reaches more → Follow 0 true (heads ++ more)
@@ -63,8 +64,8 @@ pub record FlatSoFar (ts : List (List ℕ)) (i : ℕ) (heads : List HeadTree) (b
   pub distinct : AreDistinct (labels_of heads)
   pub seen : AreSeen before.labels.texts.keys (labels_of heads)
 
-pub flat_begin : (ts : List (List ℕ)) (before : Before) → ((q : List ℕ) → has_name q before.labels.texts.keys ≡ false) → before.level ≡ 0 → before.reaches ≡ true → FlatSoFar ts 0 [] before
-flat_begin ts before none level reached = record {
+pub flat_begin : (d : Dialect) (ts : List (List ℕ)) (before : Before) → ((q : List ℕ) → has_name q before.labels.texts.keys ≡ false) → before.level ≡ 0 → before.reaches ≡ true → FlatSoFar d ts 0 [] before
+flat_begin d ts before none level reached = record {
   whole = λ more is. is;
   apart = λ others is. (others, refl, is);
   plain = λ h. h;
@@ -75,37 +76,37 @@ flat_begin ts before none level reached = record {
   seen = none;
 }
 
-module _ (ts : List (List ℕ)) (i : ℕ) (heads : List HeadTree) (before : Before) (l : FlatSoFar ts i heads before) where
-  pub flat_end : drop i ts ≡ [] → AreHeadsOnly ts heads
+module _ (d : Dialect) (ts : List (List ℕ)) (i : ℕ) (heads : List HeadTree) (before : Before) (l : FlatSoFar d ts i heads before) where
+  pub flat_end : drop i ts ≡ [] → AreHeadsOnly d ts heads
   flat_end done =
-      let all : AreLines 1 heads ts = subst (λ k. AreLines 1 k ts) (append-nil heads) (l.whole [] done) in
+      let all : AreLines d 1 heads ts = subst (λ k. AreLines d 1 k ts) (append-nil heads) (l.whole [] done) in
       let plain : AllPlain ts = l.plain (subst AllPlain (sym done) tt) in
       let follow : Follow 0 true heads = subst (Follow 0 true) (append-nil heads) (l.follow [] tt) in
       ((all, plain, follow, l.distinct), λ others is. only others (l.apart others is))
     where
-      only : (others : List HeadTree) → (more : List HeadTree) × (others ≡ heads ++ more) × AreLines (i + 1) more (drop i ts) → others ≡ heads
+      only : (others : List HeadTree) → (more : List HeadTree) × (others ≡ heads ++ more) × AreLines d (i + 1) more (drop i ts) → others ≡ heads
       only others ([], same, is) = same ∙ append-nil heads
       only others (h ∷ more, same, (s, rest, front, line, others_are)) = cc (sym done ∙ front)
 
   module _ (t : List ℕ) (here : drop i ts ≡ t ∷ drop (i + 1) ts) where
     -- the line that is here
-    first_line : (more : List HeadTree) → AreLines (i + 1) more (drop i ts) → (h : HeadTree) × (rest : List HeadTree) × (more ≡ h ∷ rest) × IsLine (i + 1) h t × AreLines (i + 1 + 1) rest (drop (i + 1) ts)
+    first_line : (more : List HeadTree) → AreLines d (i + 1) more (drop i ts) → (h : HeadTree) × (rest : List HeadTree) × (more ≡ h ∷ rest) × IsLine d (i + 1) h t × AreLines d (i + 1 + 1) rest (drop (i + 1) ts)
     first_line [] is = cc (sym here ∙ is)
     first_line (h ∷ more) (s, rest, front, line, others) =
         let same : t ∷ drop (i + 1) ts ≡ s ∷ rest = sym here ∙ front in
         let text : s ≡ t = cc same in
         let after : rest ≡ drop (i + 1) ts = cc same in
-        (h, more, refl, subst (IsLine (i + 1) h) text line, subst (λ k. AreLines k more (drop (i + 1) ts)) (sym (add-one (i + 1))) (subst (AreLines (suc (i + 1)) more) after others))
+        (h, more, refl, subst (IsLine d (i + 1) h) text line, subst (λ k. AreLines d k more (drop (i + 1) ts)) (sym (add-one (i + 1))) (subst (AreLines d (suc (i + 1)) more) after others))
 
-    pub flat_refused : (e : Failure Fault) → NoLine before (i + 1) t e → (r : Failure Fault) → (IsRefusal r → IsRefusal e) → NoHeads ts r
+    pub flat_refused : (e : Failure Fault) → NoLine d before (i + 1) t e → (r : Failure Fault) → (IsRefusal r → IsRefusal e) → NoHeads d ts r
     flat_refused e none OutOfMemory same = tt
     flat_refused OutOfMemory none (Refused fault) same = absurd (same tt)
     flat_refused (Refused cause) none (Refused fault) same = λ others is. go others is (l.apart others is.0)
       where
-        go : (others : List HeadTree) → AreHeads ts others → (more : List HeadTree) × (others ≡ heads ++ more) × AreLines (i + 1) more (drop i ts) → ⊥
+        go : (others : List HeadTree) → AreHeads d ts others → (more : List HeadTree) × (others ≡ heads ++ more) × AreLines d (i + 1) more (drop i ts) → ⊥
         go others is (more, joined, lines) = come (first_line more lines)
           where
-            come : (h : HeadTree) × (rest : List HeadTree) × (more ≡ h ∷ rest) × IsLine (i + 1) h t × AreLines (i + 1 + 1) rest (drop (i + 1) ts) → ⊥
+            come : (h : HeadTree) × (rest : List HeadTree) × (more ≡ h ∷ rest) × IsLine d (i + 1) h t × AreLines d (i + 1 + 1) rest (drop (i + 1) ts) → ⊥
             come (h, rest, same_more, line, after) =
                 let all : others ≡ heads ++ h ∷ rest = joined ∙ ap (λ k. heads ++ k) same_more in
                 let plain = subst AllPlain here (l.plain_rest is.1) in
@@ -113,11 +114,11 @@ module _ (ts : List (List ℕ)) (i : ℕ) (heads : List HeadTree) (before : Befo
                 let new = label_new before.labels.texts.keys heads h rest l.seen (subst (λ k. AreDistinct (labels_of k)) all is.3) in
                 none.0 h line plain.0 (new, steps.0)
 
-    pub flat_more : (h : HeadTree) (next : Before) → IsLineOnly (i + 1) t h → list_all is_line_byte t ≡ true → FitsAfter before h → IsWithLine before next h → FlatSoFar ts (i + 1) (heads ++ h ∷ []) next
+    pub flat_more : (h : HeadTree) (next : Before) → IsLineOnly d (i + 1) t h → list_all is_line_byte t ≡ true → FitsAfter before h → IsWithLine before next h → FlatSoFar d ts (i + 1) (heads ++ h ∷ []) next
     flat_more h next line plain_line fits after = record {
       whole = λ more is.
-          let lines : AreLines (i + 1) (h ∷ more) (drop i ts) = (t, drop (i + 1) ts, here, line.0, subst (λ k. AreLines k more (drop (i + 1) ts)) (add-one (i + 1)) is) in
-          subst (λ k. AreLines 1 k ts) (sym (append_assoc heads (h ∷ []) more)) (l.whole (h ∷ more) lines);
+          let lines : AreLines d (i + 1) (h ∷ more) (drop i ts) = (t, drop (i + 1) ts, here, line.0, subst (λ k. AreLines d k more (drop (i + 1) ts)) (add-one (i + 1)) is) in
+          subst (λ k. AreLines d 1 k ts) (sym (append_assoc heads (h ∷ []) more)) (l.whole (h ∷ more) lines);
       apart = λ others is. go others (l.apart others is);
       plain = λ rest. l.plain (subst AllPlain (sym here) (plain_line, rest));
       plain_rest = λ all. (subst AllPlain here (l.plain_rest all)).1;
@@ -132,7 +133,7 @@ module _ (ts : List (List ℕ)) (i : ℕ) (heads : List HeadTree) (before : Befo
       seen = labels_seen before.labels.texts.keys next.labels.texts.keys heads h l.seen after.labels;
     }
       where
-        go : (others : List HeadTree) → (more : List HeadTree) × (others ≡ heads ++ more) × AreLines (i + 1) more (drop i ts) → (more : List HeadTree) × (others ≡ (heads ++ h ∷ []) ++ more) × AreLines (i + 1 + 1) more (drop (i + 1) ts)
+        go : (others : List HeadTree) → (more : List HeadTree) × (others ≡ heads ++ more) × AreLines d (i + 1) more (drop i ts) → (more : List HeadTree) × (others ≡ (heads ++ h ∷ []) ++ more) × AreLines d (i + 1 + 1) more (drop (i + 1) ts)
         go others (more, joined, lines) =
             let r = first_line more lines in
             (r.1, joined ∙ ap (λ k. heads ++ k) (r.2 ∙ ap (λ x. x ∷ r.1) (line.1 r.0 r.3)) ∙ sym (append_assoc heads (h ∷ []) r.1), r.4)

@@ -9,7 +9,7 @@ use Rattle.std.proofs.lemmas.List.Elements.{Contains-append_left, Contains-appen
 use Rattle.mlk_expr.specs.Grammar.{AreNext, IsNameText}
 use Rattle.mlk_expr.specs.Theorem.{Stands, LabelEnds}
 use Rattle.mlk_syntax.proofs.Distinct.{among, in_one, here, not_in_none, is_among, not_among}
-use Rattle.mlk_routine_arguments.specs.Told.{Found, Nowhere, first_of, byte_at}
+use Rattle.mlk_routine_arguments.specs.PartsRead.{Found, Nowhere, first_of, byte_at}
 use Rattle.mlk_routine_arguments.specs.Ends.{AnyEnds}
 use Rattle.mlk_routine_arguments.specs.CommandGrammar.{After}
 use Rattle.mlk_routine_arguments.specs.Stops.{name_stop}

@@ -3,6 +3,7 @@ use Rattle.std.proofs.Common.{◌≡◌, ◌<◌, ◌≤◌, ◌+◌, ℕ, suc, 
 use Rattle.std.specs.Prelude.{Option, ◌⊎◌, is_some}
 use Rattle.std.specs.List.{list_all}
 use Rattle.std.proofs.Math.Seq.{take-append_seam}
+use Rattle.mlk_dialect.specs.declared.dialect.Dialect.{Dialect}
 use Rattle.mlk_text.specs.Places.{column_at}
 use Rattle.mlk_text.specs.declared.failure.Failure.{Failure}
 use Rattle.mlk_text.specs.declared.failure.Failure.TheVariants.{OutOfMemory, Refused}
@@ -15,7 +16,7 @@ use Rattle.mlk_syntax.specs.declared.routine.Line.{Line}
 use Rattle.mlk_syntax.specs.declared.routine.Line.TheOpen.{Line-F}
 use Rattle.mlk_syntax.specs.declared.routine.Line.TheViews.{roll-Line}
 use Rattle.mlk_syntax.specs.declared.routine.Line.TheFolds.{fold-roll-Line}
-use Rattle.mlk_routine_arguments.specs.Told.{Found, Nowhere, Denied}
+use Rattle.mlk_routine_arguments.specs.PartsRead.{Found, Nowhere, Denied}
 use Rattle.mlk_routine_arguments.specs.Faults.{IsFaulty}
 use Rattle.mlk_routine.specs.RoutineGrammar.{IsLabelled, IsComment, IsBody, IsLine, is_line_byte}
 use Rattle.mlk_routine.specs.Lines.{IsLabelPart, IsFormalsPart, IsOpening, OpeningEnds, IsFront, FrontEnds, AtEnd, IsTailOf, level_in, IsKept, Fits, FitsAfter, IsLineOnly, NoLine, head_of}
@@ -36,15 +37,15 @@ labelled_whole (Some label) None l r k one two = (ap (λ x. l ++ x) two ∙ appe
 labelled_whole (Some label) (Some formals) l r k one two = (r, ap (λ x. x ++ r) one.0, one.1, two.1)
 
 -- what follows the label, in two parts
-body_parts : (level k : ℕ) (c : CommandTrees) (s : List ℕ) → IsBody level k c s
-    → (o : Option ℕ) × (start tail : List ℕ) × (s ≡ start ++ tail) × IsOpening k o start × IsTailOf o (k + length start) c tail × (level ≡ level_in o) × (level ≤ 15) × OpeningEnds o tail
-body_parts level k c s (inl (first, none, comment)) = (None, [], s, refl, refl, (none, comment), first, omega (arith, first), comment_ends s comment)
-body_parts level k c s (inr (periods, start, text, comment, is, same, few, begun, commands, note)) =
-    (Some level, start, text ++ comment, is, (periods, same, begun), (text, comment, refl, commands, note), refl, few, tail_no_lead level (k + length start) c (text ++ comment) (text, comment, refl, commands, note))
+body_parts : (d : Dialect) (level k : ℕ) (c : CommandTrees) (s : List ℕ) → IsBody d level k c s
+    → (o : Option ℕ) × (start tail : List ℕ) × (s ≡ start ++ tail) × IsOpening k o start × IsTailOf d o (k + length start) c tail × (level ≡ level_in o) × (level ≤ 15) × OpeningEnds o tail
+body_parts d level k c s (inl (first, none, comment)) = (None, [], s, refl, refl, (none, comment), first, omega (arith, first), comment_ends s comment)
+body_parts d level k c s (inr (periods, start, text, comment, is, same, few, begun, commands, note)) =
+    (Some level, start, text ++ comment, is, (periods, same, begun), (text, comment, refl, commands, note), refl, few, tail_no_lead d level (k + length start) c (text ++ comment) (text, comment, refl, commands, note))
 
-body_whole : (o : Option ℕ) (k : ℕ) (c : CommandTrees) (start tail : List ℕ) → IsOpening k o start → IsTailOf o (k + length start) c tail → level_in o ≤ 15 → IsBody (level_in o) k c (start ++ tail)
-body_whole None k c start tail one two few = inl (refl, two.0, subst IsComment (sym (ap (λ l. l ++ tail) one)) two.1)
-body_whole (Some level) k c start tail (periods, same, begun) (text, comment, is, commands, note) few =
+body_whole : (d : Dialect) (o : Option ℕ) (k : ℕ) (c : CommandTrees) (start tail : List ℕ) → IsOpening k o start → IsTailOf d o (k + length start) c tail → level_in o ≤ 15 → IsBody d (level_in o) k c (start ++ tail)
+body_whole d None k c start tail one two few = inl (refl, two.0, subst IsComment (sym (ap (λ l. l ++ tail) one)) two.1)
+body_whole d (Some level) k c start tail (periods, same, begun) (text, comment, is, commands, note) few =
     inr (periods, start, text, comment, ap (λ l. start ++ l) is, same, few, begun, commands, note)
 
 opening_level : (k : ℕ) (o : Option ℕ) (s : List ℕ) → IsOpening k o s → 0 < level_in o
@@ -55,17 +56,17 @@ opening_level k (Some level) s (periods, same, begun) = omega (arith, same)
 abbrev pub head_tree : ℕ → List ℕ → Front → CommandTrees → HeadTree
 head_tree n s f c = LineHead n (level_in f.level) (column_at (suc (length s))) f.label f.formals c
 
-module _ (line : List ℕ) (f : Front) (next : ℕ) (found : Found IsFront FrontEnds line 0 f next) where
+module _ (d : Dialect) (line : List ℕ) (f : Front) (next : ℕ) (found : Found IsFront FrontEnds line 0 f next) where
   at_next : next ≡ length found.0.text
   at_next = let e = next_is line found.0.text 0 next (omega arith) found.0.within found.0.joined in omega (arith, e)
 
   -- the parts of any line of this text
-  pub line_apart : (n : ℕ) (h : HeadTree) → IsLine n h line → (c : CommandTrees) × (h ≡ head_tree n line f c) × IsKept f.label (level_in f.level) × IsTailOf f.level (suc next) c (drop next line)
-  line_apart n (LineHead number level end label formals commands) (front, body, is, count, last, labelled, only, inside) = go (labelled_parts label formals front labelled) (body_parts level (suc (length front)) commands body inside)
+  pub line_apart : (n : ℕ) (h : HeadTree) → IsLine d n h line → (c : CommandTrees) × (h ≡ head_tree n line f c) × IsKept f.label (level_in f.level) × IsTailOf d f.level (suc next) c (drop next line)
+  line_apart n (LineHead number level end label formals commands) (front, body, is, count, last, labelled, only, inside) = go (labelled_parts label formals front labelled) (body_parts d level (suc (length front)) commands body inside)
     where
       go : (l r : List ℕ) × (front ≡ l ++ r) × IsLabelPart 1 label l × IsFormalsPart (is_some label) (1 + length l) formals r
-          → (o : Option ℕ) × (start tail : List ℕ) × (body ≡ start ++ tail) × IsOpening (suc (length front)) o start × IsTailOf o (suc (length front) + length start) commands tail × (level ≡ level_in o) × (level ≤ 15) × OpeningEnds o tail
-          → (c : CommandTrees) × (LineHead number level end label formals commands ≡ head_tree n line f c) × IsKept f.label (level_in f.level) × IsTailOf f.level (suc next) c (drop next line)
+          → (o : Option ℕ) × (start tail : List ℕ) × (body ≡ start ++ tail) × IsOpening (suc (length front)) o start × IsTailOf d o (suc (length front) + length start) commands tail × (level ≡ level_in o) × (level ≤ 15) × OpeningEnds o tail
+          → (c : CommandTrees) × (LineHead number level end label formals commands ≡ head_tree n line f c) × IsKept f.label (level_in f.level) × IsTailOf d f.level (suc next) c (drop next line)
       go (l, r, front_is, one, two) (o, start, tail, body_is, opening, rest, same, few, ends) =
           let g : Front = record { label = label; formals = formals; level = o } in
           let size : length front ≡ length l + length r = ap length front_is ∙ length-append l r in
@@ -82,7 +83,7 @@ module _ (line : List ℕ) (f : Front) (next : ℕ) (found : Found IsFront Front
             commands,
             ap (λ k. LineHead k level end label formals commands) count ∙ ap (λ k. LineHead n k end label formals commands) same ∙ ap (λ k. LineHead n (level_in o) k label formals commands) last ∙ ap (λ x. head_tree n line x commands) met.0,
             subst (λ x. IsKept x.label (level_in x.level)) met.0 kept,
-            subst (λ x. IsTailOf x.level (suc next) commands (drop next line)) met.0 (subst (λ t. IsTailOf o (suc next) commands t) met.1 (subst (λ k. IsTailOf o k commands tail) column rest)),
+            subst (λ x. IsTailOf d x.level (suc next) commands (drop next line)) met.0 (subst (λ t. IsTailOf d o (suc next) commands t) met.1 (subst (λ k. IsTailOf d o k commands tail) column rest)),
           )
         where
           lower : level ≡ level_in o → (label ≡ None) ⊎ (level ≡ 1) → (label ≡ None) ⊎ (level_in o ≤ 1)
@@ -90,14 +91,14 @@ module _ (line : List ℕ) (f : Front) (next : ℕ) (found : Found IsFront Front
           lower same (inr first) = inr (omega (arith, same, first))
 
   -- a line, from its parts
-  pub line_whole : (n : ℕ) (c : CommandTrees) → IsKept f.label (level_in f.level) → IsTailOf f.level (suc next) c (drop next line) → IsLine n (head_tree n line f c) line
+  pub line_whole : (n : ℕ) (c : CommandTrees) → IsKept f.label (level_in f.level) → IsTailOf d f.level (suc next) c (drop next line) → IsLine d n (head_tree n line f c) line
   line_whole n c kept tail = go found.0.spelled
     where
       only : (k : ℕ) (start : List ℕ) → IsOpening k f.level start → (f.label ≡ None) ⊎ (level_in f.level ≤ 1) → (f.label ≡ None) ⊎ (level_in f.level ≡ 1)
       only k start opening (inl none) = inl none
       only k start opening (inr low) = let high = opening_level k f.level start opening in inr (omega (arith, low, high))
 
-      go : IsFront 1 f found.0.text → IsLine n (head_tree n line f c) line
+      go : IsFront 1 f found.0.text → IsLine d n (head_tree n line f c) line
       go (l, more, is, one, (r, start, more_is, two, opening)) =
           let size : length (l ++ r) ≡ length l + length r = length-append l r in
           let size_text : length found.0.text ≡ length l + length more = ap length is ∙ length-append l more in
@@ -106,28 +107,28 @@ module _ (line : List ℕ) (f : Front) (next : ℕ) (found : Found IsFront Front
           let column : suc next ≡ suc (length (l ++ r)) + length start = omega (arith, at_next, size, size_text, size_more) in
           let joined : line ≡ (l ++ r) ++ (start ++ drop next line) = found.0.joined ∙ ap (λ x. x ++ drop next line) (is ∙ ap (λ x. l ++ x) more_is ∙ sym (append_assoc l r start)) ∙ append_assoc (l ++ r) start (drop next line) in
           let opening_there : IsOpening (suc (length (l ++ r))) f.level start = subst (λ k. IsOpening k f.level start) place opening in
-          let tail_there : IsTailOf f.level (suc (length (l ++ r)) + length start) c (drop next line) = subst (λ k. IsTailOf f.level k c (drop next line)) column tail in
-          (l ++ r, start ++ drop next line, joined, refl, refl, labelled_whole f.label f.formals l r (1 + length l) one two, only (suc (length (l ++ r))) start opening_there kept.0, body_whole f.level (suc (length (l ++ r))) c start (drop next line) opening_there tail_there kept.1)
+          let tail_there : IsTailOf d f.level (suc (length (l ++ r)) + length start) c (drop next line) = subst (λ k. IsTailOf d f.level k c (drop next line)) column tail in
+          (l ++ r, start ++ drop next line, joined, refl, refl, labelled_whole f.label f.formals l r (1 + length l) one two, only (suc (length (l ++ r))) start opening_there kept.0, body_whole d f.level (suc (length (l ++ r))) c start (drop next line) opening_there tail_there kept.1)
 
-  module _ (c : CommandTrees) (tail : Found (IsTailOf f.level) AtEnd line next c (length line)) where
-    tail_is : (d : CommandTrees) → IsTailOf f.level (suc next) d (drop next line) → d ≡ c
-    tail_is d is = (tail.1 d (drop next line) [] (sym (append-nil (drop next line))) is refl).0
+  module _ (c : CommandTrees) (tail : Found (IsTailOf d f.level) AtEnd line next c (length line)) where
+    tail_is : (other : CommandTrees) → IsTailOf d f.level (suc next) other (drop next line) → other ≡ c
+    tail_is other is = (tail.1 other (drop next line) [] (sym (append-nil (drop next line))) is refl).0
 
-    pub line_only : (n : ℕ) → IsKept f.label (level_in f.level) → IsLineOnly n line (head_tree n line f c)
+    pub line_only : (n : ℕ) → IsKept f.label (level_in f.level) → IsLineOnly d n line (head_tree n line f c)
     line_only n kept =
         let whole : tail.0.text ≡ drop next line = sym (tail.0.joined ∙ ap (λ x. tail.0.text ++ x) tail.0.ended ∙ append-nil tail.0.text) in (
-          line_whole n c kept (subst (λ t. IsTailOf f.level (suc next) c t) whole tail.0.spelled),
+          line_whole n c kept (subst (λ t. IsTailOf d f.level (suc next) c t) whole tail.0.spelled),
           λ h is.
               let r = line_apart n h is in
               r.1 ∙ ap (head_tree n line f) (tail_is r.0 r.3),
         )
 
-  pub no_tail_line : Nowhere (IsTailOf f.level) AtEnd line next → (n : ℕ) (h : HeadTree) → IsLine n h line → ⊥
+  pub no_tail_line : Nowhere (IsTailOf d f.level) AtEnd line next → (n : ℕ) (h : HeadTree) → IsLine d n h line → ⊥
   no_tail_line none n h is =
       let r = line_apart n h is in
       none r.0 (drop next line) [] (sym (append-nil (drop next line))) r.3 refl
 
-  pub misplaced_line : (before : Before) → (IsKept f.label (level_in f.level) → Fits before f.label (level_in f.level) → ⊥) → (n : ℕ) (h : HeadTree) → IsLine n h line → FitsAfter before h → ⊥
+  pub misplaced_line : (before : Before) → (IsKept f.label (level_in f.level) → Fits before f.label (level_in f.level) → ⊥) → (n : ℕ) (h : HeadTree) → IsLine d n h line → FitsAfter before h → ⊥
   misplaced_line before bad n h is fits =
       let r = line_apart n h is in
       bad r.2 (subst (FitsAfter before) r.1 fits)
@@ -145,11 +146,11 @@ module _ (line : List ℕ) (f : Front) (next : ℕ) (found : Found IsFront Front
           ap (take (length label)) joined ∙ take-append_seam label (more ++ drop next line)
 
 -- what precedes the commands of a line
-pub line_front : (line : List ℕ) (n : ℕ) (h : HeadTree) → IsLine n h line → (g : Front) × (u tail : List ℕ) × (line ≡ u ++ tail) × IsFront 1 g u × FrontEnds g tail
-line_front line n (LineHead number level end label formals commands) (front, body, is, count, last, labelled, only, inside) = go (labelled_parts label formals front labelled) (body_parts level (suc (length front)) commands body inside)
+pub line_front : (d : Dialect) (line : List ℕ) (n : ℕ) (h : HeadTree) → IsLine d n h line → (g : Front) × (u tail : List ℕ) × (line ≡ u ++ tail) × IsFront 1 g u × FrontEnds g tail
+line_front d line n (LineHead number level end label formals commands) (front, body, is, count, last, labelled, only, inside) = go (labelled_parts label formals front labelled) (body_parts d level (suc (length front)) commands body inside)
   where
     go : (l r : List ℕ) × (front ≡ l ++ r) × IsLabelPart 1 label l × IsFormalsPart (is_some label) (1 + length l) formals r
-        → (o : Option ℕ) × (start tail : List ℕ) × (body ≡ start ++ tail) × IsOpening (suc (length front)) o start × IsTailOf o (suc (length front) + length start) commands tail × (level ≡ level_in o) × (level ≤ 15) × OpeningEnds o tail
+        → (o : Option ℕ) × (start tail : List ℕ) × (body ≡ start ++ tail) × IsOpening (suc (length front)) o start × IsTailOf d o (suc (length front) + length start) commands tail × (level ≡ level_in o) × (level ≤ 15) × OpeningEnds o tail
         → (g : Front) × (u tail : List ℕ) × (line ≡ u ++ tail) × IsFront 1 g u × FrontEnds g tail
     go (l, r, front_is, one, two) (o, start, tail, body_is, opening, rest, same, few, ends) =
         let g : Front = record { label = label; formals = formals; level = o } in
@@ -159,25 +160,25 @@ line_front line n (LineHead number level end label formals commands) (front, bod
         let joined : line ≡ (l ++ (r ++ start)) ++ tail = is ∙ ap (λ x. x ++ body) front_is ∙ ap (λ x. (l ++ r) ++ x) body_is ∙ sym (append_assoc (l ++ r) start tail) ∙ ap (λ x. x ++ tail) (append_assoc l r start) in
         (g, l ++ (r ++ start), tail, joined, (l, r ++ start, refl, one, (r, start, refl, two, opening_there)), ends)
 
-pub no_front_line : (line : List ℕ) → Nowhere IsFront FrontEnds line 0 → (n : ℕ) (h : HeadTree) → IsLine n h line → ⊥
-no_front_line line none n h is = let (g, u, tail, joined, whole, ends) = line_front line n h is in none g u tail joined whole ends
+pub no_front_line : (d : Dialect) (line : List ℕ) → Nowhere IsFront FrontEnds line 0 → (n : ℕ) (h : HeadTree) → IsLine d n h line → ⊥
+no_front_line d line none n h is = let (g, u, tail, joined, whole, ends) = line_front d line n h is in none g u tail joined whole ends
 
 -- what a refusal of a part says of the line
-pub refused_front : (before : Before) (n : ℕ) (line : List ℕ) (e : Failure Fault) → Denied IsFront FrontEnds line 0 e → NoLine before n line e
-refused_front before n line OutOfMemory h = tt
-refused_front before n line (Refused fault) h = (λ head is plain fits. no_front_line line h.0 n head is, h.1)
+pub refused_front : (d : Dialect) (before : Before) (n : ℕ) (line : List ℕ) (e : Failure Fault) → Denied IsFront FrontEnds line 0 e → NoLine d before n line e
+refused_front d before n line OutOfMemory h = tt
+refused_front d before n line (Refused fault) h = (λ head is plain fits. no_front_line d line h.0 n head is, h.1)
 
-pub refused_tail : (before : Before) (n : ℕ) (line : List ℕ) (f : Front) (next : ℕ) → Found IsFront FrontEnds line 0 f next → (e : Failure Fault) → Denied (IsTailOf f.level) AtEnd line next e → NoLine before n line e
-refused_tail before n line f next found OutOfMemory h = tt
-refused_tail before n line f next found (Refused fault) h = (λ head is plain fits. no_tail_line line f next found h.0 n head is, h.1)
+pub refused_tail : (d : Dialect) (before : Before) (n : ℕ) (line : List ℕ) (f : Front) (next : ℕ) → Found IsFront FrontEnds line 0 f next → (e : Failure Fault) → Denied (IsTailOf d f.level) AtEnd line next e → NoLine d before n line e
+refused_tail d before n line f next found OutOfMemory h = tt
+refused_tail d before n line f next found (Refused fault) h = (λ head is plain fits. no_tail_line d line f next found h.0 n head is, h.1)
 
-pub refused_place : (before : Before) (n : ℕ) (line : List ℕ) (f : Front) (next : ℕ) → Found IsFront FrontEnds line 0 f next → (e : Failure Fault) → IsFaulty line e → (IsKept f.label (level_in f.level) → Fits before f.label (level_in f.level) → ⊥) → NoLine before n line e
-refused_place before n line f next found OutOfMemory fault bad = tt
-refused_place before n line f next found (Refused fault) is_fault bad = (λ head is plain fits. misplaced_line line f next found before bad n head is fits, is_fault)
+pub refused_place : (d : Dialect) (before : Before) (n : ℕ) (line : List ℕ) (f : Front) (next : ℕ) → Found IsFront FrontEnds line 0 f next → (e : Failure Fault) → IsFaulty line e → (IsKept f.label (level_in f.level) → Fits before f.label (level_in f.level) → ⊥) → NoLine d before n line e
+refused_place d before n line f next found OutOfMemory fault bad = tt
+refused_place d before n line f next found (Refused fault) is_fault bad = (λ head is plain fits. misplaced_line d line f next found before bad n head is fits, is_fault)
 
-pub refused_byte : (before : Before) (n : ℕ) (line : List ℕ) (e : Failure Fault) → IsFaulty line e → list_all is_line_byte line ≡ false → NoLine before n line e
-refused_byte before n line OutOfMemory fault bad = tt
-refused_byte before n line (Refused fault) is_fault bad = (λ head is plain fits. cc (sym bad ∙ plain), is_fault)
+pub refused_byte : (d : Dialect) (before : Before) (n : ℕ) (line : List ℕ) (e : Failure Fault) → IsFaulty line e → list_all is_line_byte line ≡ false → NoLine d before n line e
+refused_byte d before n line OutOfMemory fault bad = tt
+refused_byte d before n line (Refused fault) is_fault bad = (λ head is plain fits. cc (sym bad ∙ plain), is_fault)
 
 -- the head of a line that was created
 pub head_roll : (x : Line-F Line) → head_of (roll-Line x) ≡ LineHead x.number x.level x.end x.label x.formals (commands_of x.commands)

@@ -8,7 +8,7 @@ use Rattle.mlk_text.specs.Spellings.{IsLabel}
 use Rattle.mlk_text.proofs.Spelled.{name-parts}
 use Rattle.mlk_expr.specs.Grammar.{IsLabelText}
 use Rattle.mlk_expr.specs.Theorem.{Stands, LabelEnds}
-use Rattle.mlk_routine_arguments.specs.Told.{Found}
+use Rattle.mlk_routine_arguments.specs.PartsRead.{Found}
 use Rattle.mlk_routine_arguments.specs.Ends.{starts}
 use Rattle.mlk_routine.specs.Lines.{is_label_byte, IsLabelPart, LabelPartEnds}
 use Rattle.mlk_routine_arguments.proofs.Sequences.{Turned}

@@ -1,4 +1,5 @@
 -- The commands of a line, one after another, and FOR.
+use Rattle.mlk_dialect.specs.declared.dialect.Dialect.{Dialect}
 use Rattle.mlk_text.specs.Places.{column_at}
 use Rattle.std.proofs.Common.{◌≡◌, ◌<◌, ◌≤◌, ◌+◌, ◌-◌, ℕ, suc, List, [], ◌∷◌, ◌++◌, length, drop, Some, None, Bool, true, false, inl, inr, refl, sym, ap, ◌∙◌, subst, add-one, arith, ◌==◌, append_assoc, append-nil}
 use Rattle.std.specs.Prelude.{Option, Result, Ok, Err, ◌⊎◌, ◌&&◌, is_some, not, nat_eq, slice_get}
@@ -18,7 +19,7 @@ use Rattle.mlk_expr.specs.Theorem.{Stands}
 use Rattle.mlk_routine_arguments.specs.declared.word.Word.{Word}
 use Rattle.mlk_routine_arguments.specs.declared.word.Word.TheVariants as word
 use Rattle.mlk_syntax.specs.Trees.{CommandTree, Does, ControlTree, Runs, CommandTrees, finished, then_command, then_for}
-use Rattle.mlk_routine_arguments.specs.Told.{Found, Nowhere, Denied, Told}
+use Rattle.mlk_routine_arguments.specs.PartsRead.{Found, Nowhere, Denied, ReadsPart}
 use Rattle.mlk_routine_arguments.specs.Faults.{IsFaulty}
 use Rattle.mlk_routine_arguments.specs.Ends.{is_stop, starts, ControlEnds, ParameterEnds, IsRun, RunEnds, is_command_end, is_commands_end, is_bare_end, StopEnds, CommandEnd, CommandsEnd}
 use Rattle.mlk_routine_arguments.specs.CommandWords.{is_for, has_arguments, least_after}
@@ -56,8 +57,8 @@ letter_not_bare : (s : List ℕ) → starts is_letter s ≡ true → is_bare_end
 letter_not_bare [] h = cc h
 letter_not_bare (b ∷ s) h = let no : (b == 32) ≡ false = grind (arith, nat_tests) in rw no (grind (arith, nat_tests))
 
-pub command_letter : (returns : Bool) (at : ℕ) (c : CommandTree) (s : List ℕ) → IsCommand returns at c s → starts is_letter s ≡ true
-command_letter returns at (Does column condition action) s (place, may, (front, rest, is, word_is, more)) =
+pub command_letter : (d : Dialect) (returns : Bool) (at : ℕ) (c : CommandTree) (s : List ℕ) → IsCommand d returns at c s → starts is_letter s ≡ true
+command_letter d returns at (Does column condition action) s (place, may, (front, rest, is, word_is, more)) =
     let (w, letters, named, means) = written_means action front word_is in
     ap (starts is_letter) is ∙ front_letter front rest (word_letter front w letters named)
 
@@ -74,13 +75,13 @@ head_letter column at None s is = for_letter s is.1
 head_letter column at (Some control) s (place, (front, rest, is, for_is, more)) = ap (starts is_letter) is ∙ front_letter front rest (for_letter front for_is)
 
 -- Commands are empty, or begin with a letter.
-commands_shape : (level loops at : ℕ) (c : CommandTrees) (s : List ℕ) → AreCommands level loops at c s → ((c ≡ finished) × (s ≡ [])) ⊎ (starts is_letter s ≡ true)
-commands_shape level loops at finished s is = inl (refl, is)
-commands_shape level loops at (then_command first rest) s (text, gap, following, is, one, g, more) = inr (ap (starts is_letter) is ∙ front_letter text (gap ++ following) (command_letter ((level == 1) && (loops == 0)) at first text one))
-commands_shape level loops at (then_for column index control rest) s (text, gap, following, is, one, which, few, g, more) = inr (ap (starts is_letter) is ∙ front_letter text (gap ++ following) (head_letter column at control text one))
+commands_shape : (d : Dialect) (level loops at : ℕ) (c : CommandTrees) (s : List ℕ) → AreCommands d level loops at c s → ((c ≡ finished) × (s ≡ [])) ⊎ (starts is_letter s ≡ true)
+commands_shape d level loops at finished s is = inl (refl, is)
+commands_shape d level loops at (then_command first rest) s (text, gap, following, is, one, g, more) = inr (ap (starts is_letter) is ∙ front_letter text (gap ++ following) (command_letter d ((level == 1) && (loops == 0)) at first text one))
+commands_shape d level loops at (then_for column index control rest) s (text, gap, following, is, one, which, few, g, more) = inr (ap (starts is_letter) is ∙ front_letter text (gap ++ following) (head_letter column at control text one))
 
-commands_letter : (level loops at : ℕ) (c : CommandTrees) (s : List ℕ) → AreCommands level loops at c s → (s ≡ []) ⊎ (starts is_letter s ≡ true)
-commands_letter level loops at c s is = elim (commands_shape level loops at c s is) [ inl none ↦ inl none.1 | inr one ↦ inr one ]
+commands_letter : (d : Dialect) (level loops at : ℕ) (c : CommandTrees) (s : List ℕ) → AreCommands d level loops at c s → (s ≡ []) ⊎ (starts is_letter s ≡ true)
+commands_letter d level loops at c s is = elim (commands_shape d level loops at c s is) [ inl none ↦ inl none.1 | inr one ↦ inr one ]
 
 end_no_space : (rest : List ℕ) → is_commands_end rest ≡ true → starts is_space rest ≡ false
 end_no_space [] h = refl
@@ -124,28 +125,28 @@ stop_gap false (g ∷ []) following rest all (inr one) e =
     cc (sym e ∙ space ∙ letter_no_end (following ++ rest) (front_letter following rest one))
 stop_gap false (g ∷ k ∷ gap) following rest all (inr one) e = inr (omega arith)
 
-module _ (level loops : ℕ) (line : List ℕ) where
+module _ (d : Dialect) (level loops : ℕ) (line : List ℕ) where
   -- spaces, and commands after them
   abbrev pub SpacedCommands : ℕ → CommandTrees → List ℕ → Type 0
-  SpacedCommands n rest r = (gap following : List ℕ) × (r ≡ gap ++ following) × (list_all is_space gap ≡ true) × AreCommands level loops (n + length gap) rest following
+  SpacedCommands n rest r = (gap following : List ℕ) × (r ≡ gap ++ following) × (list_all is_space gap ≡ true) × AreCommands d level loops (n + length gap) rest following
 
-  pub spaced_parts : (at : ℕ) → Parts line at (IsRun is_space) (RunEnds is_space) (λ u. AreCommands level loops) (λ u. CommandsEnd) SpacedCommands CommandsEnd (λ u rest. rest)
+  pub spaced_parts : (at : ℕ) → Parts line at (IsRun is_space) (RunEnds is_space) (λ u. AreCommands d level loops) (λ u. CommandsEnd) SpacedCommands CommandsEnd (λ u rest. rest)
   spaced_parts at = record {
     into = λ u rest s t one two. (s, t, refl, one, two);
     ends = λ u rest k t after is before e. e;
     apart = λ c u rest h (gap, following, is, all, more) e.
-        (tt, c, gap, following, is, refl, all, more, no_space_after following rest (commands_letter level loops (suc at + length gap) c following more) e, e);
+        (tt, c, gap, following, is, refl, all, more, no_space_after following rest (commands_letter d level loops (suc at + length gap) c following more) e, e);
   }
 
   -- the same, with at least as many spaces as are required
   abbrev pub GapThen : Bool → ℕ → CommandTrees → List ℕ → Type 0
-  GapThen b n rest r = (gap following : List ℕ) × (r ≡ gap ++ following) × IsGap (least_after b) gap following × AreCommands level loops (n + length gap) rest following
+  GapThen b n rest r = (gap following : List ℕ) × (r ≡ gap ++ following) × IsGap (least_after b) gap following × AreCommands d level loops (n + length gap) rest following
 
   pub forget : (b : Bool) (n : ℕ) (c : CommandTrees) (r : List ℕ) → GapThen b n c r → SpacedCommands n c r
   forget b n c r (gap, following, is, g, more) = (gap, following, is, g.0, more)
 
   -- if a command ends and these spaces follow, what is read after them is read after the command
-  pub gap_found : (b : Bool) (at m : ℕ) (rest : CommandTrees) (n : ℕ) → at ≤ length line → StopEnds b (drop at line) → Found (IsRun is_space) (RunEnds is_space) line at tt m → Found (AreCommands level loops) CommandsEnd line m rest n → Found (GapThen b) CommandsEnd line at rest n
+  pub gap_found : (b : Bool) (at m : ℕ) (rest : CommandTrees) (n : ℕ) → at ≤ length line → StopEnds b (drop at line) → Found (IsRun is_space) (RunEnds is_space) line at tt m → Found (AreCommands d level loops) CommandsEnd line m rest n → Found (GapThen b) CommandsEnd line at rest n
   gap_found b at m rest n less stop run found = go (both_found (spaced_parts at) less tt rest m n run found)
     where
       go : Found SpacedCommands CommandsEnd line at rest n → Found (GapThen b) CommandsEnd line at rest n
@@ -156,9 +157,9 @@ module _ (level loops : ℕ) (line : List ℕ) where
           spell : (text : List ℕ) → drop at line ≡ text ++ drop n line → SpacedCommands (suc at) rest text → GapThen b (suc at) rest text
           spell text h (gap, following, is, all, more) =
               let whole : drop at line ≡ gap ++ (following ++ drop n line) = h ∙ ap (λ l. l ++ drop n line) is ∙ append_assoc gap following (drop n line) in
-              (gap, following, is, (all, stop_gap b gap following (drop n line) all (commands_letter level loops (suc at + length gap) rest following more) (subst (StopEnds b) whole stop)), more)
+              (gap, following, is, (all, stop_gap b gap following (drop n line) all (commands_letter d level loops (suc at + length gap) rest following more) (subst (StopEnds b) whole stop)), more)
 
-  pub gap_nowhere : (b : Bool) (at m : ℕ) → at ≤ length line → Found (IsRun is_space) (RunEnds is_space) line at tt m → Nowhere (AreCommands level loops) CommandsEnd line m → Nowhere (GapThen b) CommandsEnd line at
+  pub gap_nowhere : (b : Bool) (at m : ℕ) → at ≤ length line → Found (IsRun is_space) (RunEnds is_space) line at tt m → Nowhere (AreCommands d level loops) CommandsEnd line m → Nowhere (GapThen b) CommandsEnd line at
   gap_nowhere b at m less run none c u rest h is e = second_nowhere (spaced_parts at) less tt m run none c u rest h (forget b (suc at) c u is) e
 
 abbrev pub has_own : CommandTree → Bool
@@ -201,14 +202,14 @@ other_letter (b ∷ s) h k =
       | inr none ↦ rw none refl
     ]
 
-module _ (level loops : ℕ) (line : List ℕ) where
+module _ (d : Dialect) (level loops : ℕ) (line : List ℕ) where
   abbrev pub Returns : Bool
   Returns = (level == 1) && (loops == 0)
 
   -- the word of a command here is not FOR's
-  command_word : (at : ℕ) (c : CommandTree) (u rest : List ℕ) → drop at line ≡ u ++ rest → IsCommand Returns (suc at) c u → CommandEnd c rest → is_for (word_at (drop at line)).0 ≡ true → ⊥
+  command_word : (at : ℕ) (c : CommandTree) (u rest : List ℕ) → drop at line ≡ u ++ rest → IsCommand d Returns (suc at) c u → CommandEnd c rest → is_for (word_at (drop at line)).0 ≡ true → ⊥
   command_word at c u rest h is e for_is =
-      let r = (command_parts Returns line at).apart c u rest h is e in
+      let r = (command_parts d Returns line at).apart c u rest h is e in
       let far : drop at line ≡ r.2 ++ (r.3 ++ rest) = h ∙ ap (λ l. l ++ rest) (r.4) ∙ append_assoc (r.2) (r.3) rest in
       let read = word-reads (r.2) (r.3 ++ rest) (r.6).0 (ends_stop (r.0) (r.3 ++ rest) (r.8)) in
       let here : is_for (r.2) ≡ true = sym (ap (λ p. is_for p.0) read) ∙ sym (ap (λ l. is_for (word_at l).0) far) ∙ for_is in
@@ -217,21 +218,21 @@ module _ (level loops : ℕ) (line : List ℕ) where
 
   -- a command, and the commands after it
   pub then_parts : (at : ℕ) → is_commands_end (drop at line) ≡ false → is_for (word_at (drop at line)).0 ≡ false
-      → Parts line at (IsCommand Returns) CommandEnd (λ first. GapThen level loops line (has_own first)) (λ first. CommandsEnd) (AreCommands level loops) CommandsEnd then_command
+      → Parts line at (IsCommand d Returns) CommandEnd (λ first. GapThen d level loops line (has_own first)) (λ first. CommandsEnd) (AreCommands d level loops) CommandsEnd then_command
   then_parts at more_here no_for = record {
     into = λ first rest s t one two. into first rest s t one two;
     ends = λ first rest k t after is before e. e;
     apart = λ c u after h is e. go c u after h is e;
   }
     where
-      into : (first : CommandTree) (rest : CommandTrees) (s t : List ℕ) → IsCommand Returns (suc at) first s → GapThen level loops line (has_own first) (suc at + length s) rest t → AreCommands level loops (suc at) (then_command first rest) (s ++ t)
+      into : (first : CommandTree) (rest : CommandTrees) (s t : List ℕ) → IsCommand d Returns (suc at) first s → GapThen d level loops line (has_own first) (suc at + length s) rest t → AreCommands d level loops (suc at) (then_command first rest) (s ++ t)
       into (Does column condition action) rest s t one (gap, following, is, g, more) = (s, gap, following, ap (λ l. s ++ l) is, one, g, more)
 
-      spaced : (first : CommandTree) (rest : CommandTrees) (k : ℕ) (gap following : List ℕ) → IsGap (least_of first) gap following → AreCommands level loops (k + length gap) rest following → GapThen level loops line (has_own first) k rest (gap ++ following)
+      spaced : (first : CommandTree) (rest : CommandTrees) (k : ℕ) (gap following : List ℕ) → IsGap (least_of first) gap following → AreCommands d level loops (k + length gap) rest following → GapThen d level loops line (has_own first) k rest (gap ++ following)
       spaced (Does column condition action) rest k gap following g more = (gap, following, refl, g, more)
 
-      go : (c : CommandTrees) (u after : List ℕ) → drop at line ≡ u ++ after → AreCommands level loops (suc at) c u → is_commands_end after ≡ true
-          → (first : CommandTree) × (rest : CommandTrees) × (s t : List ℕ) × (u ≡ s ++ t) × (c ≡ then_command first rest) × IsCommand Returns (suc at) first s × GapThen level loops line (has_own first) (suc at + length s) rest t × CommandEnd first (t ++ after) × CommandsEnd rest after
+      go : (c : CommandTrees) (u after : List ℕ) → drop at line ≡ u ++ after → AreCommands d level loops (suc at) c u → is_commands_end after ≡ true
+          → (first : CommandTree) × (rest : CommandTrees) × (s t : List ℕ) × (u ≡ s ++ t) × (c ≡ then_command first rest) × IsCommand d Returns (suc at) first s × GapThen d level loops line (has_own first) (suc at + length s) rest t × CommandEnd first (t ++ after) × CommandsEnd rest after
       go finished u after h is e = cc (sym more_here ∙ ap is_commands_end (h ∙ ap (λ l. l ++ after) is) ∙ e)
       go (then_command first rest) u after h (text, gap, following, is, one, g, more) e =
           (first, rest, text, gap ++ following, is, refl, one, spaced first rest (suc at + length text) gap following g more, command_ended first gap following after g e, e)
@@ -240,30 +241,30 @@ module _ (level loops : ℕ) (line : List ℕ) where
           let here = for_word column (suc at) control text (gap ++ (following ++ after)) head (gap_stop (is_some control) gap following after g e) in
           cc (sym no_for ∙ ap (λ l. is_for (word_at l).0) far ∙ here)
 
-  pub leads_begin : (at : ℕ) → at ≤ length line → LeadsTo level loops line at [] at
+  pub leads_begin : (at : ℕ) → at ≤ length line → LeadsTo d level loops line at [] at
   leads_begin at less = (less, λ rest end f. f, λ none. none)
 
-  module _ (at next : ℕ) (done : List CommandTree) (l : LeadsTo level loops line at done next) (more_here : is_commands_end (drop next line) ≡ false) (no_for : is_for (word_at (drop next line)).0 ≡ false) where
-    pub leads_more : (a : CommandTree) (end m : ℕ) → Found (IsCommand Returns) CommandEnd line next a end → Found (IsRun is_space) (RunEnds is_space) line end tt m → LeadsTo level loops line at (done ++ a ∷ []) m
+  module _ (at next : ℕ) (done : List CommandTree) (l : LeadsTo d level loops line at done next) (more_here : is_commands_end (drop next line) ≡ false) (no_for : is_for (word_at (drop next line)).0 ≡ false) where
+    pub leads_more : (a : CommandTree) (end m : ℕ) → Found (IsCommand d Returns) CommandEnd line next a end → Found (IsRun is_space) (RunEnds is_space) line end tt m → LeadsTo d level loops line at (done ++ a ∷ []) m
     leads_more a end m f run = (
       run.0.within,
       λ rest n g.
-          let after = gap_found level loops line (has_own a) end m rest n f.0.within (own_stop a f.0.ended) run g in
-          subst (λ c. Found (AreCommands level loops) CommandsEnd line at c n) (sym (more_from done a rest)) (l.1 (then_command a rest) n (both_found (then_parts next more_here no_for) (l.0) a rest end n f after)),
-      λ none. l.2 (second_nowhere (then_parts next more_here no_for) (l.0) a end f (gap_nowhere level loops line (has_own a) end m f.0.within run none)),
+          let after = gap_found d level loops line (has_own a) end m rest n f.0.within (own_stop a f.0.ended) run g in
+          subst (λ c. Found (AreCommands d level loops) CommandsEnd line at c n) (sym (more_from done a rest)) (l.1 (then_command a rest) n (both_found (then_parts next more_here no_for) (l.0) a rest end n f after)),
+      λ none. l.2 (second_nowhere (then_parts next more_here no_for) (l.0) a end f (gap_nowhere d level loops line (has_own a) end m f.0.within run none)),
     )
       where
         own_stop : (a : CommandTree) → CommandEnd a (drop end line) → StopEnds (has_own a) (drop end line)
         own_stop (Does column condition action) e = e
 
-    pub leads_denied : (e : Failure Fault) → Denied (IsCommand Returns) CommandEnd line next e → Denied (AreCommands level loops) CommandsEnd line at e
+    pub leads_denied : (e : Failure Fault) → Denied (IsCommand d Returns) CommandEnd line next e → Denied (AreCommands d level loops) CommandsEnd line at e
     leads_denied OutOfMemory h = tt
     leads_denied (Refused fault) h = (l.2 (first_nowhere (then_parts next more_here no_for) (l.0) h.0), h.1)
 
-    pub leads_on : (a : CommandTree) (end m : ℕ) → Found (IsCommand Returns) CommandEnd line next a end → Found (IsRun is_space) (RunEnds is_space) line end tt m → length line - m < length line - next
+    pub leads_on : (a : CommandTree) (end m : ℕ) → Found (IsCommand d Returns) CommandEnd line next a end → Found (IsRun is_space) (RunEnds is_space) line end tt m → length line - m < length line - next
     leads_on a end m f run =
         let place = next_is line f.0.text next end (l.0) f.0.within f.0.joined in
-        let some = some_text f.0.text (command_letter Returns (suc next) a f.0.text f.0.spelled) in
+        let some = some_text f.0.text (command_letter d Returns (suc next) a f.0.text f.0.spelled) in
         let far = not_after (IsRun is_space) (RunEnds is_space) line end tt m run.0 f.0.within in
         let within = run.0.within in
         omega arith
@@ -273,10 +274,10 @@ module _ (level loops : ℕ) (line : List ℕ) where
         some_text (b ∷ s) h = omega arith
 
   -- the end of the commands
-  pub ended_found : (at : ℕ) → at ≤ length line → is_commands_end (drop at line) ≡ true → Found (AreCommands level loops) CommandsEnd line at finished at
+  pub ended_found : (at : ℕ) → at ≤ length line → is_commands_end (drop at line) ≡ true → Found (AreCommands d level loops) CommandsEnd line at finished at
   ended_found at less h =
-      let stands : Stands (AreCommands level loops) CommandsEnd line at finished at = record { text = []; within = less; joined = refl; spelled = refl; ended = h } in
-      (stands, λ c u rest g is e. go c u rest g (commands_shape level loops (suc at) c u is))
+      let stands : Stands (AreCommands d level loops) CommandsEnd line at finished at = record { text = []; within = less; joined = refl; spelled = refl; ended = h } in
+      (stands, λ c u rest g is e. go c u rest g (commands_shape d level loops (suc at) c u is))
     where
       go : (c : CommandTrees) (u rest : List ℕ) → drop at line ≡ u ++ rest → ((c ≡ finished) × (u ≡ [])) ⊎ (starts is_letter u ≡ true) → (c ≡ finished) × (rest ≡ drop at line)
       go c u rest g (inl none) = (none.0, sym (g ∙ ap (λ l. l ++ rest) none.1))
@@ -362,29 +363,29 @@ module _ (loops : ℕ) (line : List ℕ) (at : ℕ) where
   too_many h (Refused fault) is_fault = (λ c u rest g is e. h is.1, is_fault)
 
   pub head_told : suc loops ≤ 255 → at ≤ length line → (m : ℕ) → Found IsForWord ForWordEnds line at tt m → {X : Type 0} (view : X → Option ControlTree) (r : Result (X × ℕ) (Failure Fault))
-      → Told view IsPerhapsControl (λ c. StopEnds (is_some c)) line m r → Told view (IsLoop loops) LoopEnds line at r
+      → ReadsPart view IsPerhapsControl (λ c. StopEnds (is_some c)) line m r → ReadsPart view (IsLoop loops) LoopEnds line at r
   head_told few less m f view (Ok r) t = both_found (head_parts few) less tt (view r.0) m (r.1) f t
   head_told few less m f view (Err e) t = denied_second (head_parts few) less tt m f e t
 
 -- FOR and the commands that it contains
-module _ (level loops : ℕ) (line : List ℕ) (at : ℕ) (here : is_for (word_at (drop at line)).0 ≡ true) where
-  pub loop_parts : Parts line at (IsLoop loops) LoopEnds (λ control. GapThen level (suc loops) line (is_some control)) (λ control. CommandsEnd) (AreCommands level loops) CommandsEnd (λ control rest. then_for (column_at (at + 1)) (suc loops) control rest)
+module _ (d : Dialect) (level loops : ℕ) (line : List ℕ) (at : ℕ) (here : is_for (word_at (drop at line)).0 ≡ true) where
+  pub loop_parts : Parts line at (IsLoop loops) LoopEnds (λ control. GapThen d level (suc loops) line (is_some control)) (λ control. CommandsEnd) (AreCommands d level loops) CommandsEnd (λ control rest. then_for (column_at (at + 1)) (suc loops) control rest)
   loop_parts = record {
     into = λ control rest s t one two. into control rest s t one two;
     ends = λ control rest k t after is before e. e;
     apart = λ c u after h is e. go c u after h is e;
   }
     where
-      into : (control : Option ControlTree) (rest : CommandTrees) (s t : List ℕ) → IsLoop loops (suc at) control s → GapThen level (suc loops) line (is_some control) (suc at + length s) rest t → AreCommands level loops (suc at) (then_for (column_at (at + 1)) (suc loops) control rest) (s ++ t)
+      into : (control : Option ControlTree) (rest : CommandTrees) (s t : List ℕ) → IsLoop loops (suc at) control s → GapThen d level (suc loops) line (is_some control) (suc at + length s) rest t → AreCommands d level loops (suc at) (then_for (column_at (at + 1)) (suc loops) control rest) (s ++ t)
       into control rest s t (head, few) (gap, following, is, g, more) =
           (s, gap, following, ap (λ l. s ++ l) is, subst (λ k. IsForHead k (suc at) control s) (ap column_at (sym (add-one at))) head, refl, few, g, more)
 
-      go : (c : CommandTrees) (u after : List ℕ) → drop at line ≡ u ++ after → AreCommands level loops (suc at) c u → is_commands_end after ≡ true
-          → (control : Option ControlTree) × (rest : CommandTrees) × (s t : List ℕ) × (u ≡ s ++ t) × (c ≡ then_for (column_at (at + 1)) (suc loops) control rest) × IsLoop loops (suc at) control s × GapThen level (suc loops) line (is_some control) (suc at + length s) rest t × LoopEnds control (t ++ after) × CommandsEnd rest after
+      go : (c : CommandTrees) (u after : List ℕ) → drop at line ≡ u ++ after → AreCommands d level loops (suc at) c u → is_commands_end after ≡ true
+          → (control : Option ControlTree) × (rest : CommandTrees) × (s t : List ℕ) × (u ≡ s ++ t) × (c ≡ then_for (column_at (at + 1)) (suc loops) control rest) × IsLoop loops (suc at) control s × GapThen d level (suc loops) line (is_some control) (suc at + length s) rest t × LoopEnds control (t ++ after) × CommandsEnd rest after
       go finished u after h is e = cc (no_word_end after e ∙ sym (ap (λ l. is_for (word_at l).0) (h ∙ ap (λ l. l ++ after) is)) ∙ here)
       go (then_command first rest) u after h (text, gap, following, is, one, g, more) e =
           let whole : drop at line ≡ text ++ ((gap ++ following) ++ after) = h ∙ ap (λ l. l ++ after) is ∙ append_assoc text (gap ++ following) after in
-          absurd (command_word level loops line at first text ((gap ++ following) ++ after) whole one (command_ended first gap following after g e) here)
+          absurd (command_word d level loops line at first text ((gap ++ following) ++ after) whole one (command_ended first gap following after g e) here)
       go (then_for column index control rest) u after h (text, gap, following, is, head, which, few, g, more) e =
           let same : column ≡ column_at (suc at) = head_column column (suc at) control text head in (
             control,
@@ -405,18 +406,18 @@ for_stands rest (inl end) h = cc (sym h ∙ end)
 for_stands rest (inr here) h = here
 
 -- what a FOR says of the whole line
-module _ (level loops : ℕ) (line : List ℕ) (at next : ℕ) (done : List CommandTree) (l : LeadsTo level loops line at done next) (here : is_for (word_at (drop next line)).0 ≡ true) where
-  pub loop_denied : (e : Failure Fault) → Denied (IsLoop loops) LoopEnds line next e → Denied (AreCommands level loops) CommandsEnd line at e
+module _ (d : Dialect) (level loops : ℕ) (line : List ℕ) (at next : ℕ) (done : List CommandTree) (l : LeadsTo d level loops line at done next) (here : is_for (word_at (drop next line)).0 ≡ true) where
+  pub loop_denied : (e : Failure Fault) → Denied (IsLoop loops) LoopEnds line next e → Denied (AreCommands d level loops) CommandsEnd line at e
   loop_denied OutOfMemory h = tt
-  loop_denied (Refused fault) h = (l.2 (first_nowhere (loop_parts level loops line next here) (l.0) h.0), h.1)
+  loop_denied (Refused fault) h = (l.2 (first_nowhere (loop_parts d level loops line next here) (l.0) h.0), h.1)
 
   module _ (control : Option ControlTree) (end m : ℕ) (head : Found (IsLoop loops) LoopEnds line next control end) (run : Found (IsRun is_space) (RunEnds is_space) line end tt m) where
-    pub rest_denied : (e : Failure Fault) → Denied (AreCommands level (suc loops)) CommandsEnd line m e → Denied (AreCommands level loops) CommandsEnd line at e
+    pub rest_denied : (e : Failure Fault) → Denied (AreCommands d level (suc loops)) CommandsEnd line m e → Denied (AreCommands d level loops) CommandsEnd line at e
     rest_denied OutOfMemory h = tt
-    rest_denied (Refused fault) h = (l.2 (second_nowhere (loop_parts level loops line next here) (l.0) control end head (gap_nowhere level (suc loops) line (is_some control) end m head.0.within run h.0)), h.1)
+    rest_denied (Refused fault) h = (l.2 (second_nowhere (loop_parts d level loops line next here) (l.0) control end head (gap_nowhere d level (suc loops) line (is_some control) end m head.0.within run h.0)), h.1)
 
-    pub loop_found : (rest : CommandTrees) (n : ℕ) → Found (AreCommands level (suc loops)) CommandsEnd line m rest n
-        → Found (AreCommands level loops) CommandsEnd line at (commands_from done (then_for (column_at (next + 1)) (suc loops) control rest)) n
+    pub loop_found : (rest : CommandTrees) (n : ℕ) → Found (AreCommands d level (suc loops)) CommandsEnd line m rest n
+        → Found (AreCommands d level loops) CommandsEnd line at (commands_from done (then_for (column_at (next + 1)) (suc loops) control rest)) n
     loop_found rest n f =
         l.1 (then_for (column_at (next + 1)) (suc loops) control rest) n
-        (both_found (loop_parts level loops line next here) (l.0) control rest end n head (gap_found level (suc loops) line (is_some control) end m rest n head.0.within head.0.ended run f))
+        (both_found (loop_parts d level loops line next here) (l.0) control rest end n head (gap_found d level (suc loops) line (is_some control) end m rest n head.0.within head.0.ended run f))

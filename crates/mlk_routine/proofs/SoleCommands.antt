@@ -4,6 +4,7 @@ use Rattle.std.specs.Prelude.{Option, is_some}
 use Rattle.std.proofs.lemmas.Bool.{cases_Bool}
 use Rattle.std.proofs.lemmas.List.{append_cancel_right}
 use Rattle.std.proofs.lemmas.Option.{same_Some}
+use Rattle.mlk_dialect.specs.declared.dialect.Dialect.{Dialect}
 use Rattle.mlk_text.specs.Lexemes.{is_letter, word_at}
 use Rattle.mlk_expr.specs.declared.context.Allows.TheVariants.{Everything}
 use Rattle.mlk_syntax.specs.ExprTrees.{Tree}
@@ -72,22 +73,22 @@ nothing_alone : Alone {A = Unit {0}} (λ k c s. s ≡ []) (λ c. StopEnds false)
 nothing_alone line at less = sole_only tt at (λ c u rest h is e. (refl, sym (h ∙ ap (λ l. l ++ rest) is)))
 
 -- what a command does, by its word
-action_alone : (w : Word) (returns : Bool) → Alone (IsActionOf w returns) ActionEnds
-action_alone word.Do r line at less = sole_turned (opened word.Do (λ e. cc e) r line at) (perhaps_alone IsDo DoEnds do_stop do_begins do_alone line at less)
-action_alone word.Else r line at less = sole_turned (opened word.Else (λ e. cc e) r line at) (nothing_alone line at less)
-action_alone word.Halt r line at less = sole_turned (opened word.Halt (λ e. cc e) r line at) (nothing_alone line at less)
-action_alone word.Hang r line at less = sole_turned (opened word.Hang (λ e. cc e) r line at) (values_alone line at less)
-action_alone word.HaltOrHang r line at less = sole_turned (halting_turned r line at) (perhaps_values line at less)
-action_alone word.If r line at less = sole_turned (opened word.If (λ e. cc e) r line at) (perhaps_values line at less)
-action_alone word.Job r line at less = sole_turned (opened word.Job (λ e. cc e) r line at) (some_alone IsJob JobEnds job_stop job_begins job_alone line at less)
-action_alone word.Kill r line at less = sole_turned (opened word.Kill (λ e. cc e) r line at) (perhaps_alone IsKill KillEnds kill_stop kill_begins kill_alone line at less)
-action_alone word.Lock r line at less = sole_turned (opened word.Lock (λ e. cc e) r line at) (perhaps_alone IsLock LockEnds lock_stop lock_begins lock_alone line at less)
-action_alone word.Merge r line at less = sole_turned (opened word.Merge (λ e. cc e) r line at) (some_alone IsMerge MergeEnds merge_stop merge_begins merge_alone line at less)
-action_alone word.New r line at less = sole_turned (opened word.New (λ e. cc e) r line at) (perhaps_alone IsNew NewEnds new_stop new_begins new_alone line at less)
-action_alone word.Quit r line at less = sole_turned (opened word.Quit (λ e. cc e) r line at) (quit_alone r line at less)
-action_alone word.Read r line at less = sole_turned (opened word.Read (λ e. cc e) r line at) (some_alone IsRead ReadEnds read_stop read_begins read_alone line at less)
-action_alone word.Set r line at less = sole_turned (opened word.Set (λ e. cc e) r line at) (some_alone IsSet SetEnds set_stop set_begins set_alone line at less)
-action_alone word.Write r line at less = sole_turned (opened word.Write (λ e. cc e) r line at) (some_alone IsWrite WriteEnds write_stop write_begins write_alone line at less)
+action_alone : (w : Word) (d : Dialect) (returns : Bool) → Alone (IsActionOf w d returns) ActionEnds
+action_alone word.Do d r line at less = sole_turned (opened word.Do (λ e. cc e) d r line at) (perhaps_alone IsDo DoEnds do_stop do_begins do_alone line at less)
+action_alone word.Else d r line at less = sole_turned (opened word.Else (λ e. cc e) d r line at) (nothing_alone line at less)
+action_alone word.Halt d r line at less = sole_turned (opened word.Halt (λ e. cc e) d r line at) (nothing_alone line at less)
+action_alone word.Hang d r line at less = sole_turned (opened word.Hang (λ e. cc e) d r line at) (values_alone line at less)
+action_alone word.HaltOrHang d r line at less = sole_turned (halting_turned d r line at) (perhaps_values line at less)
+action_alone word.If d r line at less = sole_turned (opened word.If (λ e. cc e) d r line at) (perhaps_values line at less)
+action_alone word.Job d r line at less = sole_turned (opened word.Job (λ e. cc e) d r line at) (some_alone IsJob JobEnds job_stop job_begins job_alone line at less)
+action_alone word.Kill d r line at less = sole_turned (opened word.Kill (λ e. cc e) d r line at) (perhaps_alone IsKill KillEnds kill_stop kill_begins kill_alone line at less)
+action_alone word.Lock d r line at less = sole_turned (opened word.Lock (λ e. cc e) d r line at) (perhaps_alone (IsLock d) LockEnds lock_stop (lock_begins d) (lock_alone d) line at less)
+action_alone word.Merge d r line at less = sole_turned (opened word.Merge (λ e. cc e) d r line at) (some_alone IsMerge MergeEnds merge_stop merge_begins merge_alone line at less)
+action_alone word.New d r line at less = sole_turned (opened word.New (λ e. cc e) d r line at) (perhaps_alone IsNew NewEnds new_stop new_begins new_alone line at less)
+action_alone word.Quit d r line at less = sole_turned (opened word.Quit (λ e. cc e) d r line at) (quit_alone r line at less)
+action_alone word.Read d r line at less = sole_turned (opened word.Read (λ e. cc e) d r line at) (some_alone (IsRead d) ReadEnds read_stop (read_begins d) (read_alone d) line at less)
+action_alone word.Set d r line at less = sole_turned (opened word.Set (λ e. cc e) d r line at) (some_alone IsSet SetEnds set_stop set_begins set_alone line at less)
+action_alone word.Write d r line at less = sole_turned (opened word.Write (λ e. cc e) d r line at) (some_alone IsWrite WriteEnds write_stop write_begins write_alone line at less)
 
 -- words
 same_text : (s t ys zs : List ℕ) → s ++ ys ≡ t ++ zs → ys ≡ zs → s ≡ t
@@ -120,11 +121,11 @@ condition_alone w line at less = elim (cases_Bool (has_condition w)) [
     none bars c u rest h (inr may, is) = cc (sym bars ∙ may)
 
 -- a command
-tail_alone : (w : Word) (returns : Bool) → Alone (IsTail w returns) TailEnds
-tail_alone w returns line at less = sole_both (tail_parts returns line w at) less (condition_alone w line at less) (λ c m s. action_alone w returns line m s.within)
+tail_alone : (w : Word) (d : Dialect) (returns : Bool) → Alone (IsTail w d returns) TailEnds
+tail_alone w d returns line at less = sole_both (tail_parts d returns line w at) less (condition_alone w line at less) (λ c m s. action_alone w d returns line m s.within)
 
-command_alone : (returns : Bool) → Alone (IsCommand returns) CommandEnd
-command_alone returns line at less = sole_both (command_parts returns line at) less (word_alone line at less) (λ w m s. tail_alone w returns line m s.within)
+command_alone : (d : Dialect) (returns : Bool) → Alone (IsCommand d returns) CommandEnd
+command_alone d returns line at less = sole_both (command_parts d returns line at) less (word_alone line at less) (λ w m s. tail_alone w d returns line m s.within)
 
 -- FOR before the commands that it contains
 perhaps_control_alone : Alone IsPerhapsControl (λ c. StopEnds (is_some c))
@@ -142,17 +143,17 @@ some_text : (s : List ℕ) → starts is_letter s ≡ true → 0 < length s
 some_text [] h = cc h
 some_text (b ∷ s) h = omega arith
 
-module _ (level : ℕ) (line : List ℕ) where
+module _ (d : Dialect) (level : ℕ) (line : List ℕ) where
   -- spaces and the commands after them, if these are the only ones
-  gap_sole : (loops : ℕ) (b : Bool) (at : ℕ) → at ≤ length line → ((m : ℕ) → at ≤ m → m ≤ length line → Sole (AreCommands level loops) CommandsEnd line m) → Sole (GapThen level loops line b) CommandsEnd line at
+  gap_sole : (loops : ℕ) (b : Bool) (at : ℕ) → at ≤ length line → ((m : ℕ) → at ≤ m → m ≤ length line → Sole (AreCommands d level loops) CommandsEnd line m) → Sole (GapThen d level loops line b) CommandsEnd line at
   gap_sole loops b at less ih =
-      sole_within (λ c s rest is e. (forget level loops line b (suc at) c s is, e))
-      (sole_both (spaced_parts level loops line at) less (run_alone is_space line at less) (λ u m s. ih m (next_far at m less s.text s.within s.joined) s.within))
+      sole_within (λ c s rest is e. (forget d level loops line b (suc at) c s is, e))
+      (sole_both (spaced_parts d level loops line at) less (run_alone is_space line at less) (λ u m s. ih m (next_far at m less s.text s.within s.joined) s.within))
     where
       next_far : (at m : ℕ) → at ≤ length line → (s : List ℕ) → m ≤ length line → drop at line ≡ s ++ drop m line → at ≤ m
       next_far at m less s within joined = let place = next_is line s at m less within joined in omega (arith, place)
 
-  commands_sole : (f loops at : ℕ) → at ≤ length line → length line - at < f → Sole (AreCommands level loops) CommandsEnd line at
+  commands_sole : (f loops at : ℕ) → at ≤ length line → length line - at < f → Sole (AreCommands d level loops) CommandsEnd line at
   commands_sole zero loops at less few = absurd (omega (arith, few))
   commands_sole (suc f) loops at less few = go (commands_sole f) (cases_Bool (is_commands_end (drop at line))) (cases_Bool (is_for (word_at (drop at line)).0))
     where
@@ -162,15 +163,15 @@ module _ (level : ℕ) (line : List ℕ) where
           let some = some_text s letter in
           omega (arith, place, some)
 
-      go : ((loops m : ℕ) → m ≤ length line → length line - m < f → Sole (AreCommands level loops) CommandsEnd line m)
-          → (is_commands_end (drop at line) ≡ true) ⊎ (is_commands_end (drop at line) ≡ false) → (is_for (word_at (drop at line)).0 ≡ true) ⊎ (is_for (word_at (drop at line)).0 ≡ false) → Sole (AreCommands level loops) CommandsEnd line at
-      go ih (inl end) which = sole_found finished at (ended_found level loops line at less end)
+      go : ((loops m : ℕ) → m ≤ length line → length line - m < f → Sole (AreCommands d level loops) CommandsEnd line m)
+          → (is_commands_end (drop at line) ≡ true) ⊎ (is_commands_end (drop at line) ≡ false) → (is_for (word_at (drop at line)).0 ≡ true) ⊎ (is_for (word_at (drop at line)).0 ≡ false) → Sole (AreCommands d level loops) CommandsEnd line at
+      go ih (inl end) which = sole_found finished at (ended_found d level loops line at less end)
       go ih (inr more) (inl here) =
-          sole_both (loop_parts level loops line at here) less (loop_alone loops line at less)
+          sole_both (loop_parts d level loops line at here) less (loop_alone loops line at less)
           (λ control m s. let far = next_far m s.text s.within s.joined (head_letter _ (suc at) control s.text s.spelled.0) in gap_sole (suc loops) (is_some control) m s.within (λ k high within. ih (suc loops) k within (omega (arith, far, high, few))))
       go ih (inr more) (inr no_for) =
-          sole_both (then_parts level loops line at more no_for) less (command_alone (Returns level loops line) line at less)
-          (λ first m s. let far = next_far m s.text s.within s.joined (command_letter (Returns level loops line) (suc at) first s.text s.spelled) in gap_sole loops (has_own first) m s.within (λ k high within. ih loops k within (omega (arith, far, high, few))))
+          sole_both (then_parts d level loops line at more no_for) less (command_alone d (Returns d level loops line) line at less)
+          (λ first m s. let far = next_far m s.text s.within s.joined (command_letter d (Returns d level loops line) (suc at) first s.text s.spelled) in gap_sole loops (has_own first) m s.within (λ k high within. ih loops k within (omega (arith, far, high, few))))
 
-pub commands_alone : (level loops : ℕ) → Alone (AreCommands level loops) CommandsEnd
-commands_alone level loops line at less = commands_sole level line (suc (length line - at)) loops at less (omega arith)
+pub commands_alone : (d : Dialect) (level loops : ℕ) → Alone (AreCommands d level loops) CommandsEnd
+commands_alone d level loops line at less = commands_sole d level line (suc (length line - at)) loops at less (omega arith)

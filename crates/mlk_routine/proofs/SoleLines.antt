@@ -4,10 +4,11 @@ use Rattle.std.specs.Prelude.{Option, is_some}
 use Rattle.std.specs.List.{prefix_len}
 use Rattle.std.proofs.lemmas.Bool.{cases_Bool}
 use Rattle.std.proofs.lemmas.Bool.Decides.{nat_tests}
+use Rattle.mlk_dialect.specs.declared.dialect.Dialect.{Dialect}
 use Rattle.mlk_expr.specs.Grammar.{IsNameText, IsList, AreNext}
 use Rattle.mlk_routine.specs.declared.front.Front.{Front}
 use Rattle.mlk_syntax.specs.Trees.{HeadTree, RoutineTree, Named_routine}
-use Rattle.mlk_routine_arguments.specs.Told.{Found, first_of, byte_at}
+use Rattle.mlk_routine_arguments.specs.PartsRead.{Found, first_of, byte_at}
 use Rattle.mlk_routine_arguments.specs.Ends.{AnyEnds, RunEnds, IsRun, starts, is_commands_end}
 use Rattle.mlk_routine_arguments.specs.CommandGrammar.{AreEnclosed}
 use Rattle.mlk_routine.specs.RoutineGrammar.{is_blank, IsFormals, ArePeriods, IsLine, AreLines, IsRoutine, heads_of}
@@ -118,38 +119,38 @@ front_sole line = sole_both (front_parts line) (omega arith) (label_sole line) (
 note_alone : Alone IsNote AtEnd
 note_alone line at less a n s b u rest h is e = (refl, e ∙ sym s.ended)
 
-tail_alone : (level : Option ℕ) → Alone (IsTailOf level) AtEnd
-tail_alone None line at less = λ a n s b u rest h is e. (is.0 ∙ sym s.spelled.0, e ∙ sym s.ended)
-tail_alone (Some level) line at less = sole_both (tail_parts level line at) less (commands_alone level 0 line at less) (λ c m s. note_alone line m s.within)
+tail_alone : (d : Dialect) (level : Option ℕ) → Alone (IsTailOf d level) AtEnd
+tail_alone d None line at less = λ a n s b u rest h is e. (is.0 ∙ sym s.spelled.0, e ∙ sym s.ended)
+tail_alone d (Some level) line at less = sole_both (tail_parts d level line at) less (commands_alone d level 0 line at less) (λ c m s. note_alone line m s.within)
 
 -- a line, lines, a routine
-line_once : (n : ℕ) (line : List ℕ) (a b : HeadTree) → IsLine n a line → IsLine n b line → a ≡ b
-line_once n line a b is also = go (line_front line n a is)
+line_once : (d : Dialect) (n : ℕ) (line : List ℕ) (a b : HeadTree) → IsLine d n a line → IsLine d n b line → a ≡ b
+line_once d n line a b is also = go (line_front d line n a is)
   where
     go : (f : Front) × (u tail : List ℕ) × (line ≡ u ++ tail) × IsFront 1 f u × FrontEnds f tail → a ≡ b
     go (f, u, tail, joined, whole, ends) =
         let stands = stands_at IsFront FrontEnds line 0 f u tail (omega arith) joined whole ends in
         let next = 0 + length u in
         let found : Found IsFront FrontEnds line 0 f next = (stands.0, front_sole line f next stands.0) in
-        let one = line_apart line f next found n a is in
-        let two = line_apart line f next found n b also in
-        let rest = stands_at (IsTailOf f.level) AtEnd line next one.0 (drop next line) [] stands.0.within (sym (append-nil (drop next line))) (one.3) refl in
-        let same = tail_alone f.level line next stands.0.within one.0 _ rest.0 two.0 (drop next line) [] (sym (append-nil (drop next line))) (two.3) refl in
+        let one = line_apart d line f next found n a is in
+        let two = line_apart d line f next found n b also in
+        let rest = stands_at (IsTailOf d f.level) AtEnd line next one.0 (drop next line) [] stands.0.within (sym (append-nil (drop next line))) (one.3) refl in
+        let same = tail_alone d f.level line next stands.0.within one.0 _ rest.0 two.0 (drop next line) [] (sym (append-nil (drop next line))) (two.3) refl in
         one.1 ∙ ap (head_tree n line f) (sym same.0) ∙ sym two.1
 
-lines_once : (n : ℕ) (heads others : List HeadTree) (texts : List (List ℕ)) → AreLines n heads texts → AreLines n others texts → heads ≡ others
-lines_once n [] [] texts f g = refl
-lines_once n [] (k ∷ others) texts f (s, rest, is, one, more) = cc (sym f ∙ is)
-lines_once n (h ∷ heads) [] texts (s, rest, is, one, more) g = cc (sym g ∙ is)
-lines_once n (h ∷ heads) (k ∷ others) texts (s, rest, is, one, more) (t, left, also, two, next) =
+lines_once : (d : Dialect) (n : ℕ) (heads others : List HeadTree) (texts : List (List ℕ)) → AreLines d n heads texts → AreLines d n others texts → heads ≡ others
+lines_once d n [] [] texts f g = refl
+lines_once d n [] (k ∷ others) texts f (s, rest, is, one, more) = cc (sym f ∙ is)
+lines_once d n (h ∷ heads) [] texts (s, rest, is, one, more) g = cc (sym g ∙ is)
+lines_once d n (h ∷ heads) (k ∷ others) texts (s, rest, is, one, more) (t, left, also, two, next) =
     let same : s ∷ rest ≡ t ∷ left = sym is ∙ also in
     let text : t ≡ s = cc same in
     let after : left ≡ rest = cc same in
-    ap (λ x. x ∷ heads) (line_once n s h k one (subst (IsLine n k) text two)) ∙ ap (λ l. k ∷ l) (lines_once (suc n) heads others rest more (subst (AreLines (suc n) others) after next))
+    ap (λ x. x ∷ heads) (line_once d n s h k one (subst (IsLine d n k) text two)) ∙ ap (λ l. k ∷ l) (lines_once d (suc n) heads others rest more (subst (AreLines d (suc n) others) after next))
 
-pub routine_once : (stem text : List ℕ) (a b : RoutineTree) → IsRoutine stem a text → IsRoutine stem b text → a ≡ b
-routine_once stem text (Named_routine name lines) (Named_routine other others) f g =
-    let p = routine_parts stem text name lines f in
-    let q = routine_parts stem text other others g in
-    let heads = lines_once 1 (heads_of lines) (heads_of others) (lines_in text) p.4.0 q.4.0 in
+pub routine_once : (d : Dialect) (stem text : List ℕ) (a b : RoutineTree) → IsRoutine d stem a text → IsRoutine d stem b text → a ≡ b
+routine_once d stem text (Named_routine name lines) (Named_routine other others) f g =
+    let p = routine_parts d stem text name lines f in
+    let q = routine_parts d stem text other others g in
+    let heads = lines_once d 1 (heads_of lines) (heads_of others) (lines_in text) p.4.0 q.4.0 in
     ap (λ n. Named_routine n lines) (p.0 ∙ sym q.0) ∙ ap (Named_routine other) (nested_once 1 lines others p.5 q.5 heads)

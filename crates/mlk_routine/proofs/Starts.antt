@@ -6,7 +6,7 @@ use Rattle.std.specs.List.{list_all}
 use Rattle.std.proofs.lemmas.Bool.{cases_Bool, and_parts}
 use Rattle.std.proofs.lemmas.Option.{same_Some}
 use Rattle.mlk_expr.specs.Theorem.{Stands}
-use Rattle.mlk_routine_arguments.specs.Told.{Found, Nowhere, first_of, byte_at}
+use Rattle.mlk_routine_arguments.specs.PartsRead.{Found, Nowhere, first_of, byte_at}
 use Rattle.mlk_routine_arguments.specs.Ends.{IsRun, RunEnds, starts, is_commands_end}
 use Rattle.mlk_routine.specs.RoutineGrammar.{is_blank, AreBlanks, ArePeriods, IsStart}
 use Rattle.mlk_routine.specs.Lines.{is_lead, ArePeriodsHere, PeriodsEnd, IsOpening, OpeningEnds}

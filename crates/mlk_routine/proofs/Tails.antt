@@ -8,11 +8,12 @@ use Rattle.std.proofs.lemmas.Bool.{cases_Bool, and_parts}
 use Rattle.std.proofs.lemmas.Bool.Decides.{nat_tests}
 use Rattle.std.proofs.lemmas.Slice.Eq.{bytes_eq-Decides}
 use Rattle.std.proofs.lemmas.Str.Ascii.{lowercase_is}
+use Rattle.mlk_dialect.specs.declared.dialect.Dialect.{Dialect}
 use Rattle.mlk_text.specs.Lexemes.{is_text_byte, is_text}
 use Rattle.mlk_expr_tokens.specs.Words.{is_either}
 use Rattle.mlk_expr.specs.Theorem.{Stands}
 use Rattle.mlk_syntax.specs.Trees.{ActionTree, Do, Else, Halt, Hang, If, Job, Kill, Lock, Merge, New, Quit, Read, Set, Write, CommandTree, Does, ControlTree, CommandTrees, finished, then_command, then_for}
-use Rattle.mlk_routine_arguments.specs.Told.{Found, Nowhere}
+use Rattle.mlk_routine_arguments.specs.PartsRead.{Found, Nowhere}
 use Rattle.mlk_routine_arguments.specs.Ends.{is_commands_end, CommandsEnd, starts}
 use Rattle.mlk_routine_arguments.specs.CommandWords.{is_word_of, is_for}
 use Rattle.mlk_routine_arguments.specs.CommandGrammar.{IsCommand, IsForHead, AreCommands}
@@ -67,18 +68,18 @@ for_lettered w h = either_lettered (codes "F") (codes "FOR") w 102 _ _ refl refl
 longer : (s w r : List ℕ) → s ≡ w ++ r → Lettered w → Lettered s
 longer s w r is (b, t, first, high) = (b, t ++ r, is ∙ ap (λ l. l ++ r) first, high)
 
-command_lettered : (returns : Bool) (k : ℕ) (c : CommandTree) (s : List ℕ) → IsCommand returns k c s → Lettered s
-command_lettered returns k (Does column condition action) s (place, may, (w, r, is, word, more)) = longer s w r is (word_lettered action w word)
+command_lettered : (d : Dialect) (returns : Bool) (k : ℕ) (c : CommandTree) (s : List ℕ) → IsCommand d returns k c s → Lettered s
+command_lettered d returns k (Does column condition action) s (place, may, (w, r, is, word, more)) = longer s w r is (word_lettered action w word)
 
 head_lettered : (column k : ℕ) (control : Option ControlTree) (s : List ℕ) → IsForHead column k control s → Lettered s
 head_lettered column k None s (place, word) = for_lettered s word
 head_lettered column k (Some control) s (place, (w, r, is, word, more)) = longer s w r is (for_lettered w word)
 
 -- commands are empty, or begin with a letter
-pub commands_lettered : (level loops k : ℕ) (c : CommandTrees) (s : List ℕ) → AreCommands level loops k c s → ((c ≡ finished) × (s ≡ [])) ⊎ Lettered s
-commands_lettered level loops k finished s is = inl (refl, is)
-commands_lettered level loops k (then_command first rest) s (text, gap, following, is, one, spaces, more) = inr (longer s text (gap ++ following) is (command_lettered ((level == 1) && (loops == 0)) k first text one))
-commands_lettered level loops k (then_for column index control rest) s (text, gap, following, is, head, same, few, spaces, more) = inr (longer s text (gap ++ following) is (head_lettered column k control text head))
+pub commands_lettered : (d : Dialect) (level loops k : ℕ) (c : CommandTrees) (s : List ℕ) → AreCommands d level loops k c s → ((c ≡ finished) × (s ≡ [])) ⊎ Lettered s
+commands_lettered d level loops k finished s is = inl (refl, is)
+commands_lettered d level loops k (then_command first rest) s (text, gap, following, is, one, spaces, more) = inr (longer s text (gap ++ following) is (command_lettered d ((level == 1) && (loops == 0)) k first text one))
+commands_lettered d level loops k (then_for column index control rest) s (text, gap, following, is, head, same, few, spaces, more) = inr (longer s text (gap ++ following) is (head_lettered column k control text head))
 
 -- comments
 pub comment_ends : (s : List ℕ) → IsComment s → is_commands_end s ≡ true
@@ -130,8 +131,8 @@ note_found line at less is =
 note_nowhere : (line : List ℕ) (at : ℕ) → (IsComment (drop at line) → ⊥) → Nowhere IsNote AtEnd line at
 note_nowhere line at none c u rest h is e = none (subst IsComment (sym (h ∙ ap (λ l. u ++ l) e ∙ append-nil u)) is)
 
-module _ (level : ℕ) (line : List ℕ) (at : ℕ) where
-  pub tail_parts : Parts line at (AreCommands level 0) CommandsEnd (λ c. IsNote) (λ c. AtEnd) (IsTail level) AtEnd (λ c u. c)
+module _ (d : Dialect) (level : ℕ) (line : List ℕ) (at : ℕ) where
+  pub tail_parts : Parts line at (AreCommands d level 0) CommandsEnd (λ c. IsNote) (λ c. AtEnd) (IsTail d level) AtEnd (λ c u. c)
   tail_parts = record {
     into = λ c u s t one two. (s, t, refl, one, two);
     ends = λ c u k t rest is before after. after;
@@ -139,7 +140,7 @@ module _ (level : ℕ) (line : List ℕ) (at : ℕ) where
   }
 
 -- without a command at its front, a tail is a comment
-module _ (line : List ℕ) (at : ℕ) (end : is_commands_end (drop at line) ≡ true) where
+module _ (d : Dialect) (line : List ℕ) (at : ℕ) (end : is_commands_end (drop at line) ≡ true) where
   no_letter : (s t rest : List ℕ) → drop at line ≡ (s ++ t) ++ rest → Lettered s → ⊥
   no_letter s t rest h (b, more, is, high) =
       let first : drop at line ≡ b ∷ ((more ++ t) ++ rest) = h ∙ ap (λ l. (l ++ t) ++ rest) is in
@@ -147,39 +148,39 @@ module _ (line : List ℕ) (at : ℕ) (end : is_commands_end (drop at line) ≡ 
       let same : b ≡ 59 = grind (arith, nat_tests, byte) in
       omega (arith, same, high)
 
-  comment_alone : (c : CommandTrees) (k : ℕ) (u rest : List ℕ) → drop at line ≡ u ++ rest → IsTail 1 k c u → (c ≡ finished) × IsComment u
-  comment_alone c k u rest h (s, t, is, one, two) = elim (commands_lettered 1 0 k c s one) [
+  comment_alone : (c : CommandTrees) (k : ℕ) (u rest : List ℕ) → drop at line ≡ u ++ rest → IsTail d 1 k c u → (c ≡ finished) × IsComment u
+  comment_alone c k u rest h (s, t, is, one, two) = elim (commands_lettered d 1 0 k c s one) [
     | inl none ↦ (none.0, subst IsComment (sym (is ∙ ap (λ l. l ++ t) none.1)) two)
     | inr letter ↦ absurd (no_letter s t rest (h ∙ ap (λ l. l ++ rest) is) letter)
   ]
 
-  alone_tail : (c : CommandTrees) (k : ℕ) (u : List ℕ) → (c ≡ finished) × IsComment u → IsTail 1 k c u
-  alone_tail c k u is = subst (λ x. IsTail 1 k x u) (sym is.0) ([], u, refl, refl, is.1)
+  alone_tail : (c : CommandTrees) (k : ℕ) (u : List ℕ) → (c ≡ finished) × IsComment u → IsTail d 1 k c u
+  alone_tail c k u is = subst (λ x. IsTail d 1 k x u) (sym is.0) ([], u, refl, refl, is.1)
 
-  alone_found : (c : CommandTrees) → Found (IsTail 1) AtEnd line at c (length line) → Found (IsTailOf None) AtEnd line at c (length line)
+  alone_found : (c : CommandTrees) → Found (IsTail d 1) AtEnd line at c (length line) → Found (IsTailOf d None) AtEnd line at c (length line)
   alone_found c f =
-      let stands : Stands (IsTailOf None) AtEnd line at c (length line) = record { text = f.0.text; within = f.0.within; joined = f.0.joined; spelled = comment_alone c (suc at) f.0.text (drop (length line) line) f.0.joined f.0.spelled; ended = f.0.ended } in
-      (stands, λ d u rest h is e. f.1 d u rest h (alone_tail d (suc at) u is) e)
+      let stands : Stands (IsTailOf d None) AtEnd line at c (length line) = record { text = f.0.text; within = f.0.within; joined = f.0.joined; spelled = comment_alone c (suc at) f.0.text (drop (length line) line) f.0.joined f.0.spelled; ended = f.0.ended } in
+      (stands, λ c u rest h is e. f.1 c u rest h (alone_tail c (suc at) u is) e)
 
-  alone_nowhere : Nowhere (IsTail 1) AtEnd line at → Nowhere (IsTailOf None) AtEnd line at
-  alone_nowhere f d u rest h is e = f d u rest h (alone_tail d (suc at) u is) e
+  alone_nowhere : Nowhere (IsTail d 1) AtEnd line at → Nowhere (IsTailOf d None) AtEnd line at
+  alone_nowhere f c u rest h is e = f c u rest h (alone_tail c (suc at) u is) e
 
-module _ (line : List ℕ) (at : ℕ) (less : at ≤ length line) where
-  pub tail_found : (level : Option ℕ) → OpeningEnds level (drop at line) → (c : CommandTrees) (m : ℕ) → Found (AreCommands (level_in level) 0) CommandsEnd line at c m → IsComment (drop m line) → Found (IsTailOf level) AtEnd line at c (length line)
-  tail_found None end c m f note = alone_found line at end c (both_found (tail_parts 1 line at) less c tt m (length line) f (note_found line m f.0.within note))
-  tail_found (Some level) end c m f note = both_found (tail_parts level line at) less c tt m (length line) f (note_found line m f.0.within note)
+module _ (d : Dialect) (line : List ℕ) (at : ℕ) (less : at ≤ length line) where
+  pub tail_found : (level : Option ℕ) → OpeningEnds level (drop at line) → (c : CommandTrees) (m : ℕ) → Found (AreCommands d (level_in level) 0) CommandsEnd line at c m → IsComment (drop m line) → Found (IsTailOf d level) AtEnd line at c (length line)
+  tail_found None end c m f note = alone_found d line at end c (both_found (tail_parts d 1 line at) less c tt m (length line) f (note_found line m f.0.within note))
+  tail_found (Some level) end c m f note = both_found (tail_parts d level line at) less c tt m (length line) f (note_found line m f.0.within note)
 
-  pub no_comment_tail : (level : Option ℕ) → OpeningEnds level (drop at line) → (c : CommandTrees) (m : ℕ) → Found (AreCommands (level_in level) 0) CommandsEnd line at c m → (IsComment (drop m line) → ⊥) → Nowhere (IsTailOf level) AtEnd line at
-  no_comment_tail None end c m f none = alone_nowhere line at end (second_nowhere (tail_parts 1 line at) less c m f (note_nowhere line m none))
-  no_comment_tail (Some level) end c m f none = second_nowhere (tail_parts level line at) less c m f (note_nowhere line m none)
+  pub no_comment_tail : (level : Option ℕ) → OpeningEnds level (drop at line) → (c : CommandTrees) (m : ℕ) → Found (AreCommands d (level_in level) 0) CommandsEnd line at c m → (IsComment (drop m line) → ⊥) → Nowhere (IsTailOf d level) AtEnd line at
+  no_comment_tail None end c m f none = alone_nowhere d line at end (second_nowhere (tail_parts d 1 line at) less c m f (note_nowhere line m none))
+  no_comment_tail (Some level) end c m f none = second_nowhere (tail_parts d level line at) less c m f (note_nowhere line m none)
 
-  pub no_commands_tail : (level : Option ℕ) → OpeningEnds level (drop at line) → Nowhere (AreCommands (level_in level) 0) CommandsEnd line at → Nowhere (IsTailOf level) AtEnd line at
-  no_commands_tail None end none = alone_nowhere line at end (first_nowhere (tail_parts 1 line at) less none)
-  no_commands_tail (Some level) end none = first_nowhere (tail_parts level line at) less none
+  pub no_commands_tail : (level : Option ℕ) → OpeningEnds level (drop at line) → Nowhere (AreCommands d (level_in level) 0) CommandsEnd line at → Nowhere (IsTailOf d level) AtEnd line at
+  no_commands_tail None end none = alone_nowhere d line at end (first_nowhere (tail_parts d 1 line at) less none)
+  no_commands_tail (Some level) end none = first_nowhere (tail_parts d level line at) less none
 
 -- the first byte of a tail cannot be part of a line's start
-pub tail_no_lead : (level k : ℕ) (c : CommandTrees) (s : List ℕ) → IsTail level k c s → starts is_lead s ≡ false
-tail_no_lead level k c s (front, back, is, one, two) = elim (commands_lettered level 0 k c front one) [
+pub tail_no_lead : (d : Dialect) (level k : ℕ) (c : CommandTrees) (s : List ℕ) → IsTail d level k c s → starts is_lead s ≡ false
+tail_no_lead d level k c s (front, back, is, one, two) = elim (commands_lettered d level 0 k c front one) [
   | inl none ↦ ap (starts is_lead) (is ∙ ap (λ l. l ++ back) none.1) ∙ comment_no_lead back two
   | inr letter ↦ ap (starts is_lead) (is ∙ ap (λ l. l ++ back) (letter.2)) ∙ high_no_lead (letter.0) (letter.3)
 ]

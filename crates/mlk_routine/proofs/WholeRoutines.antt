@@ -4,6 +4,7 @@ use Rattle.std.specs.Prelude.{◌⊎◌, nat_le}
 use Rattle.std.proofs.lemmas.Bool.{cases_Bool}
 use Rattle.std.proofs.lemmas.Bool.Decides.{nat_tests}
 use Rattle.std.specs.Borrow.{Bor}
+use Rattle.mlk_dialect.specs.declared.dialect.Dialect.{Dialect}
 use Rattle.mlk_text.specs.Spellings.{IsName}
 use Rattle.mlk_text.specs.declared.failure.Failure.{Failure}
 use Rattle.mlk_text.specs.declared.failure.Failure.TheVariants.{OutOfMemory, Refused}
@@ -49,48 +50,48 @@ nested_follow : (lines : LineTrees) → AreNested 1 lines → Follow 0 true (hea
 nested_follow lines nested = subst (Follow 0 true) (append-nil (heads_of lines)) (upto_reached 0 (heads_of lines ++ []) (nested_upto 1 lines [] nested tt))
 
 -- no line's level is 0
-body_positive : (level k : ℕ) (c : CommandTrees) (s : List ℕ) → IsBody level k c s → 0 < level
-body_positive level k c s (inl (first, none, comment)) = omega (arith, first)
-body_positive level k c s (inr (periods, start, text, comment, is, same, few, begun, commands, note)) = omega (arith, same)
+body_positive : (d : Dialect) (level k : ℕ) (c : CommandTrees) (s : List ℕ) → IsBody d level k c s → 0 < level
+body_positive d level k c s (inl (first, none, comment)) = omega (arith, first)
+body_positive d level k c s (inr (periods, start, text, comment, is, same, few, begun, commands, note)) = omega (arith, same)
 
-line_positive : (n : ℕ) (h : HeadTree) (s : List ℕ) → IsLine n h s → 0 < level_of h
-line_positive n (LineHead number level end label formals commands) s (front, body, is, count, last, labelled, only, inside) = body_positive level (suc (length front)) commands body inside
+line_positive : (d : Dialect) (n : ℕ) (h : HeadTree) (s : List ℕ) → IsLine d n h s → 0 < level_of h
+line_positive d n (LineHead number level end label formals commands) s (front, body, is, count, last, labelled, only, inside) = body_positive d level (suc (length front)) commands body inside
 
-positive : (n : ℕ) (front : List HeadTree) (h : HeadTree) (more : List HeadTree) (texts : List (List ℕ)) → AreLines n (front ++ h ∷ more) texts → 0 < level_of h
-positive n [] h more texts (s, rest, is, one, others) = line_positive n h s one
-positive n (k ∷ front) h more texts (s, rest, is, one, others) = positive (suc n) front h more rest others
+positive : (d : Dialect) (n : ℕ) (front : List HeadTree) (h : HeadTree) (more : List HeadTree) (texts : List (List ℕ)) → AreLines d n (front ++ h ∷ more) texts → 0 < level_of h
+positive d n [] h more texts (s, rest, is, one, others) = line_positive d n h s one
+positive d n (k ∷ front) h more texts (s, rest, is, one, others) = positive d (suc n) front h more rest others
 
-nothing_left : (n : ℕ) (front rest : List HeadTree) (texts : List (List ℕ)) → AreLines n (front ++ rest) texts → Upto 0 rest → rest ≡ []
-nothing_left n front [] texts lines upto = refl
-nothing_left n front (h ∷ rest) texts lines upto =
-    let high = positive n front h rest texts lines in
+nothing_left : (d : Dialect) (n : ℕ) (front rest : List HeadTree) (texts : List (List ℕ)) → AreLines d n (front ++ rest) texts → Upto 0 rest → rest ≡ []
+nothing_left d n front [] texts lines upto = refl
+nothing_left d n front (h ∷ rest) texts lines upto =
+    let high = positive d n front h rest texts lines in
     let low = upto.0 in
     absurd (omega (arith, high, low))
 
-module _ (stem text : List ℕ) where
+module _ (d : Dialect) (stem text : List ℕ) where
   -- properties of each tree of the text
-  pub routine_parts : (name : List ℕ) (lines : LineTrees) → IsRoutine stem (Named_routine name lines) text
-      → (name ≡ percent stem) × IsName name × (length text ≤ 1048576) × (length (lines_in text) ≤ 65535) × AreHeads (lines_in text) (heads_of lines) × AreNested 1 lines
+  pub routine_parts : (name : List ℕ) (lines : LineTrees) → IsRoutine d stem (Named_routine name lines) text
+      → (name ≡ percent stem) × IsName name × (length text ≤ 1048576) × (length (lines_in text) ≤ 65535) × AreHeads d (lines_in text) (heads_of lines) × AreNested 1 lines
   unfolding IsRoutine
   routine_parts name lines (texts, spelled, is_name, short, cut, few, are_lines, nested, distinct) =
       let same : texts ≡ lines_in text = cut_only texts text cut in
-      (spelled, is_name, short, subst (λ l. length l ≤ 65535) same few, (subst (AreLines 1 (heads_of lines)) same are_lines, subst AllPlain same (cut_plain texts text cut), nested_follow lines nested, distinct), nested)
+      (spelled, is_name, short, subst (λ l. length l ≤ 65535) same few, (subst (AreLines d 1 (heads_of lines)) same are_lines, subst AllPlain same (cut_plain texts text cut), nested_follow lines nested, distinct), nested)
 
-  routine_whole : (name : List ℕ) (lines : LineTrees) → name ≡ percent stem → IsName name → length text ≤ 1048576 → length (lines_in text) ≤ 65535 → AreHeads (lines_in text) (heads_of lines) → AreNested 1 lines → IsRoutine stem (Named_routine name lines) text
+  routine_whole : (name : List ℕ) (lines : LineTrees) → name ≡ percent stem → IsName name → length text ≤ 1048576 → length (lines_in text) ≤ 65535 → AreHeads d (lines_in text) (heads_of lines) → AreNested 1 lines → IsRoutine d stem (Named_routine name lines) text
   unfolding IsRoutine
   routine_whole name lines spelled is_name short few heads nested =
       (lines_in text, spelled, is_name, short, cut_found (length text) text (omega arith) heads.1, few, heads.0, nested, heads.3)
 
-  module _ (name : List ℕ) (spelled : name ≡ percent stem) (is_name : IsName name) (heads : List HeadTree) (are : AreHeadsOnly (lines_in text) heads) (lines : LineTrees) (left : List HeadTree) (block : IsBlock 0 lines heads left) where
+  module _ (name : List ℕ) (spelled : name ≡ percent stem) (is_name : IsName name) (heads : List HeadTree) (are : AreHeadsOnly d (lines_in text) heads) (lines : LineTrees) (left : List HeadTree) (block : IsBlock 0 lines heads left) where
     all_heads : heads ≡ heads_of lines
     all_heads =
-        let none = nothing_left 1 (heads_of lines) left (lines_in text) (subst (λ h. AreLines 1 h (lines_in text)) block.1 are.0.0) block.2 in
+        let none = nothing_left d 1 (heads_of lines) left (lines_in text) (subst (λ h. AreLines d 1 h (lines_in text)) block.1 are.0.0) block.2 in
         block.1 ∙ ap (λ l. heads_of lines ++ l) none ∙ append-nil (heads_of lines)
 
-    pub routine_found : length text ≤ 1048576 → length (lines_in text) ≤ 65535 → IsRoutine stem (Named_routine name lines) text
-    routine_found short few = routine_whole name lines spelled is_name short few (subst (AreHeads (lines_in text)) all_heads are.0) block.0
+    pub routine_found : length text ≤ 1048576 → length (lines_in text) ≤ 65535 → IsRoutine d stem (Named_routine name lines) text
+    routine_found short few = routine_whole name lines spelled is_name short few (subst (AreHeads d (lines_in text)) all_heads are.0) block.0
 
-    pub routine_only : (tree : RoutineTree) → IsRoutine stem tree text → tree ≡ Named_routine name lines
+    pub routine_only : (tree : RoutineTree) → IsRoutine d stem tree text → tree ≡ Named_routine name lines
     routine_only (Named_routine other others) is =
         let p = routine_parts other others is in
         let same_name : other ≡ name = p.0 ∙ sym spelled in
@@ -98,32 +99,32 @@ module _ (stem text : List ℕ) where
         let same_lines : others ≡ lines = nested_once 1 others lines p.5 block.0 same_heads in
         ap (λ n. Named_routine n others) same_name ∙ ap (Named_routine name) same_lines
 
-  pub no_name_routine : (IsName (percent stem) → ⊥) → (e : Failure Fault) → NoRoutine stem text e
+  pub no_name_routine : (IsName (percent stem) → ⊥) → (e : Failure Fault) → NoRoutine d stem text e
   no_name_routine none OutOfMemory = tt
   no_name_routine none (Refused fault) = λ tree is. go tree is
     where
-      go : (tree : RoutineTree) → IsRoutine stem tree text → ⊥
+      go : (tree : RoutineTree) → IsRoutine d stem tree text → ⊥
       go (Named_routine name lines) is = let p = routine_parts name lines is in none (subst IsName p.0 p.1)
 
-  pub long_routine : 1048576 < length text → (e : Failure Fault) → NoRoutine stem text e
+  pub long_routine : 1048576 < length text → (e : Failure Fault) → NoRoutine d stem text e
   long_routine long OutOfMemory = tt
   long_routine long (Refused fault) = λ tree is. go tree is
     where
-      go : (tree : RoutineTree) → IsRoutine stem tree text → ⊥
+      go : (tree : RoutineTree) → IsRoutine d stem tree text → ⊥
       go (Named_routine name lines) is = let p = routine_parts name lines is in let short = p.2 in omega (arith, long, short)
 
-  pub many_routine : 65535 < length (lines_in text) → (e : Failure Fault) → NoRoutine stem text e
+  pub many_routine : 65535 < length (lines_in text) → (e : Failure Fault) → NoRoutine d stem text e
   many_routine many OutOfMemory = tt
   many_routine many (Refused fault) = λ tree is. go tree is
     where
-      go : (tree : RoutineTree) → IsRoutine stem tree text → ⊥
+      go : (tree : RoutineTree) → IsRoutine d stem tree text → ⊥
       go (Named_routine name lines) is = let p = routine_parts name lines is in let few = p.3 in omega (arith, many, few)
 
-  pub no_heads_routine : (e : Failure Fault) → NoHeads (lines_in text) e → NoRoutine stem text e
+  pub no_heads_routine : (e : Failure Fault) → NoHeads d (lines_in text) e → NoRoutine d stem text e
   no_heads_routine OutOfMemory none = tt
   no_heads_routine (Refused fault) none = λ tree is. go tree is
     where
-      go : (tree : RoutineTree) → IsRoutine stem tree text → ⊥
+      go : (tree : RoutineTree) → IsRoutine d stem tree text → ⊥
       go (Named_routine name lines) is = let p = routine_parts name lines is in none (heads_of lines) p.4
 
 pub texts_size : (texts : List (Bor (List ℕ))) → length (texts_of texts) ≡ length texts
@@ -131,5 +132,5 @@ texts_size [] = refl
 texts_size (t ∷ texts) = ap (λ n. suc n) (texts_size texts)
 
 -- the first line begins a block of the first level
-pub first_upto : (texts : List (List ℕ)) (heads : List HeadTree) → AreHeadsOnly texts heads → Upto 1 heads
-first_upto texts heads are = follow_upto 0 true heads are.0.2
+pub first_upto : (d : Dialect) (texts : List (List ℕ)) (heads : List HeadTree) → AreHeadsOnly d texts heads → Upto 1 heads
+first_upto d texts heads are = follow_upto 0 true heads are.0.2

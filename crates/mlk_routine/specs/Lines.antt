@@ -4,6 +4,7 @@ use Rattle.std.specs.Prelude.{ℕ, suc, ◌≡◌, ◌==◌, ◌||◌, Bool, tru
 use Rattle.std.specs.Prelude.{bytes_eq, length, Result, Ok, Err, unwrap_or, ◌⊎◌, ◌≤◌, map, ◌++◌}
 use Rattle.std.specs.List.{list_any, list_all}
 use Rattle.std.specs.Borrow.{Bor}
+use Rattle.mlk_dialect.specs.declared.dialect.Dialect.{Dialect}
 use Rattle.mlk_text.specs.Lexemes.{is_letter, is_digit}
 use Rattle.mlk_expr.specs.Grammar.{IsNameText, IsLabelText}
 use Rattle.mlk_expr.specs.Theorem.{LabelEnds}
@@ -20,10 +21,10 @@ use Rattle.mlk_routine.specs.declared.line.Before.{Before}
 use Rattle.mlk_syntax.specs.declared.routine.Line.{Line}
 use Rattle.mlk_syntax.specs.Views.{line_of}
 use Rattle.mlk_routine.specs.declared.front.Front.{Front}
-use Rattle.mlk_routine_arguments.specs.Told.{Found, Denied}
+use Rattle.mlk_routine_arguments.specs.PartsRead.{Found, Denied}
 use Rattle.mlk_text.specs.Codes.{number_of}
 use Rattle.mlk_text.specs.declared.code.Code.{Code}
-use Rattle.mlk_routine_arguments.specs.Faults.{may_tell, has_word, IsLineFault}
+use Rattle.mlk_routine_arguments.specs.Faults.{is_line_code, has_word, IsLineFault}
 use Rattle.mlk_text.specs.declared.failure.Failure.{Failure}
 use Rattle.mlk_text.specs.declared.failure.Failure.TheVariants.{OutOfMemory, Refused}
 use Rattle.mlk_text.specs.declared.fault.Fault.{Fault}
@@ -94,17 +95,17 @@ abbrev pub AtEnd : {A : Type 0} → A → List ℕ → Type 0
 AtEnd a rest = rest ≡ []
 
 -- the commands and the comment of a line of this level; without a start, a comment only
-abbrev pub IsTail : ℕ → ℕ → CommandTrees → List ℕ → Type 0
-IsTail level at commands s = Both (λ n r. AreCommands level 0 n commands r) (λ n r. IsComment r) at s
+abbrev pub IsTail : Dialect → ℕ → ℕ → CommandTrees → List ℕ → Type 0
+IsTail d level at commands s = Both (λ n r. AreCommands d level 0 n commands r) (λ n r. IsComment r) at s
 
-abbrev pub IsTailOf : Option ℕ → ℕ → CommandTrees → List ℕ → Type 0
-IsTailOf None at commands s = (commands ≡ finished) × IsComment s
-IsTailOf (Some level) at commands s = IsTail level at commands s
+abbrev pub IsTailOf : Dialect → Option ℕ → ℕ → CommandTrees → List ℕ → Type 0
+IsTailOf d None at commands s = (commands ≡ finished) × IsComment s
+IsTailOf d (Some level) at commands s = IsTail d level at commands s
 
 -- the result of reading all the rest of a line
-abbrev pub ToldToEnd : {X A : Type 0} → (X → A) → Spelled A → List ℕ → ℕ → Result X (Failure Fault) → Type 0
-ToldToEnd view Is line at (Ok x) = Found Is AtEnd line at (view x) (length line)
-ToldToEnd view Is line at (Err e) = Denied Is AtEnd line at e
+abbrev pub ReadsToEnd : {X A : Type 0} → (X → A) → Spelled A → List ℕ → ℕ → Result X (Failure Fault) → Type 0
+ReadsToEnd view Is line at (Ok x) = Found Is AtEnd line at (view x) (length line)
+ReadsToEnd view Is line at (Err e) = Denied Is AtEnd line at e
 
 -- a DO without arguments
 abbrev pub is_block : CommandTree → Bool
@@ -143,15 +144,15 @@ FitsAfter before head = Fits before (label_of head) (level_of head)
 -- why a line is not allowed there: the code of a line, without a word
 abbrev pub IsMisplaced : Option Code → Type 0
 IsMisplaced None = Unit {0}
-IsMisplaced (Some code) = (may_tell (number_of code) ≡ true) × (has_word (number_of code) ≡ false)
+IsMisplaced (Some code) = (is_line_code (number_of code) ≡ true) × (has_word (number_of code) ≡ false)
 
 -- the head of a line of the code
 abbrev pub head_of : Line → HeadTree
 head_of l = (line_of l).0
 
 -- a line, and no other
-abbrev pub IsLineOnly : ℕ → List ℕ → HeadTree → Type 0
-IsLineOnly n s head = IsLine n head s × ((other : HeadTree) → IsLine n other s → other ≡ head)
+abbrev pub IsLineOnly : Dialect → ℕ → List ℕ → HeadTree → Type 0
+IsLineOnly d n s head = IsLine d n head s × ((other : HeadTree) → IsLine d n other s → other ≡ head)
 
 -- what is known after one more line
 pub record IsWithLine (old new : Before) (head : HeadTree) : Type 0 where
@@ -161,9 +162,9 @@ pub record IsWithLine (old new : Before) (head : HeadTree) : Type 0 where
   pub reaches : new.reaches ≡ reaches head
 
 -- no line of this text fits here, and the fault is one of this text
-abbrev pub NoLine : Before → ℕ → List ℕ → Failure Fault → Type 0
-NoLine before n s OutOfMemory = Unit {0}
-NoLine before n s (Refused fault) = ((head : HeadTree) → IsLine n head s → list_all is_line_byte s ≡ true
+abbrev pub NoLine : Dialect → Before → ℕ → List ℕ → Failure Fault → Type 0
+NoLine d before n s OutOfMemory = Unit {0}
+NoLine d before n s (Refused fault) = ((head : HeadTree) → IsLine d n head s → list_all is_line_byte s ≡ true
     → FitsAfter before head → ⊥) × IsLineFault s fault
 
 -- consecutive lines after a line of this level
@@ -176,15 +177,15 @@ AllPlain [] = Unit {0}
 AllPlain (s ∷ texts) = (list_all is_line_byte s ≡ true) × AllPlain texts
 
 -- the lines of these texts, as a flat list
-abbrev pub AreHeads : List (List ℕ) → List HeadTree → Type 0
-AreHeads texts heads = AreLines 1 heads texts × AllPlain texts × Follow 0 true heads × AreDistinct (labels_of heads)
+abbrev pub AreHeads : Dialect → List (List ℕ) → List HeadTree → Type 0
+AreHeads d texts heads = AreLines d 1 heads texts × AllPlain texts × Follow 0 true heads × AreDistinct (labels_of heads)
 
-abbrev pub AreHeadsOnly : List (List ℕ) → List HeadTree → Type 0
-AreHeadsOnly texts heads = AreHeads texts heads × ((others : List HeadTree) → AreLines 1 others texts → others ≡ heads)
+abbrev pub AreHeadsOnly : Dialect → List (List ℕ) → List HeadTree → Type 0
+AreHeadsOnly d texts heads = AreHeads d texts heads × ((others : List HeadTree) → AreLines d 1 others texts → others ≡ heads)
 
-abbrev pub NoHeads : List (List ℕ) → Failure Fault → Type 0
-NoHeads texts OutOfMemory = Unit {0}
-NoHeads texts (Refused fault) = (heads : List HeadTree) → AreHeads texts heads → ⊥
+abbrev pub NoHeads : Dialect → List (List ℕ) → Failure Fault → Type 0
+NoHeads d texts OutOfMemory = Unit {0}
+NoHeads d texts (Refused fault) = (heads : List HeadTree) → AreHeads d texts heads → ⊥
 
 -- the texts of a slice
 abbrev pub texts_of : List (Bor (List ℕ)) → List (List ℕ)

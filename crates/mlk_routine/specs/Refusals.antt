@@ -1,6 +1,7 @@
 -- What a refused text is not, with which code it is refused, and where. This project's own.
 use Rattle.std.specs.Prelude.{ℕ, suc, ◌≡◌, ◌<◌, ◌⊎◌, List, ◌∷◌, length, map, drop, None}
 use Rattle.bstr.specs.Text.{lines_of, without_terminator}
+use Rattle.mlk_dialect.specs.declared.dialect.Dialect.{Dialect}
 use Rattle.mlk_text.specs.Spellings.{IsName}
 use Rattle.mlk_text.specs.declared.code.Code.{Code}
 use Rattle.mlk_text.specs.declared.code.Code.TheVariants.{RoutineName, TooLarge}
@@ -13,9 +14,9 @@ use Rattle.mlk_syntax.specs.Trees.{RoutineTree}
 use Rattle.mlk_routine.specs.RoutineGrammar.{percent, IsRoutine}
 
 -- if it is refused, unless memory ran out, it is not a routine
-abbrev pub NoRoutine : List ℕ → List ℕ → Failure Fault → Type 0
-NoRoutine stem text OutOfMemory = Unit {0}
-NoRoutine stem text (Refused fault) = (tree : RoutineTree) → IsRoutine stem tree text → ⊥
+abbrev pub NoRoutine : Dialect → List ℕ → List ℕ → Failure Fault → Type 0
+NoRoutine d stem text OutOfMemory = Unit {0}
+NoRoutine d stem text (Refused fault) = (tree : RoutineTree) → IsRoutine d stem tree text → ⊥
 
 -- A fault with the given code, at the first byte of the routine.
 pub record IsOfWhole (code : Code) (routine : List ℕ) (fault : Fault) : Type 0 where

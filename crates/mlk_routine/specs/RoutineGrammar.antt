@@ -2,6 +2,7 @@
 use Rattle.std.specs.Prelude.{ℕ, zero, suc, ◌≡◌, ◌≢◌, ◌<◌, ◌≤◌, ◌+◌, ◌⊎◌, ◌==◌, ◌||◌, not, Bool, true, List, []}
 use Rattle.std.specs.Prelude.{◌∷◌, ◌++◌, length, if◌then◌else◌, Option, Some, None}
 use Rattle.std.specs.List.{list_all}
+use Rattle.mlk_dialect.specs.declared.dialect.Dialect.{Dialect}
 use Rattle.mlk_text.specs.Lexemes.{is_text}
 use Rattle.mlk_text.specs.Spellings.{IsName, IsLabel}
 use Rattle.mlk_text.specs.Places.{column_at}
@@ -50,22 +51,22 @@ IsComment s = (s ≡ []) ⊎ ((text : List ℕ) × (s ≡ 59 ∷ text) × (is_te
 
 -- What follows the label: a comment or nothing; or a line's start, commands, and a comment or nothing. The level is one more than
 -- the number of periods, at most 15, which is this project's own choice. Standard: line body.
-abbrev pub IsBody : ℕ → ℕ → CommandTrees → List ℕ → Type 0
-IsBody level at commands s = ((level ≡ 1) × (commands ≡ finished) × IsComment s)
+abbrev pub IsBody : Dialect → ℕ → ℕ → CommandTrees → List ℕ → Type 0
+IsBody d level at commands s = ((level ≡ 1) × (commands ≡ finished) × IsComment s)
     ⊎ ((periods : ℕ) × (start text comment : List ℕ) × (s ≡ start ++ (text ++ comment)) × (level ≡ suc periods)
-    × (level ≤ 15) × IsStart periods start × AreCommands level 0 (at + length start) commands text × IsComment comment)
+    × (level ≤ 15) × IsStart periods start × AreCommands d level 0 (at + length start) commands text × IsComment comment)
 
 -- A line with its number. Only lines of level 1 have labels, which is this project's own choice. Standard: line.
-abbrev pub IsLine : ℕ → HeadTree → List ℕ → Type 0
-IsLine n (LineHead number level end label formals commands) s = (front body : List ℕ) × (s ≡ front ++ body)
+abbrev pub IsLine : Dialect → ℕ → HeadTree → List ℕ → Type 0
+IsLine d n (LineHead number level end label formals commands) s = (front body : List ℕ) × (s ≡ front ++ body)
     × (number ≡ n) × (end ≡ column_at (suc (length s))) × IsLabelled label formals front
-    × ((label ≡ None) ⊎ (level ≡ 1)) × IsBody level (suc (length front)) commands body
+    × ((label ≡ None) ⊎ (level ≡ 1)) × IsBody d level (suc (length front)) commands body
 
 -- lines, numbered from n
-abbrev pub AreLines : ℕ → List HeadTree → List (List ℕ) → Type 0
-AreLines n [] texts = texts ≡ []
-AreLines n (head ∷ heads) texts = (s : List ℕ) × (rest : List (List ℕ)) × (texts ≡ s ∷ rest) × IsLine n head s
-    × AreLines (suc n) heads rest
+abbrev pub AreLines : Dialect → ℕ → List HeadTree → List (List ℕ) → Type 0
+AreLines d n [] texts = texts ≡ []
+AreLines d n (head ∷ heads) texts = (s : List ℕ) × (rest : List (List ℕ)) × (texts ≡ s ∷ rest) × IsLine d n head s
+    × AreLines d (suc n) heads rest
 
 -- The end of a line: LF or CR LF; a last line that is not empty may have none. Standard: eol; this project's own choice.
 abbrev pub IsEnd : List ℕ → List ℕ → List ℕ → Type 0
@@ -111,7 +112,7 @@ percent (b ∷ more) = (if b == 95 then 37 else b) ∷ more
 
 -- A routine, by the stem of its file and its text: at most 1 MiB and 65,535 lines, which is this project's own choice. No two
 -- lines have the same label. Standard: routine.
-unfoldable pub IsRoutine : List ℕ → RoutineTree → List ℕ → Type 0
-IsRoutine stem (Named_routine name lines) text = (texts : List (List ℕ)) × (name ≡ percent stem) × IsName name
-    × (length text ≤ 1048576) × AreCut texts text × (length texts ≤ 65535) × AreLines 1 (heads_of lines) texts
+unfoldable pub IsRoutine : Dialect → List ℕ → RoutineTree → List ℕ → Type 0
+IsRoutine d stem (Named_routine name lines) text = (texts : List (List ℕ)) × (name ≡ percent stem) × IsName name
+    × (length text ≤ 1048576) × AreCut texts text × (length texts ≤ 65535) × AreLines d 1 (heads_of lines) texts
     × AreNested 1 lines × AreDistinct (labels_of (heads_of lines))

@@ -1,5 +1,6 @@
 -- Laws of the grammar of routines.
 use Rattle.std.specs.Prelude.{ℕ, ◌≡◌, List}
+use Rattle.mlk_dialect.specs.declared.dialect.Dialect.{Dialect}
 use Rattle.mlk_syntax.specs.Trees.{LineTrees, RoutineTree}
 use Rattle.mlk_routine.specs.RoutineGrammar.{AreCut, heads_of, AreNested, IsRoutine}
 
@@ -11,6 +12,6 @@ OneCut = (lines others : List (List ℕ)) (text : List ℕ) → AreCut lines tex
 abbrev pub OneNesting : Type 0
 OneNesting = (level : ℕ) (a b : LineTrees) → AreNested level a → AreNested level b → heads_of a ≡ heads_of b → a ≡ b
 
--- A text, with the stem of its file, has at most one tree.
+-- In each dialect a text, with the stem of its file, has at most one tree.
 abbrev pub OneTree : Type 0
-OneTree = (stem text : List ℕ) (a b : RoutineTree) → IsRoutine stem a text → IsRoutine stem b text → a ≡ b
+OneTree = (d : Dialect) (stem text : List ℕ) (a b : RoutineTree) → IsRoutine d stem a text → IsRoutine d stem b text → a ≡ b

@@ -2,7 +2,7 @@
 
 ghost use Rattle.std.specs.Prelude.{◌≡◌, ◌≤◌, length};
 ghost use Rattle.std.specs.List.{prefix_len};
-ghost use Rattle.mlk_routine_arguments.specs.Told.{Found};
+ghost use Rattle.mlk_routine_arguments.specs.PartsRead.{Found};
 ghost use Rattle.mlk_routine_arguments.specs.Ends.{IsRun, RunEnds};
 ghost use Rattle.mlk_routine.specs.RoutineGrammar.{is_blank};
 

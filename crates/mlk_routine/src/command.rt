@@ -2,7 +2,7 @@
 
 ghost use Rattle.std.specs.Prelude.{◌≡◌, ◌≤◌, ℕ, List, IfOk, length, option_map, true};
 ghost use Rattle.mlk_syntax.specs.ExprTrees.{tree_of, trees};
-ghost use Rattle.mlk_routine_arguments.specs.Told.{Told};
+ghost use Rattle.mlk_routine_arguments.specs.PartsRead.{ReadsPart};
 ghost use Rattle.mlk_routine_arguments.specs.Faults.{IsFaulty};
 ghost use Rattle.mlk_routine_arguments.specs.Ends.{StopEnds, CommandEnd};
 ghost use Rattle.mlk_syntax.specs.Views.{action_of, command_of};
@@ -10,6 +10,7 @@ ghost use Rattle.mlk_routine_arguments.specs.CommandGrammar.{After, IsValue, IsQ
 ghost use Rattle.mlk_routine_arguments.specs.Kinds.{IsConditionOf, ConditionEnds, IsActionOf, ActionEnds, IsNothing, halting};
 ghost use Rattle.mlk_syntax.specs.Trees.{Quit};
 
+use mlk_dialect::Dialect;
 use mlk_expr::Allows;
 use mlk_routine_arguments::{
     Word, command_word, expr_after, expression, first_argument, has_byte, is_bare, is_command_end,
@@ -19,6 +20,14 @@ use mlk_syntax::{Action, Command, Expr};
 use mlk_text::{Code, Column, Failure, Fault, LeftOut};
 use std::alloc::{AllocError, Global};
 
+/// How a command is read.
+#[derive(Clone, Copy, Drop)]
+pub(crate) struct Manner {
+    pub(crate) dialect: Dialect,
+    /// whether a QUIT may have a value
+    pub(crate) returns: bool,
+}
+
 /// Reads the postconditional, if `word` may have one and there is one: its expression, and the byte after it.
 fn condition(
     alloc: Global,
@@ -27,7 +36,7 @@ fn condition(
     at: usize,
 ) -> Result<(Option<Expr>, usize), Failure<Fault>>
     requires { at ≤ length line.now }
-    ensures { Told (option_map tree_of) (IsConditionOf word) (ConditionEnds word) line.now at result }
+    ensures { ReadsPart (option_map tree_of) (IsConditionOf word) (ConditionEnds word) line.now at result }
 {
     if !word.has_condition() {
         return Ok((None, at));
@@ -50,7 +59,7 @@ fn no_arguments(alloc: Global, line: &[u8], at: usize) -> Result<usize, Failure<
 /// Reads the value of QUIT after one space: its expression, and the byte after it.
 fn returned_value(alloc: Global, line: &[u8], at: usize) -> Result<(Expr, usize), Failure<Fault>>
     requires { at ≤ length line.now }
-    ensures { Told tree_of (λ n t. After 32 (λ k s. IsValue k t s) n) (λ t. StopEnds true) line.now at result }
+    ensures { ReadsPart tree_of (λ n t. After 32 (λ k s. IsValue k t s) n) (λ t. StopEnds true) line.now at result }
 {
     let first = first_argument(alloc, line, at)?;
     let (value, next) = expression(alloc, Allows::Everything, line, first)?;
@@ -109,7 +118,7 @@ fn quit_value(
     at: usize,
 ) -> Result<(Option<Box<Expr>>, usize), Failure<Fault>>
     requires { at ≤ length line.now }
-    ensures { Told (option_map (λ b. tree_of b.value)) (IsQuit returns) (λ t. ActionEnds (Quit t)) line.now at result }
+    ensures { ReadsPart (option_map (λ b. tree_of b.value)) (IsQuit returns) (λ t. ActionEnds (Quit t)) line.now at result }
 {
     if is_bare(line, at) {
         return Ok((None, at));
@@ -145,29 +154,65 @@ macro_rules! turned {
 fn action(
     alloc: Global,
     word: Word,
-    returns: bool,
+    manner: Manner,
     line: &[u8],
     at: usize,
 ) -> Result<(Action, usize), Failure<Fault>>
     requires { at ≤ length line.now }
-    ensures { Told action_of (IsActionOf word returns) ActionEnds line.now at result }
+    ensures { ReadsPart action_of (IsActionOf word manner.dialect manner.returns) ActionEnds line.now at result }
 {
     match word {
-        Word::Do => turned!(optional_arguments(alloc, line, at), Action::Do),
+        Word::Do => turned!(
+            optional_arguments(alloc, manner.dialect, line, at),
+            Action::Do
+        ),
         Word::Else => Ok((Action::Else, no_arguments(alloc, line, at)?)),
         Word::Halt => Ok((Action::Halt, no_arguments(alloc, line, at)?)),
-        Word::Hang => turned!(required_arguments(alloc, line, at), Action::Hang),
-        Word::HaltOrHang => turned!(optional_arguments(alloc, line, at), halt_or_hang),
-        Word::If => turned!(optional_arguments(alloc, line, at), Action::If),
-        Word::Job => turned!(required_arguments(alloc, line, at), Action::Job),
-        Word::Kill => turned!(optional_arguments(alloc, line, at), Action::Kill),
-        Word::Lock => turned!(optional_arguments(alloc, line, at), Action::Lock),
-        Word::Merge => turned!(required_arguments(alloc, line, at), Action::Merge),
-        Word::New => turned!(optional_arguments(alloc, line, at), Action::New),
-        Word::Quit => turned!(quit_value(alloc, returns, line, at), Action::Quit),
-        Word::Read => turned!(required_arguments(alloc, line, at), Action::Read),
-        Word::Set => turned!(required_arguments(alloc, line, at), Action::Set),
-        Word::Write => turned!(required_arguments(alloc, line, at), Action::Write),
+        Word::Hang => turned!(
+            required_arguments(alloc, manner.dialect, line, at),
+            Action::Hang
+        ),
+        Word::HaltOrHang => turned!(
+            optional_arguments(alloc, manner.dialect, line, at),
+            halt_or_hang
+        ),
+        Word::If => turned!(
+            optional_arguments(alloc, manner.dialect, line, at),
+            Action::If
+        ),
+        Word::Job => turned!(
+            required_arguments(alloc, manner.dialect, line, at),
+            Action::Job
+        ),
+        Word::Kill => turned!(
+            optional_arguments(alloc, manner.dialect, line, at),
+            Action::Kill
+        ),
+        Word::Lock => turned!(
+            optional_arguments(alloc, manner.dialect, line, at),
+            Action::Lock
+        ),
+        Word::Merge => turned!(
+            required_arguments(alloc, manner.dialect, line, at),
+            Action::Merge
+        ),
+        Word::New => turned!(
+            optional_arguments(alloc, manner.dialect, line, at),
+            Action::New
+        ),
+        Word::Quit => turned!(quit_value(alloc, manner.returns, line, at), Action::Quit),
+        Word::Read => turned!(
+            required_arguments(alloc, manner.dialect, line, at),
+            Action::Read
+        ),
+        Word::Set => turned!(
+            required_arguments(alloc, manner.dialect, line, at),
+            Action::Set
+        ),
+        Word::Write => turned!(
+            required_arguments(alloc, manner.dialect, line, at),
+            Action::Write
+        ),
     }
 }
 
@@ -183,17 +228,17 @@ fn box_if_some(alloc: Global, condition: Option<Expr>) -> Result<Option<Box<Expr
 /// Reads the command whose word is at `at`: the command, and the byte after it.
 pub(crate) fn command(
     alloc: Global,
-    returns: bool,
+    manner: Manner,
     line: &[u8],
     at: usize,
 ) -> Result<(Command, usize), Failure<Fault>>
     requires { at ≤ length line.now }
-    ensures { Told command_of (IsCommand returns) CommandEnd line.now at result }
+    ensures { ReadsPart command_of (IsCommand manner.dialect manner.returns) CommandEnd line.now at result }
 {
     let (word, next) = command_word(alloc, line, at)?;
     let (condition, next) = condition(alloc, word, line, next)?;
     let condition = box_if_some(alloc, condition)?;
-    let (action, next) = action(alloc, word, returns, line, next)?;
+    let (action, next) = action(alloc, word, manner, line, next)?;
     let column = Column::at(at + 1);
     Ok((
         Command {

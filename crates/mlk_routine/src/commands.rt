@@ -1,16 +1,18 @@
 // The commands of a line.
 
-ghost use Rattle.std.specs.Prelude.{◌≡◌, ◌<◌, ◌≤◌, ◌==◌, ◌&&◌, ℕ, length, vec_len, vec_capacity, drop, option_map, map, is_some, IfOk, OnOk, true};
+ghost use Rattle.std.specs.Prelude.{◌≡◌, ◌<◌, ◌≤◌, ◌==◌, ◌&&◌, ℕ, length, vec_len, vec_capacity};
+ghost use Rattle.std.specs.Prelude.{drop, option_map, map, is_some, IfOk, OnOk, true};
 ghost use Rattle.mlk_text.specs.Lexemes.{word_at};
-ghost use Rattle.mlk_routine_arguments.specs.Told.{Told};
+ghost use Rattle.mlk_routine_arguments.specs.PartsRead.{ReadsPart};
 ghost use Rattle.mlk_routine_arguments.specs.CommandWords.{is_for};
 ghost use Rattle.mlk_routine_arguments.specs.CommandGrammar.{AreCommands};
 ghost use Rattle.mlk_routine_arguments.specs.Ends.{StopEnds, CommandsEnd};
 ghost use Rattle.mlk_syntax.specs.Views.{command_of, control_of, commands_of, commands_from};
 ghost use Rattle.mlk_syntax.specs.Trees.{then_for};
-ghost use Rattle.mlk_routine.specs.Leading.{Leads, LeadsTo, IsPerhapsControl, IsLoop, LoopEnds};
+ghost use Rattle.mlk_routine.specs.Leading.{Leads, LeadsTo, manner_in, IsPerhapsControl, IsLoop, LoopEnds};
 
-use crate::command::command;
+use crate::command::{Manner, command};
+use mlk_dialect::Dialect;
 use mlk_routine_arguments::{
     control, first_argument, is_bare, is_command_end, is_commands_end, is_for, past_spaces,
     refusal_at,
@@ -25,16 +27,20 @@ const MOST_LOOPS: usize = 255;
 /// Where commands are: on a line of `level`, inside `loops` FORs.
 #[derive(Clone, Copy, Drop)]
 pub(crate) struct Inside {
+    pub(crate) dialect: Dialect,
     pub(crate) level: usize,
     pub(crate) loops: usize,
 }
 
 impl Inside {
-    // Whether a QUIT here ends a call, and so may have a value.
-    fn returns(self) -> bool
-        ensures { result ≡ (self.level == 1) && (self.loops == 0) }
+    // How a command here is read. A QUIT may have a value if it ends a call.
+    fn manner(self) -> Manner
+        ensures { result ≡ manner_in self.dialect self.level self.loops }
     {
-        self.level == 1 && self.loops == 0
+        Manner {
+            dialect: self.dialect,
+            returns: self.level == 1 && self.loops == 0,
+        }
     }
 }
 
@@ -85,12 +91,12 @@ fn before_for(
     at: usize,
 ) -> Result<(Vec<Command>, usize), Failure<Fault>>
     requires { at ≤ length line.now }
-    ensures { Leads inside.level inside.loops line.now at result }
+    ensures { Leads inside.dialect inside.level inside.loops line.now at result }
 {
     let mut before = Vec::new(alloc);
     let mut next = at;
     while !is_commands_end(line, next) && !is_for_here(line, next) {
-        let (read, end) = command(alloc, inside.returns(), line, next)?;
+        let (read, end) = command(alloc, inside.manner(), line, next)?;
         next = past_spaces(line, end);
         let Ok(()) = make_room_for(&mut before, is_commands_end(line, next)) else {
             return Err(drop_and_return(read, Failure::OutOfMemory));
@@ -103,17 +109,18 @@ fn before_for(
 // Reads FOR's variable and parameters, if it has any: both, and the byte after them.
 fn optional_control(
     alloc: Global,
+    dialect: Dialect,
     line: &[u8],
     at: usize,
 ) -> Result<(Option<Control>, usize), Failure<Fault>>
     requires { at ≤ length line.now }
-    ensures { Told (option_map control_of) IsPerhapsControl (λ c. StopEnds (is_some c)) line.now at result }
+    ensures { ReadsPart (option_map control_of) IsPerhapsControl (λ c. StopEnds (is_some c)) line.now at result }
 {
     if is_bare(line, at) {
         return Ok((None, at));
     }
     let first = first_argument(alloc, line, at)?;
-    let (read, next) = control(alloc, line, first)?;
+    let (read, next) = control(alloc, dialect, line, first)?;
     if !is_command_end(line, next) {
         return Err(refusal_at(alloc, Code::Spacing, next));
     }
@@ -124,20 +131,21 @@ fn optional_control(
 // after them.
 fn for_head(
     alloc: Global,
+    dialect: Dialect,
     loops: usize,
     line: &[u8],
     at: usize,
 ) -> Result<(Option<Control>, usize), Failure<Fault>>
     requires within { at ≤ length line.now }
     requires here { is_for (word_at (drop at line.now)).0 ≡ true }
-    ensures { Told (option_map control_of) (IsLoop loops) LoopEnds line.now at result }
+    ensures { ReadsPart (option_map control_of) (IsLoop loops) LoopEnds line.now at result }
 {
     if loops >= MOST_LOOPS {
         return Err(refusal_at(alloc, Code::TooLarge, at));
     }
     let (_, bytes) = line.split_at(at);
     let (letters, _) = word_at(bytes);
-    optional_control(alloc, line, at + letters.len())
+    optional_control(alloc, dialect, line, at + letters.len())
 }
 
 // The commands of a line: those before a FOR, and that FOR with the rest of the line.
@@ -173,10 +181,10 @@ fn with_loop(
 ) -> Result<(Commands, usize), Failure<Fault>>
     requires within { at ≤ length line.now }
     requires here { is_for (word_at (drop at line.now)).0 ≡ true }
-    ensures { (begin : ℕ) → LeadsTo inside.level inside.loops line.now begin (map command_of before.items) at
-        → Told commands_of (AreCommands inside.level inside.loops) CommandsEnd line.now begin result }
+    ensures { (begin : ℕ) → LeadsTo inside.dialect inside.level inside.loops line.now begin (map command_of before.items) at
+        → ReadsPart commands_of (AreCommands inside.dialect inside.level inside.loops) CommandsEnd line.now begin result }
 {
-    let (control, end) = for_head(alloc, inside.loops, line, at)?;
+    let (control, end) = for_head(alloc, inside.dialect, inside.loops, line, at)?;
     let inner = Inside {
         loops: inside.loops + 1,
         ..inside
@@ -195,7 +203,7 @@ pub(crate) fn commands(
     at: usize,
 ) -> Result<(Commands, usize), Failure<Fault>>
     requires { at ≤ length line.now }
-    ensures { Told commands_of (AreCommands inside.level inside.loops) CommandsEnd line.now at result }
+    ensures { ReadsPart commands_of (AreCommands inside.dialect inside.level inside.loops) CommandsEnd line.now at result }
 {
     let (before, next) = before_for(alloc, inside, line, at)?;
     if is_commands_end(line, next) {

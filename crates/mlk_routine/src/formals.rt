@@ -3,7 +3,7 @@
 ghost use Rattle.std.specs.Prelude.{◌≡◌, ◌≤◌, ◌||◌, length, ℕ, List, IfOk, Some, bytes_eq};
 ghost use Rattle.mlk_expr.specs.Grammar.{IsNameText};
 ghost use Rattle.mlk_expr.specs.Theorem.{LabelEnds};
-ghost use Rattle.mlk_routine_arguments.specs.Told.{Told, byte_at};
+ghost use Rattle.mlk_routine_arguments.specs.PartsRead.{ReadsPart, byte_at};
 ghost use Rattle.mlk_routine_arguments.specs.Faults.{IsLineFault, IsFaulty};
 ghost use Rattle.mlk_routine_arguments.specs.Ends.{AnyEnds};
 ghost use Rattle.mlk_routine.specs.Lines.{has_name, IsUnseen, IsFormalList};
@@ -29,7 +29,7 @@ fn no_formal(alloc: Global, line: &[u8], at: usize, fault: Fault) -> Failure<Fau
 // Reads a name: the name, and the byte after it.
 fn name(alloc: Global, line: &[u8], at: usize) -> Result<(Name, usize), Failure<Fault>>
     requires { at ≤ length line.now }
-    ensures { Told (λ n. n) IsNameText LabelEnds line.now at result }
+    ensures { ReadsPart (λ n. n) IsNameText LabelEnds line.now at result }
 {
     match read_name(alloc, line, at) {
         Ok(read) => Ok(read),
@@ -46,7 +46,7 @@ fn formal<'a>(
     at: usize,
 ) -> Result<(Name, usize), Failure<Fault>>
     requires { at ≤ length line.now }
-    ensures read { Told (λ n. n) (IsUnseen seen.old.texts.keys) LabelEnds line.now at result }
+    ensures read { ReadsPart (λ n. n) (IsUnseen seen.old.texts.keys) LabelEnds line.now at result }
     ensures seen { IfOk result (λ r. (q : List ℕ)
         → has_name q seen.new.texts.keys ≡ (bytes_eq q r.0 || has_name q seen.old.texts.keys)) }
 {
@@ -67,7 +67,7 @@ pub(crate) fn formals(
 ) -> Result<(List<Name>, usize), Failure<Fault>>
     requires within { at ≤ length line.now }
     requires open { byte_at line.now at ≡ Some 40 }
-    ensures { Told (λ n. n) IsFormalList AnyEnds line.now at result }
+    ensures { ReadsPart (λ n. n) IsFormalList AnyEnds line.now at result }
 {
     let mut names = List::new(alloc);
     if has_byte(line, at + 1, b')') {

@@ -1,7 +1,7 @@
 // The part of a line before its commands.
 
 ghost use Rattle.std.specs.Prelude.{◌≡◌, ◌≤◌, length};
-ghost use Rattle.mlk_routine_arguments.specs.Told.{Told, Found};
+ghost use Rattle.mlk_routine_arguments.specs.PartsRead.{ReadsPart, Found};
 ghost use Rattle.mlk_routine.specs.Lines.{IsLabelPart, LabelPartEnds, IsFormalsPart, FormalsPartEnds};
 ghost use Rattle.mlk_routine.specs.Lines.{IsFront, FrontEnds};
 
@@ -28,7 +28,7 @@ fn optional_formals(
     at: usize,
 ) -> Result<(Option<List<Name>>, usize), Failure<Fault>>
     requires { at ≤ length line.now }
-    ensures { Told (λ f. f) (IsFormalsPart is_labelled) (FormalsPartEnds is_labelled) line.now at result }
+    ensures { ReadsPart (λ f. f) (IsFormalsPart is_labelled) (FormalsPartEnds is_labelled) line.now at result }
 {
     if !is_labelled || !has_byte(line, at, b'(') {
         return Ok((None, at));
@@ -45,7 +45,7 @@ pub(crate) fn before_commands(
     at: usize,
 ) -> Result<(Front, usize), Failure<Fault>>
     requires { Found IsLabelPart LabelPartEnds line.now 0 label at }
-    ensures { Told (λ f. f) IsFront FrontEnds line.now 0 result }
+    ensures { ReadsPart (λ f. f) IsFront FrontEnds line.now 0 result }
 {
     let (formals, next) = optional_formals(alloc, label.is_some(), line, at)?;
     let (level, next) = opening(alloc, line, next)?;

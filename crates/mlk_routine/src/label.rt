@@ -1,7 +1,7 @@
 // The label at the front of a line.
 
 ghost use Rattle.std.specs.Prelude.{◌≡◌};
-ghost use Rattle.mlk_routine_arguments.specs.Told.{Told};
+ghost use Rattle.mlk_routine_arguments.specs.PartsRead.{ReadsPart};
 ghost use Rattle.mlk_routine_arguments.specs.Ends.{starts};
 ghost use Rattle.mlk_routine.specs.Lines.{is_label_byte, IsLabelPart, LabelPartEnds};
 
@@ -23,7 +23,7 @@ fn starts_label(line: &[u8]) -> bool
 
 /// Reads the label at the front of a line, if there is one: the label, and the byte after it.
 pub(crate) fn label(alloc: Global, line: &[u8]) -> Result<(Option<Name>, usize), Failure<Fault>>
-    ensures { Told (λ l. l) IsLabelPart LabelPartEnds line.now 0 result }
+    ensures { ReadsPart (λ l. l) IsLabelPart LabelPartEnds line.now 0 result }
 {
     if !starts_label(line) {
         return Ok((None, 0));

@@ -4,7 +4,7 @@ ghost use Rattle.std.specs.Prelude.{◌≡◌, ◌<◌, ◌≤◌, ◌+◌, ◌|
 ghost use Rattle.std.specs.Prelude.{true, false, Some, None};
 ghost use Rattle.std.specs.Prelude.{IfOk, IfErr, OnOk};
 ghost use Rattle.std.specs.List.{prefix_len, list_all};
-ghost use Rattle.mlk_routine_arguments.specs.Told.{Told};
+ghost use Rattle.mlk_routine_arguments.specs.PartsRead.{ReadsPart};
 ghost use Rattle.mlk_routine.specs.RoutineGrammar.{is_line_byte};
 ghost use Rattle.mlk_routine.specs.Lines.{has_name, is_in, is_labelled, level_in, IsFront, FrontEnds, IsKept, Fits};
 ghost use Rattle.mlk_routine.specs.Lines.{FitsAfter, head_of, IsLineOnly, IsWithLine, NoLine, IsMisplaced};
@@ -15,6 +15,7 @@ use crate::reach::reaches_block;
 use crate::seen::SeenNames;
 use crate::tail::tail;
 use bstr::ByteSlice;
+use mlk_dialect::Dialect;
 use mlk_routine_arguments::refusal_at;
 use mlk_syntax::{Line, Rare};
 use mlk_text::{Code, Column, Failure, Fault, LineNumber, Name, drop_and_return};
@@ -120,7 +121,7 @@ impl<'a> Before<'a> {
 // Reads the part of a line before its commands, and returns the byte after it. A label that an earlier line has is refused
 // before anything else.
 fn front(alloc: Global, before: &Before, text: &[u8]) -> Result<(Front, usize), Failure<Fault>>
-    ensures { Told (λ f. f) IsFront FrontEnds text.now 0 result }
+    ensures { ReadsPart (λ f. f) IsFront FrontEnds text.now 0 result }
 {
     let (label, next) = label(alloc, text)?;
     let is_twice = before.has_label(&label);
@@ -145,15 +146,16 @@ fn line_bytes(text: &[u8]) -> usize
 /// Reads a line, without its block.
 pub(crate) fn line<'a>(
     alloc: Global,
+    dialect: Dialect,
     before: &mut Before<'a>,
     number: LineNumber,
     text: &'a [u8],
 ) -> Result<Line, Failure<Fault>>
-    ensures line { IfOk result (λ l. IsLineOnly number text.now (head_of l)) }
+    ensures line { IfOk result (λ l. IsLineOnly dialect number text.now (head_of l)) }
     ensures plain { OnOk result (list_all is_line_byte text.now ≡ true) }
     ensures fits { IfOk result (λ l. FitsAfter before.old (head_of l)) }
     ensures after { IfOk result (λ l. IsWithLine before.old before.new (head_of l)) }
-    ensures refused { IfErr result (NoLine before.old number text.now) }
+    ensures refused { IfErr result (NoLine dialect before.old number text.now) }
 {
     let (front, start) = front(alloc, before, text)?;
     if let Some(code) = before.misplacement(&front) {
@@ -167,7 +169,7 @@ pub(crate) fn line<'a>(
     } = front;
     let label = Rare::of(alloc, label)?;
     let formals = Rare::of(alloc, formals)?;
-    let commands = tail(alloc, level, text, start)?;
+    let commands = tail(alloc, dialect, level, text, start)?;
     let plain = line_bytes(text);
     if plain < text.len() {
         return Err(drop_and_return(commands, refusal_at(alloc, Code::Byte, plain)));

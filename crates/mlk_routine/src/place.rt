@@ -2,7 +2,7 @@
 
 ghost use Rattle.std.specs.Prelude.{◌≡◌};
 ghost use Rattle.mlk_text.specs.Failures.{IfRefused};
-ghost use Rattle.mlk_routine_arguments.specs.Told.{IsRefusal};
+ghost use Rattle.mlk_routine_arguments.specs.PartsRead.{IsRefusal};
 ghost use Rattle.mlk_routine_arguments.specs.Faults.{IsLineFault, IsFaulty};
 ghost use Rattle.mlk_routine.specs.Refusals.{IsOfWhole};
 

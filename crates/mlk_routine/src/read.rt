@@ -13,6 +13,7 @@ use crate::lines::lines;
 use crate::place::routine_refusal;
 use crate::stem::stem_name;
 use bstr::ByteSlice;
+use mlk_dialect::Dialect;
 use mlk_syntax::Routine;
 use mlk_text::{Code, Failure, Fault};
 use std::alloc::{AllocError, Global};
@@ -28,14 +29,19 @@ fn split_lines(alloc: Global, text: &[u8]) -> Result<Vec<&[u8]>, AllocError>
     text.lines().collect(alloc)
 }
 
-/// Reads the routine of `text`, whose file has the stem `stem`.
-pub fn read_routine(alloc: Global, stem: &[u8], text: &[u8]) -> Result<Routine, Failure<Fault>>
+/// Reads the routine of `text` in `dialect`, whose file has the stem `stem`.
+pub fn read_routine(
+    alloc: Global,
+    dialect: Dialect,
+    stem: &[u8],
+    text: &[u8],
+) -> Result<Routine, Failure<Fault>>
     // The tree that is read is spelled by the stem and the text.
-    ensures found { IfOk result (λ r. IsRoutine stem.now (routine_of r) text.now) }
+    ensures found { IfOk result (λ r. IsRoutine dialect stem.now (routine_of r) text.now) }
     // No other tree is.
-    ensures only { IfOk result (λ r. (tree : RoutineTree) → IsRoutine stem.now tree text.now → tree ≡ routine_of r) }
+    ensures only { IfOk result (λ r. (tree : RoutineTree) → IsRoutine dialect stem.now tree text.now → tree ≡ routine_of r) }
     // If the text is refused, unless memory ran out, it is not a routine.
-    ensures refused { IfErr result (NoRoutine stem.now text.now) }
+    ensures refused { IfErr result (NoRoutine dialect stem.now text.now) }
     // The refusal is of the stem, of a limit of the text, or of a line, with a code and a place that fit.
     ensures place { IfErr result (Places stem.now text.now) }
 {
@@ -49,7 +55,7 @@ pub fn read_routine(alloc: Global, stem: &[u8], text: &[u8]) -> Result<Routine, 
     if texts.len() > MOST_LINES {
         return Err(routine_refusal(alloc, Code::TooLarge, name.as_bytes()));
     }
-    let mut left = lines(alloc, name.as_bytes(), &texts)?;
+    let mut left = lines(alloc, dialect, name.as_bytes(), &texts)?;
     let lines = block(alloc, 0, &mut left)?;
     Ok(Routine { name, lines })
 }

@@ -1,7 +1,7 @@
 // The start of a line: blanks, and periods with blanks after each.
 
 ghost use Rattle.std.specs.Prelude.{◌≡◌, ◌≤◌, length, drop, false};
-ghost use Rattle.mlk_routine_arguments.specs.Told.{Told, Found};
+ghost use Rattle.mlk_routine_arguments.specs.PartsRead.{ReadsPart, Found};
 ghost use Rattle.mlk_routine_arguments.specs.Ends.{starts};
 ghost use Rattle.mlk_routine.specs.RoutineGrammar.{is_blank};
 ghost use Rattle.mlk_routine.specs.Lines.{ArePeriodsHere, PeriodsEnd, IsOpening, OpeningEnds};
@@ -35,7 +35,7 @@ pub(crate) fn opening(
     at: usize,
 ) -> Result<(Option<usize>, usize), Failure<Fault>>
     requires { at ≤ length line.now }
-    ensures { Told (λ o. o) IsOpening OpeningEnds line.now at result }
+    ensures { ReadsPart (λ o. o) IsOpening OpeningEnds line.now at result }
 {
     let next = past_blanks(line, at);
     if next > at {

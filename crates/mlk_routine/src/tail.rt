@@ -5,9 +5,10 @@ ghost use Rattle.mlk_routine_arguments.specs.Faults.{IsFaulty};
 ghost use Rattle.mlk_routine_arguments.specs.Ends.{is_commands_end};
 ghost use Rattle.mlk_routine.specs.RoutineGrammar.{IsComment};
 ghost use Rattle.mlk_syntax.specs.Views.{commands_of};
-ghost use Rattle.mlk_routine.specs.Lines.{OpeningEnds, IsTailOf, ToldToEnd};
+ghost use Rattle.mlk_routine.specs.Lines.{OpeningEnds, IsTailOf, ReadsToEnd};
 
 use crate::commands::{Inside, commands};
+use mlk_dialect::Dialect;
 use mlk_routine_arguments::{refusal_at, text_bytes};
 use mlk_syntax::Commands;
 use mlk_text::{Code, Failure, Fault};
@@ -32,15 +33,17 @@ fn comment(alloc: Global, line: &[u8], at: usize) -> Result<(), Failure<Fault>>
 /// Reads the commands of a line of `level` from `at` on, and its comment.
 pub(crate) fn tail(
     alloc: Global,
+    dialect: Dialect,
     level: Option<usize>,
     line: &[u8],
     at: usize,
 ) -> Result<Commands, Failure<Fault>>
     requires within { at ≤ length line.now }
     requires begun { OpeningEnds level (drop at line.now) }
-    ensures { ToldToEnd commands_of (IsTailOf level) line.now at result }
+    ensures { ReadsToEnd commands_of (IsTailOf dialect level) line.now at result }
 {
     let inside = Inside {
+        dialect,
         level: level.unwrap_or(1),
         loops: 0,
     };

@@ -15,7 +15,7 @@ use Rattle.mlk_expr.specs.Grammar.{Spelled, IsExprWhere}
 use Rattle.mlk_expr.specs.Theorem.{Stands, ExprEnds, label_ends, callee_ends}
 use Rattle.mlk_expr.proofs.Contexts.{given-anything}
 use Rattle.mlk_syntax.specs.Trees.{CallTree, Called, DoTree, DoCall}
-use Rattle.mlk_routine_arguments.specs.Told.{Found, Nowhere, Denied, first_of, byte_at}
+use Rattle.mlk_routine_arguments.specs.PartsRead.{Found, Nowhere, Denied, first_of, byte_at}
 use Rattle.mlk_routine_arguments.specs.Ends.{Lacks, CallEnds, DoEnds}
 use Rattle.mlk_routine_arguments.specs.CommandGrammar.{IsCall, IsDo, before_condition}
 use Rattle.mlk_routine_arguments.proofs.Sequences.{Parts}

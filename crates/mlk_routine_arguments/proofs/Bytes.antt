@@ -8,7 +8,7 @@ use Rattle.mlk_expr.specs.Theorem.{Stands, ExprEnds}
 use Rattle.mlk_text.specs.declared.failure.Failure.{Failure}
 use Rattle.mlk_text.specs.declared.failure.Failure.TheVariants.{OutOfMemory, Refused}
 use Rattle.mlk_text.specs.declared.fault.Fault.{Fault}
-use Rattle.mlk_routine_arguments.specs.Told.{Found, Nowhere, Denied, first_of, byte_at}
+use Rattle.mlk_routine_arguments.specs.PartsRead.{Found, Nowhere, Denied, first_of, byte_at}
 use Rattle.mlk_routine_arguments.specs.Ends.{AfterEnds}
 use Rattle.mlk_routine_arguments.specs.CommandGrammar.{After, IsAfter}
 use Rattle.mlk_routine_arguments.proofs.Sequences.{Turned, turned_found, turned_nowhere}

@@ -12,7 +12,7 @@ use Rattle.mlk_syntax.specs.ExprTrees.{ActualTree}
 use Rattle.mlk_expr.specs.Grammar.{IsActualList, IsActualListWhere, IsCalleeText}
 use Rattle.mlk_expr.specs.Theorem.{Stands, label_ends, callee_ends}
 use Rattle.mlk_syntax.specs.Trees.{CallTree, Called}
-use Rattle.mlk_routine_arguments.specs.Told.{Found, first_of, byte_at}
+use Rattle.mlk_routine_arguments.specs.PartsRead.{Found, first_of, byte_at}
 use Rattle.mlk_routine_arguments.specs.Ends.{GivenEnds, CalledEnds, CallEnds}
 use Rattle.mlk_routine_arguments.specs.CommandGrammar.{IsGiven, IsCall}
 use Rattle.mlk_routine_arguments.proofs.Sequences.{Parts}

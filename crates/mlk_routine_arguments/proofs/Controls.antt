@@ -5,7 +5,7 @@ use Rattle.std.proofs.lemmas.Option.{same_Some}
 use Rattle.mlk_expr.specs.Grammar.{IsList, IsNameText}
 use Rattle.mlk_expr.specs.Theorem.{LabelEnds}
 use Rattle.mlk_syntax.specs.Trees.{ParameterTree, ControlTree, Runs}
-use Rattle.mlk_routine_arguments.specs.Told.{byte_at}
+use Rattle.mlk_routine_arguments.specs.PartsRead.{byte_at}
 use Rattle.mlk_routine_arguments.specs.Ends.{AreEnded, ParameterEnds, ControlEnds}
 use Rattle.mlk_routine_arguments.specs.Stops.{name_equals}
 use Rattle.mlk_routine_arguments.specs.CommandGrammar.{IsParameter, IsControl}

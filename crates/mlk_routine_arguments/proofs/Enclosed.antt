@@ -3,7 +3,7 @@ use Rattle.std.proofs.Common.{◌≡◌, ◌+◌, ℕ, List, [], ◌∷◌, ◌+
 use Rattle.std.proofs.lemmas.Option.{same_Some}
 use Rattle.mlk_expr.specs.Grammar.{Spelled, IsList}
 use Rattle.mlk_expr.specs.Theorem.{Stands}
-use Rattle.mlk_routine_arguments.specs.Told.{Found, Nowhere, Denied, first_of, byte_at}
+use Rattle.mlk_routine_arguments.specs.PartsRead.{Found, Nowhere, Denied, first_of, byte_at}
 use Rattle.mlk_routine_arguments.specs.Ends.{is_stop, MoreEnds, AreEnded, AnyEnds}
 use Rattle.mlk_routine_arguments.specs.CommandGrammar.{AreEnclosed}
 use Rattle.mlk_routine_arguments.proofs.Sequences.{Parts, Turned, both_found, second_nowhere, denied_first, turned_found, turned_nowhere}

@@ -14,7 +14,7 @@ use Rattle.mlk_expr.specs.Theorem.{ExprEnds}
 use Rattle.mlk_expr.proofs.JoinedParts.{opens}
 use Rattle.mlk_expr.proofs.JoinedOperands.{nested-opens}
 use Rattle.mlk_syntax.specs.Trees.{WriteTree, WriteValue, WriteCharacter, WriteFormat}
-use Rattle.mlk_routine_arguments.specs.Told.{Told, first_of, byte_at}
+use Rattle.mlk_routine_arguments.specs.PartsRead.{ReadsPart, first_of, byte_at}
 use Rattle.mlk_routine_arguments.specs.Ends.{IsRun, RunEnds, AfterEnds, starts, starts_format, FormatEnds, WriteEnds}
 use Rattle.mlk_routine_arguments.specs.CommandGrammar.{Both, IsValue, IsAfter, is_mark, IsFormat, IsWrite}
 use Rattle.mlk_routine_arguments.proofs.Sequences.{Parts, Turned, narrow_told}
@@ -88,7 +88,7 @@ module _ (line : List ℕ) (at : ℕ) (begins : starts_format (drop at line) ≡
       some (b ∷ s) h = omega arith
   narrow (Some t) s rest h is e = is
 
-  pub format_told : {X : Type 0} (r : Result (X × ℕ) (Failure Fault)) (view : X → Option Tree) → Told view IsMarked FormatEnds line at r → Told view IsFormat FormatEnds line at r
+  pub format_told : {X : Type 0} (r : Result (X × ℕ) (Failure Fault)) (view : X → Option Tree) → ReadsPart view IsMarked FormatEnds line at r → ReadsPart view IsFormat FormatEnds line at r
   format_told r view h = narrow_told IsMarked IsFormat FormatEnds line at wide narrow r view h
 
 -- what an expression does not begin with

@@ -2,7 +2,7 @@
 use Rattle.std.proofs.Common.{◌≡◌, ◌<◌, ◌≤◌, ◌+◌, ◌-◌, ℕ, suc, List, [], ◌∷◌, ◌++◌, length, drop, Some, true, refl, sym, ap, ◌∙◌, arith, subst, append_assoc, append-nil}
 use Rattle.mlk_expr.specs.Grammar.{Spelled, AreNext, IsList}
 use Rattle.mlk_expr.specs.Theorem.{Stands, Only}
-use Rattle.mlk_routine_arguments.specs.Told.{Found, Nowhere, first_of, byte_at}
+use Rattle.mlk_routine_arguments.specs.PartsRead.{Found, Nowhere, first_of, byte_at}
 use Rattle.mlk_routine_arguments.specs.Ends.{is_stop, MoreEnds, AreEnded}
 use Rattle.mlk_routine_arguments.proofs.Sequences.{Parts, both_found, first_nowhere, second_nowhere, not_after}
 use Rattle.mlk_routine_arguments.proofs.Bytes.{AfterByte, after_found, after_nowhere, byte_before}

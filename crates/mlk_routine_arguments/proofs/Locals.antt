@@ -14,7 +14,7 @@ use Rattle.mlk_expr.specs.Grammar.{IsPlain, IsPattern, IsAtom, IsReference}
 use Rattle.mlk_expr.proofs.JoinedOperands.{canonical-number}
 use Rattle.mlk_expr.proofs.Joined.{number-first, sign-first}
 use Rattle.mlk_syntax.specs.Trees.{VariableTree, Named}
-use Rattle.mlk_routine_arguments.specs.Told.{Told, Nowhere, first_of, byte_at}
+use Rattle.mlk_routine_arguments.specs.PartsRead.{ReadsPart, Nowhere, first_of, byte_at}
 use Rattle.mlk_routine_arguments.specs.Ends.{VariableEnds}
 use Rattle.mlk_routine_arguments.specs.CommandGrammar.{IsVariable, IsLocal, is_local_name}
 use Rattle.mlk_routine_arguments.proofs.Sequences.{narrow_told}
@@ -66,7 +66,7 @@ module _ (line : List ℕ) (at : ℕ) where
   pub no_local : byte_at line at ≡ Some 94 → Nowhere IsLocal VariableEnds line at
   no_local here (Named column name) u rest h is e = local_lacks (suc at) name u rest is.1 is.0.1.0 (sym (ap first_of h) ∙ here)
 
-  pub local_told : (byte_at line at ≡ Some 94 → ⊥) → {X : Type 0} (r : Result (X × ℕ) (Failure Fault)) (view : X → VariableTree) → Told view (IsVariable Everything) VariableEnds line at r → Told view IsLocal VariableEnds line at r
+  pub local_told : (byte_at line at ≡ Some 94 → ⊥) → {X : Type 0} (r : Result (X × ℕ) (Failure Fault)) (view : X → VariableTree) → ReadsPart view (IsVariable Everything) VariableEnds line at r → ReadsPart view IsLocal VariableEnds line at r
   local_told missing r view h = narrow_told (IsVariable Everything) IsLocal VariableEnds line at wide narrow r view h
     where
       wide : (v : VariableTree) (s : List ℕ) → IsLocal (suc at) v s → IsVariable Everything (suc at) v s

@@ -7,7 +7,7 @@ use Rattle.mlk_expr.specs.declared.context.Allows.TheVariants.{Everything, NoCal
 use Rattle.mlk_expr_tokens.specs.Lexemes.{starts_reference}
 use Rattle.mlk_expr.specs.Grammar.{IsNameText}
 use Rattle.mlk_syntax.specs.Trees.{VariableTree, KillTree, KillOne, KillAllBut, MergeTree, MergeInto, NewTree, NewOne, NewAllBut}
-use Rattle.mlk_routine_arguments.specs.Told.{Nowhere, first_of, byte_at}
+use Rattle.mlk_routine_arguments.specs.PartsRead.{Nowhere, first_of, byte_at}
 use Rattle.mlk_routine_arguments.specs.Ends.{VariableEnds, KillEnds, MergeEnds, NewEnds, AnyEnds}
 use Rattle.mlk_routine_arguments.specs.CommandGrammar.{IsVariable, AreEnclosed, IsKill, IsMerge, IsNew}
 use Rattle.mlk_routine_arguments.proofs.Sequences.{Parts, Turned}

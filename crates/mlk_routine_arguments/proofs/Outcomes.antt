@@ -4,7 +4,7 @@ use Rattle.mlk_text.specs.declared.failure.Failure.{Failure}
 use Rattle.mlk_text.specs.declared.failure.Failure.TheVariants.{OutOfMemory, Refused}
 use Rattle.mlk_text.specs.declared.fault.Fault.{Fault}
 use Rattle.mlk_expr.specs.Grammar.{Spelled}
-use Rattle.mlk_routine_arguments.specs.Told.{Denied, Nowhere}
+use Rattle.mlk_routine_arguments.specs.PartsRead.{Denied, Nowhere}
 use Rattle.mlk_routine_arguments.specs.Faults.{IsFaulty}
 
 -- a missing part is a missing whole

@@ -6,7 +6,7 @@ use Rattle.mlk_expr_tokens.specs.Lexemes.{ends}
 use Rattle.mlk_syntax.specs.ExprTrees.{Tree}
 use Rattle.mlk_expr.specs.Theorem.{Stands, ExprEnds}
 use Rattle.mlk_syntax.specs.Trees.{ParameterTree, Once, Endless, Limited}
-use Rattle.mlk_routine_arguments.specs.Told.{Found, byte_at}
+use Rattle.mlk_routine_arguments.specs.PartsRead.{Found, byte_at}
 use Rattle.mlk_routine_arguments.specs.Ends.{Lacks, AfterEnds, ParameterEnds}
 use Rattle.mlk_routine_arguments.specs.CommandGrammar.{Both, IsValue, IsAfter, IsParameter}
 use Rattle.mlk_routine_arguments.proofs.Sequences.{Parts}

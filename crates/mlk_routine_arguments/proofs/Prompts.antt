@@ -8,8 +8,8 @@ use Rattle.mlk_text.proofs.Lexemes.{quoted-sound, quoted-complete}
 use Rattle.mlk_text.proofs.Readers.{pair_parts}
 use Rattle.mlk_expr.specs.Theorem.{Stands}
 use Rattle.mlk_expr.proofs.JoinedParts.{quoted-after}
-use Rattle.mlk_routine_arguments.specs.Told as told
-use Rattle.mlk_routine_arguments.specs.Told.{Found, Nowhere}
+use Rattle.mlk_routine_arguments.specs.PartsRead as parts_read
+use Rattle.mlk_routine_arguments.specs.PartsRead.{Found, Nowhere}
 use Rattle.mlk_routine_arguments.specs.Ends.{Lacks, IsPrompt, PromptEnds}
 use Rattle.mlk_routine_arguments.proofs.Sequences.{stands_at}
 use Rattle.mlk_routine_arguments.proofs.Bytes.{byte_there, byte_before}
@@ -25,7 +25,7 @@ no_quote (b ∷ ys) lacks = elim (cases_Bool (b == 34)) [
   | inr e ↦ rw e refl
 ]
 
-module _ (line : List ℕ) (at : ℕ) (here : told.byte_at line at ≡ Some 34) where
+module _ (line : List ℕ) (at : ℕ) (here : parts_read.byte_at line at ≡ Some 34) where
   there : drop at line ≡ 34 ∷ drop (at + 1) line
   there = byte_there line at 34 here ∙ ap (λ k. 34 ∷ drop k line) (sym (add-one at))
 

@@ -7,7 +7,7 @@ use Rattle.mlk_expr.specs.Theorem.{Stands}
 use Rattle.mlk_text.specs.declared.failure.Failure.{Failure}
 use Rattle.mlk_text.specs.declared.failure.Failure.TheVariants.{OutOfMemory, Refused}
 use Rattle.mlk_text.specs.declared.fault.Fault.{Fault}
-use Rattle.mlk_routine_arguments.specs.Told.{Found, Nowhere, Denied, Told}
+use Rattle.mlk_routine_arguments.specs.PartsRead.{Found, Nowhere, Denied, ReadsPart}
 
 -- where a text ends
 pub next_is : (line text : List ℕ) (at m : ℕ) → at ≤ length line → m ≤ length line → drop at line ≡ text ++ drop m line → m ≡ at + length text
@@ -69,7 +69,7 @@ module _ {A B C : Type 0} {line : List ℕ} {at : ℕ} {IsA : Spelled A} {EndsA 
   denied_second a m f (Refused fault) h = (second_nowhere a m f h.0, h.1)
 
   -- what a result says of the second part it says of the whole
-  pub both_told : {X : Type 0} (a : A) (m : ℕ) → Found IsA EndsA line at a m → (r : Result (X × ℕ) (Failure Fault)) (view : X → B) → Told view (IsB a) (EndsB a) line m r → Told (λ x. make a (view x)) IsC EndsC line at r
+  pub both_told : {X : Type 0} (a : A) (m : ℕ) → Found IsA EndsA line at a m → (r : Result (X × ℕ) (Failure Fault)) (view : X → B) → ReadsPart view (IsB a) (EndsB a) line m r → ReadsPart (λ x. make a (view x)) IsC EndsC line at r
   both_told a m f (Ok r) view h = both_found a (view r.0) m r.1 f h
   both_told a m f (Err e) view h = denied_second a m f e h
 
@@ -101,14 +101,14 @@ module _ {A C : Type 0} {line : List ℕ} {at : ℕ} {IsA : Spelled A} {EndsA : 
   turned_denied (Refused fault) h = (turned_nowhere h.0, h.1)
 
   -- what a result says of the part it says of the whole
-  pub turned_told : {X : Type 0} (r : Result (X × ℕ) (Failure Fault)) (view : X → A) → Told view IsA EndsA line at r → Told (λ x. make (view x)) IsC EndsC line at r
+  pub turned_told : {X : Type 0} (r : Result (X × ℕ) (Failure Fault)) (view : X → A) → ReadsPart view IsA EndsA line at r → ReadsPart (λ x. make (view x)) IsC EndsC line at r
   turned_told (Ok r) view h = turned_found (view r.0) r.1 h
   turned_told (Err e) view h = turned_denied e h
 
 -- If things of one kind at a place are exactly those of another kind there, a result for one kind is one for the other.
 module _ {A : Type 0} (IsA IsC : Spelled A) (Ends : A → List ℕ → Type 0) (line : List ℕ) (at : ℕ) (wide : (a : A) (s : List ℕ) → IsC (suc at) a s → IsA (suc at) a s)
     (narrow : (a : A) (s rest : List ℕ) → drop at line ≡ s ++ rest → IsA (suc at) a s → Ends a rest → IsC (suc at) a s) where
-  pub narrow_told : {X : Type 0} (r : Result (X × ℕ) (Failure Fault)) (view : X → A) → Told view IsA Ends line at r → Told view IsC Ends line at r
+  pub narrow_told : {X : Type 0} (r : Result (X × ℕ) (Failure Fault)) (view : X → A) → ReadsPart view IsA Ends line at r → ReadsPart view IsC Ends line at r
   narrow_told (Ok r) view (one, only) =
       let is = narrow (view r.0) one.text (drop r.1 line) one.joined one.spelled one.ended in
       (record { text = one.text; within = one.within; joined = one.joined; spelled = is; ended = one.ended }, λ c u rest h is e. only c u rest h (wide c u is) e)

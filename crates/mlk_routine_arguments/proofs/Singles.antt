@@ -2,7 +2,7 @@
 use Rattle.std.proofs.Common.{◌≡◌, ℕ, suc, List, [], ◌∷◌, ◌++◌, drop, Some, inl, inr, refl, sym, ap, ◌∙◌, subst}
 use Rattle.std.proofs.lemmas.Option.{same_Some}
 use Rattle.mlk_expr.specs.Grammar.{Spelled}
-use Rattle.mlk_routine_arguments.specs.Told.{first_of, byte_at}
+use Rattle.mlk_routine_arguments.specs.PartsRead.{first_of, byte_at}
 use Rattle.mlk_routine_arguments.specs.Ends.{AnyEnds, Begins, SingleEnds, OneEnds}
 use Rattle.mlk_routine_arguments.specs.CommandGrammar.{AreEnclosed, IsOneOrEnclosed}
 use Rattle.mlk_routine_arguments.proofs.Sequences.{Turned}

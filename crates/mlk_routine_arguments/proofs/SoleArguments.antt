@@ -4,6 +4,7 @@ use Rattle.std.proofs.Common.{◌≡◌, ◌<◌, ◌≤◌, ◌+◌, ◌-◌, �
 use Rattle.std.specs.Prelude.{Option}
 use Rattle.std.proofs.lemmas.Bool.{cases_Bool}
 use Rattle.mlk_text.specs.Lexemes.{label_at, name_at}
+use Rattle.mlk_dialect.specs.declared.dialect.Dialect.{Dialect}
 use Rattle.mlk_expr.specs.declared.context.Allows.{Allows}
 use Rattle.mlk_expr.specs.declared.context.Allows.TheVariants.{Everything, NoCalls, NoTouches}
 use Rattle.mlk_expr.specs.declared.context.Passing.{Passing}
@@ -21,10 +22,10 @@ use Rattle.mlk_expr.proofs.Joined.{same-expr, same-reference, same-list, one-of}
 use Rattle.mlk_syntax.specs.declared.command.Sign.{Sign}
 use Rattle.mlk_syntax.specs.declared.command.Sign.TheVariants as sign
 use Rattle.mlk_syntax.specs.Trees.{VariableTree, Named, CallTree, DoTree, DoCall, KillTree, KillOne, KillAllBut, NewTree, NewOne, NewAllBut}
-use Rattle.mlk_routine_arguments.specs.Told.{first_of, byte_at}
+use Rattle.mlk_routine_arguments.specs.PartsRead.{first_of, byte_at}
 use Rattle.mlk_routine_arguments.specs.Ends.{is_stop, AfterEnds, VariableEnds, MoreEnds, AreEnded, GivenEnds, CalledEnds, CallEnds, DoEnds, JobEnds, AnyEnds, KillEnds, NewEnds, MergeEnds, Begins, OneEnds, IsSign, SignEnds, TimeoutEnds, LockEnds, IsRun, RunEnds}
 use Rattle.mlk_routine_arguments.specs.Stops.{name_stop, variable_stop}
-use Rattle.mlk_routine_arguments.specs.CommandGrammar.{IsAfter, AreEnclosed, IsOneOrEnclosed, IsVariable, IsGiven, IsCall, IsCondition, IsDo, IsJob, IsKill, IsNew, IsLockTimeout, IsLock, in_names, IsMerge}
+use Rattle.mlk_routine_arguments.specs.CommandGrammar.{IsAfter, AreEnclosed, IsOneOrEnclosed, IsVariable, IsGiven, IsCall, IsCondition, IsDo, IsJob, IsKill, IsNew, IsLockTimeout, IsLock, after_names, in_names, IsMerge}
 use Rattle.mlk_routine_arguments.proofs.Sequences.{next_is}
 use Rattle.mlk_routine_arguments.proofs.Bytes.{AfterByte, optional, byte_before}
 use Rattle.mlk_routine_arguments.proofs.Sole.{Sole, Alone, byte_or_not, alone_of, sole_only, sole_found, sole_none, sole_within, alone_after, sole_apart, sole_both, sole_as, sole_turned}
@@ -191,21 +192,21 @@ sign_alone line at less = elim (byte_or_not line at 43) [
   ]
 ]
 
-timeout_sole : (s : Sign) → Alone (IsLockTimeout s) TimeoutEnds
-timeout_sole s line at less = elim (cases_Bool (is_stop (drop at line))) [
-  | inl stop ↦ sole_found None at (no_timeout s line at less stop)
+timeout_sole : (plus : Allows) (s : Sign) → Alone (IsLockTimeout plus s) TimeoutEnds
+timeout_sole plus s line at less = elim (cases_Bool (is_stop (drop at line))) [
+  | inl stop ↦ sole_found None at (no_timeout plus s line at less stop)
   | inr other ↦ elim (byte_or_not line at 58) [
     | inl here ↦ go s here
-    | inr missing ↦ sole_none (timeout_nowhere s line at other missing)
+    | inr missing ↦ sole_none (timeout_nowhere plus s line at other missing)
   ]
 ]
   where
-    go : (s : Sign) → byte_at line at ≡ Some 58 → Sole (IsLockTimeout s) TimeoutEnds line at
-    go sign.None here = sole_turned (for_none line at here) (alone_after 58 (expr_alone NoTouches) line at less)
-    go sign.Plus here = sole_turned (for_plus line at here) (alone_after 58 (expr_alone NoCalls) line at less)
-    go sign.Minus here = sole_none (left_out line at here)
+    go : (s : Sign) → byte_at line at ≡ Some 58 → Sole (IsLockTimeout plus s) TimeoutEnds line at
+    go sign.None here = sole_turned (for_none plus line at here) (alone_after 58 (expr_alone NoTouches) line at less)
+    go sign.Plus here = sole_turned (for_plus plus line at here) (alone_after 58 (expr_alone plus) line at less)
+    go sign.Minus here = sole_none (left_out plus line at here)
 
-pub lock_alone : Alone IsLock LockEnds
-lock_alone line at less =
-    sole_both (lock_parts line at) less (sign_alone line at less)
-    (λ s m f. sole_both (timed_parts s line m) f.within (one_sole (IsVariable (in_names s)) VariableEnds variable_stop (variable_alone (in_names s)) (variable_shut (in_names s)) line m f.within) (λ names n g. timeout_sole s line n g.within))
+pub lock_alone : (d : Dialect) → Alone (IsLock d) LockEnds
+lock_alone d line at less =
+    sole_both (lock_parts d line at) less (sign_alone line at less)
+    (λ s m f. sole_both (timed_parts d s line m) f.within (one_sole (IsVariable (in_names s)) VariableEnds variable_stop (variable_alone (in_names s)) (variable_shut (in_names s)) line m f.within) (λ names n g. timeout_sole (after_names d names) s line n g.within))

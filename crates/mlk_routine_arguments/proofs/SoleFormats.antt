@@ -5,15 +5,16 @@ use Rattle.std.proofs.lemmas.Bool.{cases_Bool}
 use Rattle.std.proofs.lemmas.Option.{same_Some}
 use Rattle.mlk_text.specs.Lexemes.{word_at}
 use Rattle.mlk_text.proofs.Readers.{pair_parts}
+use Rattle.mlk_dialect.specs.declared.dialect.Dialect.{Dialect}
 use Rattle.mlk_expr.specs.declared.context.Allows.TheVariants.{Everything, NoCalls}
 use Rattle.mlk_syntax.specs.ExprTrees.{Tree}
 use Rattle.mlk_expr.specs.Grammar.{IsExprWhere, AreNext}
 use Rattle.mlk_expr.specs.Theorem.{ExprEnds}
 use Rattle.mlk_syntax.specs.Trees.{VariableTree, TargetTree, SetWhole, SetPart}
-use Rattle.mlk_routine_arguments.specs.Told.{first_of, byte_at}
+use Rattle.mlk_routine_arguments.specs.PartsRead.{first_of, byte_at}
 use Rattle.mlk_routine_arguments.specs.Ends.{VariableEnds, AfterEnds, AnyEnds, IsPrompt, PromptEnds, starts_format, FormatEnds, WriteEnds, ReadEnds, NextEnds, part_of, IsPartOpening, TargetEnds, SetEnds, ParameterEnds, ControlEnds}
 use Rattle.mlk_routine_arguments.specs.Stops.{expr_stop, target_stop, parameter_stop}
-use Rattle.mlk_routine_arguments.specs.CommandGrammar.{IsAfter, IsVariable, IsLocal, is_mark, IsFormat, IsRead, IsTarget, IsSet, IsWrite, IsParameter, IsControl}
+use Rattle.mlk_routine_arguments.specs.CommandGrammar.{IsAfter, IsVariable, IsLocal, is_mark, IsFormat, IsRead, after_local, after_most, IsTarget, IsSet, IsWrite, IsParameter, IsControl}
 use Rattle.mlk_routine_arguments.proofs.Sole.{Alone, byte_or_not, sole_only, sole_within, alone_after, sole_both, sole_as, sole_turned}
 use Rattle.mlk_routine_arguments.proofs.SoleArguments.{expr_alone, variable_alone, name_alone, optional_alone, run_alone, byte_alone, list_alone, one_sole}
 use Rattle.mlk_routine_arguments.proofs.Prompts.{read_inside}
@@ -54,20 +55,20 @@ prompt_alone line at less a n s b u rest h is e =
 local_alone : Alone IsLocal VariableEnds
 local_alone line at less = sole_within (λ v s rest is e. (is.0, e)) (variable_alone Everything line at less)
 
-timed_local_alone : Alone IsTimedLocal TimedLocalEnds
-timed_local_alone line at less = sole_both (reads.timed_parts IsLocal VariableEnds local_colon line at) less (local_alone line at less) (λ v m s. optional_alone 58 NoCalls line m s.within)
+timed_local_alone : (d : Dialect) → Alone (IsTimedLocal d) TimedLocalEnds
+timed_local_alone d line at less = sole_both (reads.timed_parts (after_local d) IsLocal VariableEnds local_colon line at) less (local_alone line at less) (λ v m s. optional_alone 58 (after_local d v) line m s.within)
 
-limits_alone : Alone IsLimits LimitsEnd
-limits_alone line at less = sole_both (reads.timed_parts (IsAfter 35 Everything) (AfterEnds 35) most_colon line at) less (optional_alone 35 Everything line at less) (λ v m s. optional_alone 58 NoCalls line m s.within)
+limits_alone : (d : Dialect) (v : VariableTree) → Alone (IsLimits d v) LimitsEnd
+limits_alone d v line at less = sole_both (reads.timed_parts (after_most d v) (IsAfter 35 Everything) (AfterEnds 35) most_colon line at) less (optional_alone 35 Everything line at less) (λ most m s. optional_alone 58 (after_most d v most) line m s.within)
 
-pub read_alone : Alone IsRead ReadEnds
-read_alone line at less = elim (byte_or_not line at 34) [
-  | inl here ↦ sole_turned (read_prompt line at here) (prompt_alone line at less)
+pub read_alone : (d : Dialect) → Alone (IsRead d) ReadEnds
+read_alone d line at less = elim (byte_or_not line at 34) [
+  | inl here ↦ sole_turned (read_prompt d line at here) (prompt_alone line at less)
   | inr quote ↦ elim (cases_Bool (starts_format (drop at line))) [
-    | inl begins ↦ sole_turned (read_format line at begins) (format_alone line at less)
+    | inl begins ↦ sole_turned (read_format d line at begins) (format_alone line at less)
     | inr other ↦ elim (byte_or_not line at 42) [
-      | inl here ↦ sole_turned (read_character line at here) (alone_after 42 timed_local_alone line at less)
-      | inr star ↦ sole_both (line_parts line at quote other star) less (local_alone line at less) (λ v m s. limits_alone line m s.within)
+      | inl here ↦ sole_turned (read_character d line at here) (alone_after 42 (timed_local_alone d) line at less)
+      | inr star ↦ sole_both (line_parts d line at quote other star) less (local_alone line at less) (λ v m s. limits_alone d v line m s.within)
     ]
   ]
 ]

@@ -8,7 +8,7 @@ use Rattle.mlk_text.specs.declared.failure.Failure.TheVariants.{OutOfMemory, Ref
 use Rattle.mlk_text.specs.declared.fault.Fault.{Fault}
 use Rattle.mlk_expr.specs.Grammar.{Spelled, IsList}
 use Rattle.mlk_expr.specs.Theorem.{Stands, ExprEnds}
-use Rattle.mlk_routine_arguments.specs.Told.{Told, Found, Nowhere, Denied, first_of, byte_at}
+use Rattle.mlk_routine_arguments.specs.PartsRead.{ReadsPart, Found, Nowhere, Denied, first_of, byte_at}
 use Rattle.mlk_routine_arguments.specs.Faults.{IsFaulty}
 use Rattle.mlk_routine_arguments.specs.Ends.{is_stop, Lacks, MoreEnds, AreEnded, is_commands_end, is_command_end, is_bare_end, StopEnds}
 use Rattle.mlk_routine_arguments.specs.Begins.{front_begins, joined_begins}
@@ -98,7 +98,7 @@ module _ {A : Type 0} (Is : Spelled A) (begin : (k : ℕ) (a : A) (s : List ℕ)
       go [] u rest g is e = cc (sym h ∙ ap is_bare_end (g ∙ ap (λ l. l ++ rest) is) ∙ e)
       go (b ∷ more) u rest g is e = d.0 (b ∷ more) u rest g is e
 
-  pub some_told : {X : Type 0} (line : List ℕ) (at : ℕ) → is_bare_end (drop at line) ≡ false → (view : X → List A) (r : Result (X × ℕ) (Failure Fault)) → Told view (AreSome Is) (λ items. StopEnds true) line at r → Told view (ArePerhaps Is) (λ items. StopEnds (has_any items)) line at r
+  pub some_told : {X : Type 0} (line : List ℕ) (at : ℕ) → is_bare_end (drop at line) ≡ false → (view : X → List A) (r : Result (X × ℕ) (Failure Fault)) → ReadsPart view (AreSome Is) (λ items. StopEnds true) line at r → ReadsPart view (ArePerhaps Is) (λ items. StopEnds (has_any items)) line at r
   some_told line at h view (Ok r) t = some_found line at h (view r.0) r.1 t
   some_told line at h view (Err e) t = some_denied line at h e t
 

@@ -4,7 +4,7 @@ use Rattle.std.specs.Prelude.{◌⊎◌}
 use Rattle.std.specs.List.{list_all, prefix_len}
 use Rattle.std.proofs.lemmas.Bool.{cases_Bool, and_parts}
 use Rattle.mlk_expr.specs.Theorem.{Stands}
-use Rattle.mlk_routine_arguments.specs.Told.{Found}
+use Rattle.mlk_routine_arguments.specs.PartsRead.{Found}
 use Rattle.mlk_routine_arguments.specs.Ends.{IsRun, RunEnds, starts}
 use Rattle.mlk_routine_arguments.proofs.Sequences.{stands_at}
 

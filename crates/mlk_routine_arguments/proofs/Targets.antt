@@ -15,7 +15,7 @@ use Rattle.mlk_expr.specs.Theorem.{Stands, ExprEnds}
 use Rattle.mlk_syntax.specs.declared.command.Part.{Part}
 use Rattle.mlk_syntax.specs.declared.command.Part.TheVariants as part
 use Rattle.mlk_syntax.specs.Trees.{VariableTree, TargetTree, SetWhole, SetPart, SetTree, SetTo}
-use Rattle.mlk_routine_arguments.specs.Told.{Found, Nowhere, first_of, byte_at}
+use Rattle.mlk_routine_arguments.specs.PartsRead.{Found, Nowhere, first_of, byte_at}
 use Rattle.mlk_routine_arguments.specs.Ends.{Lacks, MoreEnds, AreEnded, AnyEnds, VariableEnds, Begins, SingleEnds, OneEnds, NextEnds, part_of, IsPartOpening, TargetEnds, SetEnds}
 use Rattle.mlk_routine_arguments.specs.Stops.{expr_stop}
 use Rattle.mlk_routine_arguments.specs.CommandGrammar.{Both, IsVariable, IsValue, IsOneOrEnclosed, is_part_word, IsTarget, IsSet}

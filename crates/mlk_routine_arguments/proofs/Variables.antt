@@ -8,7 +8,7 @@ use Rattle.mlk_expr_tokens.specs.Lexemes.{starts_reference}
 use Rattle.mlk_expr.specs.Grammar.{IsReference, has_subscript}
 use Rattle.mlk_expr.specs.Theorem.{goes_on}
 use Rattle.mlk_syntax.specs.Trees.{VariableTree, Named}
-use Rattle.mlk_routine_arguments.specs.Told.{Nowhere, first_of}
+use Rattle.mlk_routine_arguments.specs.PartsRead.{Nowhere, first_of}
 use Rattle.mlk_routine_arguments.specs.Ends.{VariableEnds, Begins}
 use Rattle.mlk_routine_arguments.specs.CommandGrammar.{IsVariable}
 

@@ -15,7 +15,7 @@ use Rattle.mlk_expr_tokens.specs.Words.{is_either}
 use Rattle.mlk_routine_arguments.specs.declared.word.Word.{Word}
 use Rattle.mlk_routine_arguments.specs.declared.word.Word.TheVariants as word
 use Rattle.mlk_syntax.specs.Trees.{ActionTree, Do, Else, Halt, Hang, If, Job, Kill, Lock, Merge, New, Quit, Read, Set, Write}
-use Rattle.mlk_routine_arguments.specs.Told.{Found, Nowhere}
+use Rattle.mlk_routine_arguments.specs.PartsRead.{Found, Nowhere}
 use Rattle.mlk_routine_arguments.specs.CommandWords.{is_word_of, is_for}
 use Rattle.mlk_routine_arguments.specs.Kinds.{kind, halts_or_hangs, Means, is_written, first_word, all_words, word_of, IsNamed, WordEnds}
 use Rattle.mlk_routine_arguments.proofs.Sequences.{stands_at}

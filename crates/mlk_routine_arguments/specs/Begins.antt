@@ -4,6 +4,7 @@ use Rattle.std.specs.List.{list_all}
 use Rattle.std.proofs.Common.{arith, refl, ap, ◌∙◌, inl, inr}
 use Rattle.std.proofs.lemmas.Bool.{cases_Bool}
 use Rattle.std.proofs.lemmas.Bool.Decides.{nat_tests}
+use Rattle.mlk_dialect.specs.declared.dialect.Dialect.{Dialect}
 use Rattle.mlk_text.specs.Lexemes.{is_digit}
 use Rattle.mlk_text.specs.Spellings.{IsName, IsLabel}
 use Rattle.mlk_expr.specs.declared.context.Allows.{Allows}
@@ -115,8 +116,8 @@ one_begins : {A : Type 0} (Is : Spelled A) → ((k : ℕ) (a : A) (s : List ℕ)
 one_begins Is begins at items s (inl (item, same, one)) = begins at item s one
 one_begins Is begins at items s (inr (inner, is, list)) = ap is_stop is
 
-pub lock_begins : (at : ℕ) (l : LockTree) (s : List ℕ) → IsLock at l s → is_stop s ≡ false
-lock_begins at (LockNames before names timeout) s (front, rest, is, signed, (text, more, also, one, two)) =
+pub lock_begins : (d : Dialect) (at : ℕ) (l : LockTree) (s : List ℕ) → IsLock d at l s → is_stop s ≡ false
+lock_begins d at (LockNames before names timeout) s (front, rest, is, signed, (text, more, also, one, two)) =
     go before signed one
   where
     go : (before : Sign) → front ≡ sign_text before
@@ -142,12 +143,12 @@ format_begins at None s is = marks_apart s is.0 is.1
 format_begins at (Some t) s (front, rest, is, marks, (r, column, value)) =
     ap is_stop (is ∙ ap (λ l. front ++ l) column) ∙ column_apart front r marks
 
-pub read_begins : (at : ℕ) (r : ReadTree) (s : List ℕ) → IsRead at r s → is_stop s ≡ false
-read_begins at (ReadText prompt) s is = ap is_stop is.0
-read_begins at (ReadFormat tab) s is = format_begins at tab s is
-read_begins at (ReadLine v most timeout) s (front, rest, is, one, two) =
+pub read_begins : (d : Dialect) (at : ℕ) (r : ReadTree) (s : List ℕ) → IsRead d at r s → is_stop s ≡ false
+read_begins d at (ReadText prompt) s is = ap is_stop is.0
+read_begins d at (ReadFormat tab) s is = format_begins at tab s is
+read_begins d at (ReadLine v most timeout) s (front, rest, is, one, two) =
     joined_begins s front rest is (variable_begins Everything at v front one.0)
-read_begins at (ReadCharacter v timeout) s (rest, is, one) = ap is_stop is
+read_begins d at (ReadCharacter v timeout) s (rest, is, one) = ap is_stop is
 
 pub write_begins : (at : ℕ) (w : WriteTree) (s : List ℕ) → IsWrite at w s → is_stop s ≡ false
 write_begins at (WriteValue t) s is = expr_begins Everything at t s is

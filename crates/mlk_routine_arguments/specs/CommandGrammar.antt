@@ -2,14 +2,17 @@
 -- column `at`. Consecutive parts are joined by `++`; the items of a list are separated by commas.
 use Rattle.mlk_text.specs.Places.{column_at}
 use Rattle.std.specs.Prelude.{ℕ, suc, ◌≡◌, ◌<◌, ◌≤◌, ◌+◌, ◌⊎◌, ◌==◌, ◌&&◌, ◌||◌, is_some, Bool, true, false, List, []}
-use Rattle.std.specs.Prelude.{◌∷◌, ◌++◌, length, Option, Some, None, codes}
+use Rattle.std.specs.Prelude.{◌∷◌, ◌++◌, length, if◌then◌else◌, Option, Some, None, codes}
 use Rattle.std.specs.List.{list_all}
+use Rattle.mlk_dialect.specs.declared.dialect.Dialect.{Dialect}
+use Rattle.mlk_dialect.specs.declared.dialect.Dialect.TheVariants as dialect
 use Rattle.mlk_expr.specs.declared.context.Allows.{Allows}
 use Rattle.mlk_expr.specs.declared.context.Allows.TheVariants.{Everything, NoCalls, NoTouches}
 use Rattle.mlk_expr.specs.declared.context.Passing.{Passing}
 use Rattle.mlk_expr.specs.declared.context.Passing.TheVariants.{ByReference, ByValue}
 use Rattle.mlk_syntax.specs.ExprTrees.{Tree, LocalName, ActualTree}
 use Rattle.mlk_expr_tokens.specs.Words.{is_either}
+use Rattle.mlk_expr.specs.Touches.{may_stand, subs_stand}
 use Rattle.mlk_expr.specs.Spellings.{IsStringLiteral}
 use Rattle.mlk_expr.specs.Grammar.{Spelled, IsList, AreNext, IsEnclosed, IsExprWhere, IsReferenceWhere}
 use Rattle.mlk_expr.specs.Grammar.{IsActualListWhere, IsCalleeText, IsNameText}
@@ -47,10 +50,16 @@ IsAfter b allows at (Some t) s = After b (λ n r. IsExprWhere allows n t r) at s
 abbrev pub IsCondition : ℕ → Option Tree → List ℕ → Type 0
 IsCondition = IsAfter 58 Everything
 
--- A timeout, or none. Standard: timeout. It contains no calls, since it is not certain what is evaluated first; LOCK without a
--- sign is more restrictive.
+-- A timeout, or none. Standard: timeout. LOCK without a sign is more restrictive than others.
 abbrev pub IsTimeout : Allows → ℕ → Option Tree → List ℕ → Type 0
 IsTimeout = IsAfter 58
+
+-- What is allowed in a timeout, by whether all that is evaluated besides it is quiet: it touches no global and calls nothing. It is
+-- not certain what is evaluated first, so the standard dialect allows no calls. In the extended one there may be calls if the rest
+-- is quiet: then the order makes no difference.
+abbrev pub in_timeout : Dialect → Bool → Allows
+in_timeout dialect.Standard quiet = NoCalls
+in_timeout dialect.Extended quiet = if quiet then Everything else NoCalls
 
 -- items in parentheses, separated by commas
 abbrev pub AreEnclosed : {A : Type 0} → Spelled A → ℕ → List A → List ℕ → Type 0
@@ -71,6 +80,13 @@ is_local_name t = false
 
 abbrev pub is_local : VariableTree → Bool
 is_local (Named column name) = is_local_name name
+
+abbrev pub is_quiet : VariableTree → Bool
+is_quiet (Named column name) = subs_stand NoTouches name
+
+abbrev pub is_quiet_value : Option Tree → Bool
+is_quiet_value None = true
+is_quiet_value (Some t) = may_stand NoTouches t
 
 abbrev pub IsLocal : ℕ → VariableTree → List ℕ → Type 0
 IsLocal at v s = IsVariable Everything at v s × (is_local v ≡ true)
@@ -124,14 +140,19 @@ in_names sign.None = NoTouches
 in_names sign.Plus = Everything
 in_names sign.Minus = Everything
 
-abbrev pub IsLockTimeout : Sign → ℕ → Option Tree → List ℕ → Type 0
-IsLockTimeout sign.None at timeout s = IsTimeout NoTouches at timeout s
-IsLockTimeout sign.Plus at timeout s = IsTimeout NoCalls at timeout s
-IsLockTimeout sign.Minus at timeout s = (timeout ≡ None) × (s ≡ [])
+-- The timeout after a sign, where `plus` is what `+` allows.
+abbrev pub IsLockTimeout : Allows → Sign → ℕ → Option Tree → List ℕ → Type 0
+IsLockTimeout plus sign.None at timeout s = IsTimeout NoTouches at timeout s
+IsLockTimeout plus sign.Plus at timeout s = IsTimeout plus at timeout s
+IsLockTimeout plus sign.Minus at timeout s = (timeout ≡ None) × (s ≡ [])
 
-abbrev pub IsLock : ℕ → LockTree → List ℕ → Type 0
-IsLock at (LockNames sign names timeout) s = Both (λ n r. r ≡ sign_text sign)
-    (Both (λ n r. IsOneOrEnclosed (IsVariable (in_names sign)) n names r) (λ n r. IsLockTimeout sign n timeout r)) at s
+abbrev pub after_names : Dialect → List VariableTree → Allows
+after_names d names = in_timeout d (list_all is_quiet names)
+
+abbrev pub IsLock : Dialect → ℕ → LockTree → List ℕ → Type 0
+IsLock d at (LockNames sign names timeout) s = Both (λ n r. r ≡ sign_text sign)
+    (Both (λ n r. IsOneOrEnclosed (IsVariable (in_names sign)) n names r)
+    (λ n r. IsLockTimeout (after_names d names) sign n timeout r)) at s
 
 -- Standard: MERGE. The subscripts of its variables contain no calls, since it is not certain what is evaluated first.
 abbrev pub IsMerge : ℕ → MergeTree → List ℕ → Type 0
@@ -147,13 +168,19 @@ IsFormat at None s = (list_all is_mark s ≡ true) × (0 < length s)
 IsFormat at (Some t) s = Both (λ n r. list_all is_mark r ≡ true) (After 63 (λ n r. IsValue n t r)) at s
 
 -- Standard: READ. Not read: READ into a global.
-abbrev pub IsRead : ℕ → ReadTree → List ℕ → Type 0
-IsRead at (ReadText prompt) s = IsStringLiteral prompt s
-IsRead at (ReadFormat tab) s = IsFormat at tab s
-IsRead at (ReadLine v most timeout) s = Both (λ n r. IsLocal n v r)
-    (Both (λ n r. IsAfter 35 Everything n most r) (λ n r. IsTimeout NoCalls n timeout r)) at s
-IsRead at (ReadCharacter v timeout) s =
-    After 42 (Both (λ n r. IsLocal n v r) (λ n r. IsTimeout NoCalls n timeout r)) at s
+abbrev pub after_local : Dialect → VariableTree → Allows
+after_local d v = in_timeout d (is_quiet v)
+
+abbrev pub after_most : Dialect → VariableTree → Option Tree → Allows
+after_most d v most = in_timeout d (is_quiet v && is_quiet_value most)
+
+abbrev pub IsRead : Dialect → ℕ → ReadTree → List ℕ → Type 0
+IsRead d at (ReadText prompt) s = IsStringLiteral prompt s
+IsRead d at (ReadFormat tab) s = IsFormat at tab s
+IsRead d at (ReadLine v most timeout) s = Both (λ n r. IsLocal n v r)
+    (Both (λ n r. IsAfter 35 Everything n most r) (λ n r. IsTimeout (after_most d v most) n timeout r)) at s
+IsRead d at (ReadCharacter v timeout) s =
+    After 42 (Both (λ n r. IsLocal n v r) (λ n r. IsTimeout (after_local d v) n timeout r)) at s
 
 -- Standard: SET, setleft. In a target that is part of a value, the subscripts of its variable and its arguments contain no
 -- calls, since it is not certain what is evaluated first. Not read: SET of a special variable.
@@ -204,28 +231,28 @@ abbrev pub IsQuit : Bool → ℕ → Option Tree → List ℕ → Type 0
 IsQuit returns at None s = s ≡ []
 IsQuit returns at (Some t) s = (returns ≡ true) × After 32 (λ n r. IsValue n t r) at s
 
-abbrev pub AreArgumentsOf : Bool → ℕ → ActionTree → List ℕ → Type 0
-AreArgumentsOf returns at (Do calls) s = ArePerhaps IsDo at calls s
-AreArgumentsOf returns at Else s = s ≡ []
-AreArgumentsOf returns at Halt s = s ≡ []
-AreArgumentsOf returns at (Hang times) s = AreSome IsValue at times s
-AreArgumentsOf returns at (If conditions) s = ArePerhaps IsValue at conditions s
-AreArgumentsOf returns at (Job calls) s = AreSome IsJob at calls s
-AreArgumentsOf returns at (Kill kills) s = ArePerhaps IsKill at kills s
-AreArgumentsOf returns at (Lock locks) s = ArePerhaps IsLock at locks s
-AreArgumentsOf returns at (Merge merges) s = AreSome IsMerge at merges s
-AreArgumentsOf returns at (New news) s = ArePerhaps IsNew at news s
-AreArgumentsOf returns at (Quit value) s = IsQuit returns at value s
-AreArgumentsOf returns at (Read reads) s = AreSome IsRead at reads s
-AreArgumentsOf returns at (Set sets) s = AreSome IsSet at sets s
-AreArgumentsOf returns at (Write writes) s = AreSome IsWrite at writes s
+abbrev pub AreArgumentsOf : Dialect → Bool → ℕ → ActionTree → List ℕ → Type 0
+AreArgumentsOf d returns at (Do calls) s = ArePerhaps IsDo at calls s
+AreArgumentsOf d returns at Else s = s ≡ []
+AreArgumentsOf d returns at Halt s = s ≡ []
+AreArgumentsOf d returns at (Hang times) s = AreSome IsValue at times s
+AreArgumentsOf d returns at (If conditions) s = ArePerhaps IsValue at conditions s
+AreArgumentsOf d returns at (Job calls) s = AreSome IsJob at calls s
+AreArgumentsOf d returns at (Kill kills) s = ArePerhaps IsKill at kills s
+AreArgumentsOf d returns at (Lock locks) s = ArePerhaps (IsLock d) at locks s
+AreArgumentsOf d returns at (Merge merges) s = AreSome IsMerge at merges s
+AreArgumentsOf d returns at (New news) s = ArePerhaps IsNew at news s
+AreArgumentsOf d returns at (Quit value) s = IsQuit returns at value s
+AreArgumentsOf d returns at (Read reads) s = AreSome (IsRead d) at reads s
+AreArgumentsOf d returns at (Set sets) s = AreSome IsSet at sets s
+AreArgumentsOf d returns at (Write writes) s = AreSome IsWrite at writes s
 
 -- A command other than FOR: its word, an optional postconditional, its arguments. Standard: commands.
-abbrev pub IsCommand : Bool → ℕ → CommandTree → List ℕ → Type 0
-IsCommand returns at (Does column condition action) s = (column ≡ column_at at)
+abbrev pub IsCommand : Dialect → Bool → ℕ → CommandTree → List ℕ → Type 0
+IsCommand d returns at (Does column condition action) s = (column ≡ column_at at)
     × ((condition ≡ None) ⊎ (may_have_condition action ≡ true))
     × Both (λ n r. is_word_of action r ≡ true)
-    (Both (λ n r. IsCondition n condition r) (λ n r. AreArgumentsOf returns n action r)) at s
+    (Both (λ n r. IsCondition n condition r) (λ n r. AreArgumentsOf d returns n action r)) at s
 
 abbrev pub least_of : CommandTree → ℕ
 least_of (Does column condition action) = least_after (has_arguments action)
@@ -246,13 +273,13 @@ IsGap least gap following = (list_all is_space gap ≡ true) × ((following ≡ 
 -- Commands with the spaces after each. The index of a FOR counts those of its line from 1: it is one more than the number of FORs
 -- that contain it; a FOR contains everything that follows it. It is at most 255, which is this project's own choice. Standard:
 -- line body, FOR.
-abbrev pub AreCommands : ℕ → ℕ → ℕ → CommandTrees → List ℕ → Type 0
-AreCommands level loops at finished s = s ≡ []
-AreCommands level loops at (then_command first rest) s = (text gap following : List ℕ)
+abbrev pub AreCommands : Dialect → ℕ → ℕ → ℕ → CommandTrees → List ℕ → Type 0
+AreCommands d level loops at finished s = s ≡ []
+AreCommands d level loops at (then_command first rest) s = (text gap following : List ℕ)
     × (s ≡ text ++ (gap ++ following))
-    × IsCommand ((level == 1) && (loops == 0)) at first text × IsGap (least_of first) gap following
-    × AreCommands level loops (at + length text + length gap) rest following
-AreCommands level loops at (then_for column index control rest) s = (text gap following : List ℕ)
+    × IsCommand d ((level == 1) && (loops == 0)) at first text × IsGap (least_of first) gap following
+    × AreCommands d level loops (at + length text + length gap) rest following
+AreCommands d level loops at (then_for column index control rest) s = (text gap following : List ℕ)
     × (s ≡ text ++ (gap ++ following)) × IsForHead column at control text × (index ≡ suc loops) × (index ≤ 255)
     × IsGap (least_after (is_some control)) gap following
-    × AreCommands level (suc loops) (at + length text + length gap) rest following
+    × AreCommands d level (suc loops) (at + length text + length gap) rest following

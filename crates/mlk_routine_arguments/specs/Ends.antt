@@ -6,7 +6,7 @@ use Rattle.mlk_syntax.specs.ExprTrees.{Tree, ActualTree}
 use Rattle.mlk_expr.specs.Spellings.{IsStringLiteral}
 use Rattle.mlk_syntax.specs.declared.expr.Callee.{Callee}
 use Rattle.mlk_expr.specs.Theorem.{ExprEnds, ReferenceEnds, CalleeEnds, LabelEnds}
-use Rattle.mlk_routine_arguments.specs.Told.{first_of}
+use Rattle.mlk_routine_arguments.specs.PartsRead.{first_of}
 use Rattle.mlk_syntax.specs.Trees.{VariableTree, Named, CallTree, Called, DoTree, DoCall, KillTree, KillOne}
 use Rattle.mlk_syntax.specs.Trees.{KillAllBut, MergeTree, MergeInto, ParameterTree, Once, Endless, Limited}
 use Rattle.mlk_syntax.specs.Trees.{ControlTree, Runs, NewTree, NewOne, NewAllBut, CommandTree, Does, CommandTrees}

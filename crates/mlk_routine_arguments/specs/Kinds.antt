@@ -1,6 +1,7 @@
 -- Distinctions that the readers of commands make. For private clauses only. This project's own.
 use Rattle.std.specs.Prelude.{ℕ, ◌≡◌, ◌⊎◌, Bool, true, false, List, [], ◌∷◌, Option, Some, None, codes}
 use Rattle.std.specs.Prelude.{if◌then◌else◌, ◌+◌, drop, Result, Ok, Err}
+use Rattle.mlk_dialect.specs.declared.dialect.Dialect.{Dialect}
 use Rattle.mlk_text.specs.declared.failure.Failure.{Failure}
 use Rattle.mlk_text.specs.declared.fault.Fault.{Fault}
 use Rattle.mlk_text.specs.Lexemes.{is_letter}
@@ -13,7 +14,7 @@ use Rattle.mlk_syntax.specs.Trees.{ActionTree, Do, Else, Halt, Hang, If, Job, Ki
 use Rattle.mlk_syntax.specs.Trees.{Write}
 use Rattle.mlk_routine_arguments.specs.CommandWords.{has_arguments}
 use Rattle.mlk_routine_arguments.specs.CommandGrammar.{IsCondition, AreArgumentsOf}
-use Rattle.mlk_routine_arguments.specs.Told.{byte_at}
+use Rattle.mlk_routine_arguments.specs.PartsRead.{byte_at}
 use Rattle.mlk_routine_arguments.specs.Faults.{IsFaulty}
 use Rattle.mlk_routine_arguments.specs.Ends.{starts, is_stop, is_bare_end, AfterEnds, StopEnds}
 
@@ -94,8 +95,8 @@ abbrev pub ConditionEnds : Word → Option Tree → List ℕ → Type 0
 ConditionEnds w condition rest = has_condition w ≡ true → AfterEnds 58 condition rest
 
 -- the arguments of one of the word's commands
-abbrev pub IsActionOf : Word → Bool → ℕ → ActionTree → List ℕ → Type 0
-IsActionOf w returns at action s = Means w action × AreArgumentsOf returns at action s
+abbrev pub IsActionOf : Word → Dialect → Bool → ℕ → ActionTree → List ℕ → Type 0
+IsActionOf w d returns at action s = Means w action × AreArgumentsOf d returns at action s
 
 abbrev pub ActionEnds : ActionTree → List ℕ → Type 0
 ActionEnds action rest = StopEnds (has_arguments action) rest

@@ -1,7 +1,7 @@
 pub mod CommandWords
 pub mod CommandGrammar
 pub mod Faults
-pub mod Told
+pub mod PartsRead
 pub mod Ends
 pub mod Stops
 pub mod Begins

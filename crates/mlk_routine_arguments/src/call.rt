@@ -6,7 +6,7 @@ ghost use Rattle.mlk_expr.specs.Grammar.{IsCalleeText};
 ghost use Rattle.mlk_expr.specs.Theorem.{CalleeEnds};
 ghost use Rattle.mlk_expr.specs.declared.context.Allows.TheVariants.{Everything, NoTouches};
 ghost use Rattle.mlk_expr.specs.declared.context.Passing.TheVariants.{ByReference};
-ghost use Rattle.mlk_routine_arguments.specs.Told.{Found, Told, byte_at};
+ghost use Rattle.mlk_routine_arguments.specs.PartsRead.{Found, ReadsPart, byte_at};
 ghost use Rattle.mlk_routine_arguments.specs.Ends.{GivenEnds, CalledEnds, CallEnds, DoEnds, JobEnds};
 ghost use Rattle.mlk_syntax.specs.Views.{call_of, do_of};
 ghost use Rattle.mlk_routine_arguments.specs.CommandGrammar.{IsGiven, IsCall, IsDo, IsJob};
@@ -25,7 +25,7 @@ fn label_and_routine(
     at: usize,
 ) -> Result<(Callee, usize), Failure<Fault>>
     requires { at ≤ length line.now }
-    ensures { Told (λ c. c) IsCalleeText CalleeEnds line.now at result }
+    ensures { ReadsPart (λ c. c) IsCalleeText CalleeEnds line.now at result }
 {
     match read_callee(alloc, line, at) {
         Ok(read) => Ok(read),
@@ -37,7 +37,7 @@ fn label_and_routine(
 /// Reads the callee of DO or JOB: the callee, and the byte after it. An offset after a label is refused as not read.
 fn callee(alloc: Global, line: &[u8], at: usize) -> Result<(Callee, usize), Failure<Fault>>
     requires { at ≤ length line.now }
-    ensures { Told (λ c. c) IsCalleeText CalledEnds line.now at result }
+    ensures { ReadsPart (λ c. c) IsCalleeText CalledEnds line.now at result }
 {
     let (called, next) = label_and_routine(alloc, line, at)?;
     if !has_byte(line, next, b'+') {
@@ -59,7 +59,7 @@ fn actuals(
     at: usize,
 ) -> Result<(Option<Vec<Actual>>, usize), Failure<Fault>>
     requires { at ≤ length line.now }
-    ensures { Told (option_map (λ v. actual_trees v.items)) (IsGiven allows passing) GivenEnds line.now at result }
+    ensures { ReadsPart (option_map (λ v. actual_trees v.items)) (IsGiven allows passing) GivenEnds line.now at result }
 {
     if !has_byte(line, at, b'(') {
         return Ok((None, at));
@@ -80,7 +80,7 @@ pub(crate) fn call(
     at: usize,
 ) -> Result<(Call, usize), Failure<Fault>>
     requires { at ≤ length line.now }
-    ensures { Told call_of (IsCall allows passing) CallEnds line.now at result }
+    ensures { ReadsPart call_of (IsCall allows passing) CallEnds line.now at result }
 {
     let (callee, next) = callee(alloc, line, at)?;
     let (actuals, next) = actuals(alloc, allows, passing, line, next)?;
@@ -105,7 +105,7 @@ fn quiet_call(
 ) -> Result<(Call, usize), Failure<Fault>>
     requires within { at ≤ length line.now }
     requires read { Found (IsCall Everything ByReference) CallEnds line.now at (call_of any) next }
-    ensures { Told call_of (IsCall NoTouches ByReference) CallEnds line.now at result }
+    ensures { ReadsPart call_of (IsCall NoTouches ByReference) CallEnds line.now at result }
 {
     if any.actuals.is_none() {
         return Ok((any, next));
@@ -120,7 +120,7 @@ pub(crate) fn do_argument(
     at: usize,
 ) -> Result<(DoArgument, usize), Failure<Fault>>
     requires { at ≤ length line.now }
-    ensures { Told do_of IsDo DoEnds line.now at result }
+    ensures { ReadsPart do_of IsDo DoEnds line.now at result }
 {
     let (any, next) = call(alloc, Allows::Everything, Passing::ByReference, line, at)?;
     if !has_byte(line, next, b':') {
@@ -150,7 +150,7 @@ pub(crate) fn job_argument(
     at: usize,
 ) -> Result<(Call, usize), Failure<Fault>>
     requires { at ≤ length line.now }
-    ensures { Told call_of IsJob JobEnds line.now at result }
+    ensures { ReadsPart call_of IsJob JobEnds line.now at result }
 {
     let (called, next) = call(alloc, Allows::Everything, Passing::ByValue, line, at)?;
     if has_byte(line, next, b':') {

@@ -1,7 +1,7 @@
 // The arguments of KILL, NEW and MERGE.
 
 ghost use Rattle.std.specs.Prelude.{◌≡◌, ◌≤◌, length, Some, true, false};
-ghost use Rattle.mlk_routine_arguments.specs.Told.{Told, byte_at};
+ghost use Rattle.mlk_routine_arguments.specs.PartsRead.{ReadsPart, byte_at};
 ghost use Rattle.mlk_routine_arguments.specs.Ends.{KillEnds, MergeEnds, NewEnds};
 ghost use Rattle.mlk_syntax.specs.Views.{kill_of, merge_of, new_of};
 ghost use Rattle.mlk_routine_arguments.specs.CommandGrammar.{IsKill, IsMerge, IsNew};
@@ -9,6 +9,7 @@ ghost use Rattle.mlk_routine_arguments.specs.CommandGrammar.{IsKill, IsMerge, Is
 use crate::fault::{leaves_out, refusal_at};
 use crate::item::enclosed_items;
 use crate::part::{has_byte, name, variable};
+use mlk_dialect::Dialect;
 use mlk_expr::Allows;
 use mlk_syntax::{KillArgument, MergeArgument, NewArgument};
 use mlk_text::lexeme::word_at;
@@ -18,14 +19,15 @@ use std::alloc::Global;
 /// Reads an argument of KILL: the argument, and the byte after it.
 pub(crate) fn kill(
     alloc: Global,
+    dialect: Dialect,
     line: &[u8],
     at: usize,
 ) -> Result<(KillArgument, usize), Failure<Fault>>
     requires { at ≤ length line.now }
-    ensures { Told kill_of IsKill KillEnds line.now at result }
+    ensures { ReadsPart kill_of IsKill KillEnds line.now at result }
 {
     if has_byte(line, at, b'(') {
-        let (names, next) = enclosed_items(alloc, line, at)?;
+        let (names, next) = enclosed_items(alloc, dialect, line, at)?;
         return Ok((KillArgument::AllBut(List::from(names)), next));
     }
     let (one, next) = variable(alloc, Allows::Everything, line, at)?;
@@ -39,7 +41,7 @@ pub(crate) fn merge(
     at: usize,
 ) -> Result<(MergeArgument, usize), Failure<Fault>>
     requires { at ≤ length line.now }
-    ensures { Told merge_of IsMerge MergeEnds line.now at result }
+    ensures { ReadsPart merge_of IsMerge MergeEnds line.now at result }
 {
     let (target, next) = variable(alloc, Allows::NoCalls, line, at)?;
     if !has_byte(line, next, b'=') {
@@ -65,14 +67,15 @@ fn is_special(line: &[u8], at: usize) -> bool
 /// Reads an argument of NEW: the argument, and the byte after it. A special variable is refused as not read.
 pub(crate) fn new(
     alloc: Global,
+    dialect: Dialect,
     line: &[u8],
     at: usize,
 ) -> Result<(NewArgument, usize), Failure<Fault>>
     requires { at ≤ length line.now }
-    ensures { Told new_of IsNew NewEnds line.now at result }
+    ensures { ReadsPart new_of IsNew NewEnds line.now at result }
 {
     if has_byte(line, at, b'(') {
-        let (names, next) = enclosed_items(alloc, line, at)?;
+        let (names, next) = enclosed_items(alloc, dialect, line, at)?;
         return Ok((NewArgument::AllBut(List::from(names)), next));
     }
     if is_special(line, at) {

@@ -1,7 +1,7 @@
 // The items of lists that are separated by commas, and such lists.
 
 ghost use Rattle.std.specs.Prelude.{◌≡◌, ◌≤◌, ℕ, List, length, map, Some, true, false};
-ghost use Rattle.mlk_routine_arguments.specs.Told.{Told, byte_at};
+ghost use Rattle.mlk_routine_arguments.specs.PartsRead.{ReadsPart, byte_at};
 ghost use Rattle.mlk_routine_arguments.specs.Stops.{expr_stop, name_stop};
 ghost use Rattle.mlk_routine_arguments.specs.Begins.{expr_begins, name_begins};
 ghost use Rattle.mlk_routine_arguments.specs.Ends.{AreEnded, AnyEnds, Begins, OneEnds};
@@ -13,6 +13,7 @@ ghost use Rattle.mlk_expr.specs.declared.context.Allows.TheVariants.{Everything}
 
 use crate::fault::refusal_at;
 use crate::part::{expression, has_byte, name};
+use mlk_dialect::Dialect;
 use mlk_expr::Allows;
 use mlk_syntax::Expr;
 use mlk_text::{Code, Failure, Fault, Name, drop_and_return, make_room};
@@ -21,15 +22,16 @@ use std::alloc::Global;
 /// An item of a list that is separated by commas.
 pub trait Item: Drop {
     ghost use Rattle.std.specs.Prelude.{ℕ, List, ◌≡◌, true, false};
+    ghost use Rattle.mlk_dialect.specs.declared.dialect.Dialect.{Dialect};
     ghost use Rattle.mlk_expr.specs.Grammar.{Spelled};
     ghost use Rattle.mlk_routine_arguments.specs.Ends.{is_stop};
 
-    /// What contracts see of the item, how it is written, and what may follow it.
+    /// What contracts see of the item, how it is written in a dialect, and what may follow it.
     ghost Seen: { Type 0 };
 
     ghost seen: { Self → Seen };
 
-    ghost is: { ℕ → Seen → List ℕ → Type 0 };
+    ghost is: { Dialect → ℕ → Seen → List ℕ → Type 0 };
 
     ghost ends: { Seen → List ℕ → Type 0 };
 
@@ -37,11 +39,16 @@ pub trait Item: Drop {
     ghost stop: { (a : Seen) (rest : List ℕ) → is_stop rest ≡ true → ends a rest };
 
     /// No item begins with one of these.
-    ghost begin: { (k : ℕ) (a : Seen) (s : List ℕ) → is k a s → is_stop s ≡ false };
+    ghost begin: { (d : Dialect) (k : ℕ) (a : Seen) (s : List ℕ) → is d k a s → is_stop s ≡ false };
 
-    fn read(alloc: Global, line: &[u8], at: usize) -> Result<(Self, usize), Failure<Fault>>
+    fn read(
+        alloc: Global,
+        dialect: Dialect,
+        line: &[u8],
+        at: usize,
+    ) -> Result<(Self, usize), Failure<Fault>>
         requires { at ≤ length line.now }
-        ensures { Told seen is ends line.now at result };
+        ensures { ReadsPart seen (is dialect) ends line.now at result };
 }
 
 impl Item for Expr {
@@ -49,15 +56,20 @@ impl Item for Expr {
 
     ghost seen = { tree_of };
 
-    ghost is = { IsExprWhere Everything };
+    ghost is = { λ d. IsExprWhere Everything };
 
     ghost ends = { ExprEnds };
 
     ghost stop = { expr_stop };
 
-    ghost begin = { expr_begins Everything };
+    ghost begin = { λ d. expr_begins Everything };
 
-    fn read(alloc: Global, line: &[u8], at: usize) -> Result<(Expr, usize), Failure<Fault>> {
+    fn read(
+        alloc: Global,
+        _dialect: Dialect,
+        line: &[u8],
+        at: usize,
+    ) -> Result<(Expr, usize), Failure<Fault>> {
         expression(alloc, Allows::Everything, line, at)
     }
 }
@@ -65,13 +77,14 @@ impl Item for Expr {
 /// Reads one or more items separated by commas: the items, and the byte after them.
 pub(crate) fn item_list<T: Item>(
     alloc: Global,
+    dialect: Dialect,
     line: &[u8],
     at: usize,
 ) -> Result<(Vec<T>, usize), Failure<Fault>>
     requires { at ≤ length line.now }
-    ensures { Told (λ v. map T.seen v.items) (IsList T.is) (AreEnded T.ends) line.now at result }
+    ensures { ReadsPart (λ v. map T.seen v.items) (IsList (T.is dialect)) (AreEnded T.ends) line.now at result }
 {
-    let (first, mut next) = T::read(alloc, line, at)?;
+    let (first, mut next) = T::read(alloc, dialect, line, at)?;
     let room = if has_byte(line, next, b',') { 2 } else { 1 };
     let Ok(mut items) = Vec::with_capacity(alloc, room) else {
         return Err(drop_and_return(first, Failure::OutOfMemory));
@@ -79,7 +92,7 @@ pub(crate) fn item_list<T: Item>(
     items.push_reserved(first);
     while has_byte(line, next, b',') {
         make_room(&mut items)?;
-        let (item, end) = T::read(alloc, line, next + 1)?;
+        let (item, end) = T::read(alloc, dialect, line, next + 1)?;
         items.push_reserved(item);
         next = end;
     }
@@ -90,14 +103,15 @@ pub(crate) fn item_list<T: Item>(
 #[inline(always)]
 pub(crate) fn enclosed_items<T: Item>(
     alloc: Global,
+    dialect: Dialect,
     line: &[u8],
     at: usize,
 ) -> Result<(Vec<T>, usize), Failure<Fault>>
     requires within { at ≤ length line.now }
     requires open { byte_at line.now at ≡ Some 40 }
-    ensures { Told (λ v. map T.seen v.items) (AreEnclosed T.is) AnyEnds line.now at result }
+    ensures { ReadsPart (λ v. map T.seen v.items) (AreEnclosed (T.is dialect)) AnyEnds line.now at result }
 {
-    let (items, end) = item_list(alloc, line, at + 1)?;
+    let (items, end) = item_list(alloc, dialect, line, at + 1)?;
     if !has_byte(line, end, b')') {
         return Err(refusal_at(alloc, Code::ArgumentForm, end));
     }
@@ -111,15 +125,20 @@ impl Item for Name {
 
     ghost seen = { λ n. n };
 
-    ghost is = { IsNameText };
+    ghost is = { λ d. IsNameText };
 
     ghost ends = { LabelEnds };
 
     ghost stop = { name_stop };
 
-    ghost begin = { name_begins };
+    ghost begin = { λ d. name_begins };
 
-    fn read(alloc: Global, line: &[u8], at: usize) -> Result<(Name, usize), Failure<Fault>> {
+    fn read(
+        alloc: Global,
+        _dialect: Dialect,
+        line: &[u8],
+        at: usize,
+    ) -> Result<(Name, usize), Failure<Fault>> {
         name(alloc, line, at)
     }
 }
@@ -127,18 +146,19 @@ impl Item for Name {
 /// Reads one item, or several in parentheses: the items, and the byte after them. No item begins with a parenthesis.
 pub(crate) fn one_or_enclosed<T: Item>(
     alloc: Global,
+    dialect: Dialect,
     line: &[u8],
     at: usize,
 ) -> Result<(Vec<T>, usize), Failure<Fault>>
     requires within { at ≤ length line.now }
-    requires shut { (k : ℕ) (a : T.Seen) (s : List ℕ) → T.is k a s → Begins s }
-    ensures { Told (λ v. map T.seen v.items) (IsOneOrEnclosed T.is)
+    requires shut { (k : ℕ) (a : T.Seen) (s : List ℕ) → T.is dialect k a s → Begins s }
+    ensures { ReadsPart (λ v. map T.seen v.items) (IsOneOrEnclosed (T.is dialect))
         (OneEnds T.ends (byte_at line.now at)) line.now at result }
 {
     if has_byte(line, at, b'(') {
-        return enclosed_items(alloc, line, at);
+        return enclosed_items(alloc, dialect, line, at);
     }
-    let (item, next) = T::read(alloc, line, at)?;
+    let (item, next) = T::read(alloc, dialect, line, at)?;
     let mut items = Vec::with_capacity(alloc, 1)?;
     items.push_reserved(item);
     Ok((items, next))

@@ -23,6 +23,7 @@ use crate::lock::lock;
 use crate::parameter::parameter;
 use crate::part::variable;
 use crate::set::{set, target};
+use mlk_dialect::Dialect;
 use mlk_expr::Allows;
 use mlk_syntax::{
     Call, DoArgument, KillArgument, LockArgument, MergeArgument, NewArgument, Parameter,
@@ -36,15 +37,20 @@ impl Item for DoArgument {
 
     ghost seen = { do_of };
 
-    ghost is = { IsDo };
+    ghost is = { λ d. IsDo };
 
     ghost ends = { DoEnds };
 
     ghost stop = { do_stop };
 
-    ghost begin = { do_begins };
+    ghost begin = { λ d. do_begins };
 
-    fn read(alloc: Global, line: &[u8], at: usize) -> Result<(DoArgument, usize), Failure<Fault>> {
+    fn read(
+        alloc: Global,
+        _dialect: Dialect,
+        line: &[u8],
+        at: usize,
+    ) -> Result<(DoArgument, usize), Failure<Fault>> {
         do_argument(alloc, line, at)
     }
 }
@@ -54,15 +60,20 @@ impl Item for Call {
 
     ghost seen = { call_of };
 
-    ghost is = { IsJob };
+    ghost is = { λ d. IsJob };
 
     ghost ends = { JobEnds };
 
     ghost stop = { job_stop };
 
-    ghost begin = { job_begins };
+    ghost begin = { λ d. job_begins };
 
-    fn read(alloc: Global, line: &[u8], at: usize) -> Result<(Call, usize), Failure<Fault>> {
+    fn read(
+        alloc: Global,
+        _dialect: Dialect,
+        line: &[u8],
+        at: usize,
+    ) -> Result<(Call, usize), Failure<Fault>> {
         job_argument(alloc, line, at)
     }
 }
@@ -72,20 +83,21 @@ impl Item for KillArgument {
 
     ghost seen = { kill_of };
 
-    ghost is = { IsKill };
+    ghost is = { λ d. IsKill };
 
     ghost ends = { KillEnds };
 
     ghost stop = { kill_stop };
 
-    ghost begin = { kill_begins };
+    ghost begin = { λ d. kill_begins };
 
     fn read(
         alloc: Global,
+        dialect: Dialect,
         line: &[u8],
         at: usize,
     ) -> Result<(KillArgument, usize), Failure<Fault>> {
-        kill(alloc, line, at)
+        kill(alloc, dialect, line, at)
     }
 }
 
@@ -94,16 +106,17 @@ impl Item for MergeArgument {
 
     ghost seen = { merge_of };
 
-    ghost is = { IsMerge };
+    ghost is = { λ d. IsMerge };
 
     ghost ends = { MergeEnds };
 
     ghost stop = { merge_stop };
 
-    ghost begin = { merge_begins };
+    ghost begin = { λ d. merge_begins };
 
     fn read(
         alloc: Global,
+        _dialect: Dialect,
         line: &[u8],
         at: usize,
     ) -> Result<(MergeArgument, usize), Failure<Fault>> {
@@ -116,15 +129,20 @@ impl Item for Parameter {
 
     ghost seen = { parameter_of };
 
-    ghost is = { IsParameter };
+    ghost is = { λ d. IsParameter };
 
     ghost ends = { ParameterEnds };
 
     ghost stop = { parameter_stop };
 
-    ghost begin = { parameter_begins };
+    ghost begin = { λ d. parameter_begins };
 
-    fn read(alloc: Global, line: &[u8], at: usize) -> Result<(Parameter, usize), Failure<Fault>> {
+    fn read(
+        alloc: Global,
+        _dialect: Dialect,
+        line: &[u8],
+        at: usize,
+    ) -> Result<(Parameter, usize), Failure<Fault>> {
         parameter(alloc, line, at)
     }
 }
@@ -134,16 +152,21 @@ impl Item for NewArgument {
 
     ghost seen = { new_of };
 
-    ghost is = { IsNew };
+    ghost is = { λ d. IsNew };
 
     ghost ends = { NewEnds };
 
     ghost stop = { new_stop };
 
-    ghost begin = { new_begins };
+    ghost begin = { λ d. new_begins };
 
-    fn read(alloc: Global, line: &[u8], at: usize) -> Result<(NewArgument, usize), Failure<Fault>> {
-        new(alloc, line, at)
+    fn read(
+        alloc: Global,
+        dialect: Dialect,
+        line: &[u8],
+        at: usize,
+    ) -> Result<(NewArgument, usize), Failure<Fault>> {
+        new(alloc, dialect, line, at)
     }
 }
 
@@ -152,15 +175,20 @@ impl Item for Variable {
 
     ghost seen = { variable_of };
 
-    ghost is = { IsVariable Everything };
+    ghost is = { λ d. IsVariable Everything };
 
     ghost ends = { VariableEnds };
 
     ghost stop = { variable_stop };
 
-    ghost begin = { variable_begins Everything };
+    ghost begin = { λ d. variable_begins Everything };
 
-    fn read(alloc: Global, line: &[u8], at: usize) -> Result<(Variable, usize), Failure<Fault>> {
+    fn read(
+        alloc: Global,
+        _dialect: Dialect,
+        line: &[u8],
+        at: usize,
+    ) -> Result<(Variable, usize), Failure<Fault>> {
         variable(alloc, Allows::Everything, line, at)
     }
 }
@@ -176,15 +204,20 @@ impl Item for Unsigned {
 
     ghost seen = { λ u. variable_of u.variable };
 
-    ghost is = { IsVariable NoTouches };
+    ghost is = { λ d. IsVariable NoTouches };
 
     ghost ends = { VariableEnds };
 
     ghost stop = { variable_stop };
 
-    ghost begin = { variable_begins NoTouches };
+    ghost begin = { λ d. variable_begins NoTouches };
 
-    fn read(alloc: Global, line: &[u8], at: usize) -> Result<(Unsigned, usize), Failure<Fault>> {
+    fn read(
+        alloc: Global,
+        _dialect: Dialect,
+        line: &[u8],
+        at: usize,
+    ) -> Result<(Unsigned, usize), Failure<Fault>> {
         let (variable, next) = variable(alloc, Allows::NoTouches, line, at)?;
         Ok((Unsigned { variable }, next))
     }
@@ -205,10 +238,11 @@ impl Item for LockArgument {
 
     fn read(
         alloc: Global,
+        dialect: Dialect,
         line: &[u8],
         at: usize,
     ) -> Result<(LockArgument, usize), Failure<Fault>> {
-        lock(alloc, line, at)
+        lock(alloc, dialect, line, at)
     }
 }
 
@@ -227,10 +261,11 @@ impl Item for ReadArgument {
 
     fn read(
         alloc: Global,
+        dialect: Dialect,
         line: &[u8],
         at: usize,
     ) -> Result<(ReadArgument, usize), Failure<Fault>> {
-        read_argument(alloc, line, at)
+        read_argument(alloc, dialect, line, at)
     }
 }
 
@@ -239,16 +274,17 @@ impl Item for WriteArgument {
 
     ghost seen = { write_of };
 
-    ghost is = { IsWrite };
+    ghost is = { λ d. IsWrite };
 
     ghost ends = { WriteEnds };
 
     ghost stop = { write_stop };
 
-    ghost begin = { write_begins };
+    ghost begin = { λ d. write_begins };
 
     fn read(
         alloc: Global,
+        _dialect: Dialect,
         line: &[u8],
         at: usize,
     ) -> Result<(WriteArgument, usize), Failure<Fault>> {
@@ -261,17 +297,22 @@ impl Item for Target {
 
     ghost seen = { target_of };
 
-    ghost is = { IsTarget };
+    ghost is = { λ d. IsTarget };
 
     ghost ends = { TargetEnds };
 
     ghost stop = { target_stop };
 
-    ghost begin = { target_begins };
+    ghost begin = { λ d. target_begins };
 
     #[inline(always)]
-    fn read(alloc: Global, line: &[u8], at: usize) -> Result<(Target, usize), Failure<Fault>> {
-        target(alloc, line, at)
+    fn read(
+        alloc: Global,
+        dialect: Dialect,
+        line: &[u8],
+        at: usize,
+    ) -> Result<(Target, usize), Failure<Fault>> {
+        target(alloc, dialect, line, at)
     }
 }
 
@@ -280,16 +321,21 @@ impl Item for SetArgument {
 
     ghost seen = { set_of };
 
-    ghost is = { IsSet };
+    ghost is = { λ d. IsSet };
 
     ghost ends = { SetEnds };
 
     ghost stop = { set_stop };
 
-    ghost begin = { set_begins };
+    ghost begin = { λ d. set_begins };
 
     #[inline(always)]
-    fn read(alloc: Global, line: &[u8], at: usize) -> Result<(SetArgument, usize), Failure<Fault>> {
-        set(alloc, line, at)
+    fn read(
+        alloc: Global,
+        dialect: Dialect,
+        line: &[u8],
+        at: usize,
+    ) -> Result<(SetArgument, usize), Failure<Fault>> {
+        set(alloc, dialect, line, at)
     }
 }

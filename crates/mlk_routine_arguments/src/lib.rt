@@ -10,6 +10,7 @@ mod items;
 mod lock;
 mod parameter;
 mod part;
+mod quiet;
 mod run;
 mod set;
 mod spacing;

@@ -2,7 +2,7 @@
 
 ghost use Rattle.std.specs.Prelude.{◌≡◌, ◌≤◌, length, Some, true, false};
 ghost use Rattle.mlk_syntax.specs.ExprTrees.{tree_of};
-ghost use Rattle.mlk_routine_arguments.specs.Told.{Told, byte_at};
+ghost use Rattle.mlk_routine_arguments.specs.PartsRead.{ReadsPart, byte_at};
 ghost use Rattle.mlk_routine_arguments.specs.Ends.{ParameterEnds, ControlEnds};
 ghost use Rattle.mlk_syntax.specs.Views.{parameter_of, control_of};
 ghost use Rattle.mlk_routine_arguments.specs.CommandGrammar.{IsParameter, IsControl};
@@ -10,6 +10,7 @@ ghost use Rattle.mlk_routine_arguments.specs.CommandGrammar.{IsParameter, IsCont
 use crate::fault::{leaves_out, refusal_at};
 use crate::item::item_list;
 use crate::part::{expr_after, expression, has_byte, name};
+use mlk_dialect::Dialect;
 use mlk_expr::Allows;
 use mlk_syntax::{Control, Parameter};
 use mlk_text::{Code, Column, Failure, Fault, LeftOut};
@@ -22,7 +23,7 @@ pub(crate) fn parameter(
     at: usize,
 ) -> Result<(Parameter, usize), Failure<Fault>>
     requires { at ≤ length line.now }
-    ensures { Told parameter_of IsParameter ParameterEnds line.now at result }
+    ensures { ReadsPart parameter_of IsParameter ParameterEnds line.now at result }
 {
     let (start, next) = expression(alloc, Allows::Everything, line, at)?;
     let (step, next) = expr_after(alloc, b':', Allows::Everything, line, next)?;
@@ -37,9 +38,14 @@ pub(crate) fn parameter(
 }
 
 /// Reads FOR's variable and its parameters: both, and the byte after them. A variable with subscripts is refused as not read.
-pub fn control(alloc: Global, line: &[u8], at: usize) -> Result<(Control, usize), Failure<Fault>>
+pub fn control(
+    alloc: Global,
+    dialect: Dialect,
+    line: &[u8],
+    at: usize,
+) -> Result<(Control, usize), Failure<Fault>>
     requires { at ≤ length line.now }
-    ensures { Told control_of IsControl ControlEnds line.now at result }
+    ensures { ReadsPart control_of IsControl ControlEnds line.now at result }
 {
     let (variable, next) = name(alloc, line, at)?;
     if has_byte(line, next, b'(') {
@@ -48,7 +54,7 @@ pub fn control(alloc: Global, line: &[u8], at: usize) -> Result<(Control, usize)
     if !has_byte(line, next, b'=') {
         return Err(refusal_at(alloc, Code::ArgumentForm, next));
     }
-    let (parameters, next) = item_list(alloc, line, next + 1)?;
+    let (parameters, next) = item_list(alloc, dialect, line, next + 1)?;
     let column = Column::at(at + 1);
     Ok((
         Control {

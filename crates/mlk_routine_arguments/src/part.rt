@@ -4,7 +4,7 @@ ghost use Rattle.std.specs.Prelude.{◌≡◌, ◌≤◌, length, drop, option_m
 ghost use Rattle.mlk_syntax.specs.ExprTrees.{tree_of, actual_trees};
 ghost use Rattle.mlk_expr.specs.Grammar.{IsExprWhere, IsNameText};
 ghost use Rattle.mlk_expr.specs.Theorem.{ExprEnds, LabelEnds};
-ghost use Rattle.mlk_routine_arguments.specs.Told.{Told, byte_at};
+ghost use Rattle.mlk_routine_arguments.specs.PartsRead.{ReadsPart, byte_at};
 ghost use Rattle.mlk_routine_arguments.specs.Ends.{is_stop, AfterEnds, VariableEnds};
 ghost use Rattle.mlk_syntax.specs.Views.{variable_of, call_of};
 ghost use Rattle.mlk_routine_arguments.specs.CommandGrammar.{IsAfter, IsVariable, IsCall};
@@ -50,7 +50,7 @@ pub fn expression(
     at: usize,
 ) -> Result<(Expr, usize), Failure<Fault>>
     requires { at ≤ length line.now }
-    ensures { Told tree_of (IsExprWhere allows) ExprEnds line.now at result }
+    ensures { ReadsPart tree_of (IsExprWhere allows) ExprEnds line.now at result }
 {
     match read_expr_where(alloc, allows, line, at) {
         Ok(read) => Ok(read),
@@ -69,7 +69,7 @@ pub fn expr_after(
     at: usize,
 ) -> Result<(Option<Expr>, usize), Failure<Fault>>
     requires { at ≤ length line.now }
-    ensures { Told (option_map tree_of) (IsAfter first allows) (AfterEnds first) line.now at result }
+    ensures { ReadsPart (option_map tree_of) (IsAfter first allows) (AfterEnds first) line.now at result }
 {
     if !has_byte(line, at, first) {
         return Ok((None, at));
@@ -87,7 +87,7 @@ pub(crate) fn variable(
     at: usize,
 ) -> Result<(Variable, usize), Failure<Fault>>
     requires { at ≤ length line.now }
-    ensures { Told variable_of (IsVariable allows) VariableEnds line.now at result }
+    ensures { ReadsPart variable_of (IsVariable allows) VariableEnds line.now at result }
 {
     let (_, bytes) = line.split_at(at);
     if !has_byte(line, at, b'@') && !starts_reference(bytes) {
@@ -109,7 +109,7 @@ pub(crate) fn variable(
 /// Reads the name at `at`: the name, and the byte after it.
 pub(crate) fn name(alloc: Global, line: &[u8], at: usize) -> Result<(Name, usize), Failure<Fault>>
     requires { at ≤ length line.now }
-    ensures { Told (λ n. n) IsNameText LabelEnds line.now at result }
+    ensures { ReadsPart (λ n. n) IsNameText LabelEnds line.now at result }
 {
     match read_name(alloc, line, at) {
         Ok(read) => Ok(read),

@@ -3,7 +3,7 @@
 ghost use Rattle.std.specs.Prelude.{◌≡◌, ◌≤◌, length};
 ghost use Rattle.std.specs.List.{prefix_len};
 ghost use Rattle.mlk_text.specs.Lexemes.{is_text_byte};
-ghost use Rattle.mlk_routine_arguments.specs.Told.{Found};
+ghost use Rattle.mlk_routine_arguments.specs.PartsRead.{Found};
 ghost use Rattle.mlk_routine_arguments.specs.Ends.{IsRun, RunEnds};
 ghost use Rattle.mlk_routine_arguments.specs.CommandGrammar.{is_mark, is_space};
 

@@ -5,7 +5,7 @@ ghost use Rattle.mlk_expr.specs.declared.context.Allows.TheVariants.{NoCalls};
 ghost use Rattle.mlk_syntax.specs.ExprTrees.{Tree, tree_of, trees};
 ghost use Rattle.mlk_expr.specs.Grammar.{AreNext, IsExprWhere};
 ghost use Rattle.mlk_expr.specs.Theorem.{ExprEnds};
-ghost use Rattle.mlk_routine_arguments.specs.Told.{Told, IsRefusal, byte_at};
+ghost use Rattle.mlk_routine_arguments.specs.PartsRead.{ReadsPart, IsRefusal, byte_at};
 ghost use Rattle.mlk_routine_arguments.specs.Faults.{IsFaulty};
 ghost use Rattle.mlk_routine_arguments.specs.Stops.{expr_stop};
 ghost use Rattle.mlk_routine_arguments.specs.Begins.{expr_begins};
@@ -16,6 +16,7 @@ ghost use Rattle.mlk_routine_arguments.specs.CommandGrammar.{is_part_word, IsOne
 use crate::fault::{leaves_out, refusal_at};
 use crate::item::{Item, enclosed_items, item_list};
 use crate::part::{expression, has_byte, variable};
+use mlk_dialect::Dialect;
 use mlk_expr::Allows;
 use mlk_expr_tokens::words::{function_of, is_either, is_select};
 use mlk_syntax::{Expr, Part, SetArgument, Several, Target};
@@ -62,7 +63,7 @@ fn no_part(alloc: Global, word: &[u8], after: &[u8], at: usize) -> Failure<Fault
 /// Reads the function of a target at its `$`: the function, and the byte after the opening parenthesis.
 fn opening(alloc: Global, line: &[u8], at: usize) -> Result<(Part, usize), Failure<Fault>>
     requires { byte_at line.now at ≡ Some 36 }
-    ensures { Told (λ part. part) IsPartOpening AnyEnds line.now at result }
+    ensures { ReadsPart (λ part. part) IsPartOpening AnyEnds line.now at result }
 {
     let (_, bytes) = line.split_at(at + 1);
     let (word, after) = word_at(bytes);
@@ -83,15 +84,20 @@ impl Item for CallFree {
 
     ghost seen = { λ item. tree_of item.value };
 
-    ghost is = { IsExprWhere NoCalls };
+    ghost is = { λ d. IsExprWhere NoCalls };
 
     ghost ends = { ExprEnds };
 
     ghost stop = { expr_stop };
 
-    ghost begin = { expr_begins NoCalls };
+    ghost begin = { λ d. expr_begins NoCalls };
 
-    fn read(alloc: Global, line: &[u8], at: usize) -> Result<(CallFree, usize), Failure<Fault>> {
+    fn read(
+        alloc: Global,
+        _dialect: Dialect,
+        line: &[u8],
+        at: usize,
+    ) -> Result<(CallFree, usize), Failure<Fault>> {
         let (value, next) = expression(alloc, Allows::NoCalls, line, at)?;
         Ok((CallFree { value }, next))
     }
@@ -105,27 +111,37 @@ fn expressions(alloc: Global, items: Vec<CallFree>) -> Result<Vec<Expr>, AllocEr
 }
 
 /// Reads the arguments after the variable of a target, each after a comma: the arguments, and the byte after them.
-fn arguments(alloc: Global, line: &[u8], at: usize) -> Result<(Vec<Expr>, usize), Failure<Fault>>
+fn arguments(
+    alloc: Global,
+    dialect: Dialect,
+    line: &[u8],
+    at: usize,
+) -> Result<(Vec<Expr>, usize), Failure<Fault>>
     requires { at ≤ length line.now }
-    ensures { Told (λ v. trees v.items) (AreNext (IsExprWhere NoCalls)) NextEnds line.now at result }
+    ensures { ReadsPart (λ v. trees v.items) (AreNext (IsExprWhere NoCalls)) NextEnds line.now at result }
 {
     if !has_byte(line, at, b',') {
         return Ok((Vec::new(alloc), at));
     }
-    let (items, next) = item_list(alloc, line, at + 1)?;
+    let (items, next) = item_list(alloc, dialect, line, at + 1)?;
     let arguments = expressions(alloc, items)?;
     Ok((arguments, next))
 }
 
 /// Reads a target that is part of a value, at its `$`: the target, and the byte after it.
 #[inline(always)]
-fn part_target(alloc: Global, line: &[u8], at: usize) -> Result<(Target, usize), Failure<Fault>>
+fn part_target(
+    alloc: Global,
+    dialect: Dialect,
+    line: &[u8],
+    at: usize,
+) -> Result<(Target, usize), Failure<Fault>>
     requires { byte_at line.now at ≡ Some 36 }
-    ensures { Told target_of IsTarget TargetEnds line.now at result }
+    ensures { ReadsPart target_of IsTarget TargetEnds line.now at result }
 {
     let (part, next) = opening(alloc, line, at)?;
     let (variable, next) = variable(alloc, Allows::NoCalls, line, next)?;
-    let (arguments, next) = arguments(alloc, line, next)?;
+    let (arguments, next) = arguments(alloc, dialect, line, next)?;
     if !has_byte(line, next, b')') {
         return Err(refusal_at(alloc, Code::ArgumentForm, next));
     }
@@ -137,14 +153,15 @@ fn part_target(alloc: Global, line: &[u8], at: usize) -> Result<(Target, usize),
 #[inline(always)]
 pub(crate) fn target(
     alloc: Global,
+    dialect: Dialect,
     line: &[u8],
     at: usize,
 ) -> Result<(Target, usize), Failure<Fault>>
     requires { at ≤ length line.now }
-    ensures { Told target_of IsTarget TargetEnds line.now at result }
+    ensures { ReadsPart target_of IsTarget TargetEnds line.now at result }
 {
     if has_byte(line, at, b'$') {
-        return part_target(alloc, line, at);
+        return part_target(alloc, dialect, line, at);
     }
     let (whole, next) = variable(alloc, Allows::Everything, line, at)?;
     Ok((Target::Whole(whole), next))
@@ -154,18 +171,19 @@ pub(crate) fn target(
 #[inline(always)]
 fn targets(
     alloc: Global,
+    dialect: Dialect,
     line: &[u8],
     at: usize,
 ) -> Result<(Several<Target>, usize), Failure<Fault>>
     requires { at ≤ length line.now }
-    ensures { Told (λ targets. map target_of targets) (IsOneOrEnclosed IsTarget)
+    ensures { ReadsPart (λ targets. map target_of targets) (IsOneOrEnclosed IsTarget)
         (OneEnds TargetEnds (byte_at line.now at)) line.now at result }
 {
     if has_byte(line, at, b'(') {
-        let (targets, end) = enclosed_items(alloc, line, at)?;
+        let (targets, end) = enclosed_items(alloc, dialect, line, at)?;
         return Ok((Several::of(targets), end));
     }
-    let (only, next) = target(alloc, line, at)?;
+    let (only, next) = target(alloc, dialect, line, at)?;
     Ok((Several::one(only), next))
 }
 
@@ -173,13 +191,14 @@ fn targets(
 #[inline(always)]
 pub(crate) fn set(
     alloc: Global,
+    dialect: Dialect,
     line: &[u8],
     at: usize,
 ) -> Result<(SetArgument, usize), Failure<Fault>>
     requires { at ≤ length line.now }
-    ensures { Told set_of IsSet SetEnds line.now at result }
+    ensures { ReadsPart set_of IsSet SetEnds line.now at result }
 {
-    let (targets, next) = targets(alloc, line, at)?;
+    let (targets, next) = targets(alloc, dialect, line, at)?;
     if !has_byte(line, next, b'=') {
         return Err(refusal_at(alloc, Code::ArgumentForm, next));
     }

@@ -1,7 +1,7 @@
 // The arguments of a command with the space before them: a list after one space, or none.
 
 ghost use Rattle.std.specs.Prelude.{◌≡◌, ◌≤◌, length, map, drop, true};
-ghost use Rattle.mlk_routine_arguments.specs.Told.{Told};
+ghost use Rattle.mlk_routine_arguments.specs.PartsRead.{ReadsPart};
 ghost use Rattle.mlk_routine_arguments.specs.Ends.{is_commands_end, is_command_end, is_bare_end, StopEnds};
 ghost use Rattle.mlk_routine_arguments.specs.CommandWords.{has_any};
 ghost use Rattle.mlk_routine_arguments.specs.Kinds.{IsSpaced};
@@ -10,6 +10,7 @@ ghost use Rattle.mlk_routine_arguments.specs.CommandGrammar.{AreSome, ArePerhaps
 use crate::fault::refusal_at;
 use crate::item::{Item, item_list};
 use crate::part::has_byte;
+use mlk_dialect::Dialect;
 use mlk_text::{Code, Failure, Fault};
 use std::alloc::Global;
 
@@ -67,14 +68,15 @@ pub fn first_argument(alloc: Global, line: &[u8], at: usize) -> Result<usize, Fa
 #[inline(always)]
 pub fn required_arguments<T: Item>(
     alloc: Global,
+    dialect: Dialect,
     line: &[u8],
     at: usize,
 ) -> Result<(Vec<T>, usize), Failure<Fault>>
     requires { at ≤ length line.now }
-    ensures { Told (λ v. map T.seen v.items) (AreSome T.is) (λ items. StopEnds true) line.now at result }
+    ensures { ReadsPart (λ v. map T.seen v.items) (AreSome (T.is dialect)) (λ items. StopEnds true) line.now at result }
 {
     let first = first_argument(alloc, line, at)?;
-    let (items, next) = item_list(alloc, line, first)?;
+    let (items, next) = item_list(alloc, dialect, line, first)?;
     if !is_command_end(line, next) {
         return Err(refusal_at(alloc, Code::Spacing, next));
     }
@@ -85,14 +87,15 @@ pub fn required_arguments<T: Item>(
 #[inline(always)]
 pub fn optional_arguments<T: Item>(
     alloc: Global,
+    dialect: Dialect,
     line: &[u8],
     at: usize,
 ) -> Result<(Vec<T>, usize), Failure<Fault>>
     requires { at ≤ length line.now }
-    ensures { Told (λ v. map T.seen v.items) (ArePerhaps T.is) (λ items. StopEnds (has_any items)) line.now at result }
+    ensures { ReadsPart (λ v. map T.seen v.items) (ArePerhaps (T.is dialect)) (λ items. StopEnds (has_any items)) line.now at result }
 {
     if is_bare(line, at) {
         return Ok((Vec::new(alloc), at));
     }
-    required_arguments(alloc, line, at)
+    required_arguments(alloc, dialect, line, at)
 }

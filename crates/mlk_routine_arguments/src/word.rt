@@ -3,7 +3,7 @@
 ghost use Rattle.std.specs.Prelude.{◌≡◌, ◌≤◌, ◌∷◌, [], ℕ, List, Some, None, if◌then◌else◌, length};
 ghost use Rattle.mlk_expr_tokens.specs.Words.{is_either};
 ghost use Rattle.mlk_routine_arguments.specs.declared.word.Word.TheVariants as command;
-ghost use Rattle.mlk_routine_arguments.specs.Told.{Told, IsRefusal};
+ghost use Rattle.mlk_routine_arguments.specs.PartsRead.{ReadsPart, IsRefusal};
 ghost use Rattle.mlk_routine_arguments.specs.Faults.{IsFaulty};
 ghost use Rattle.mlk_routine_arguments.specs.CommandWords.{is_for};
 ghost use Rattle.mlk_routine_arguments.specs.Kinds.{first_word, word_of, has_condition, IsNamed, WordEnds};
@@ -164,7 +164,7 @@ fn no_word(alloc: Global, word: &[u8], at: usize) -> Failure<Fault>
 /// Reads the word of a command: the command, and the byte after the word.
 pub fn command_word(alloc: Global, line: &[u8], at: usize) -> Result<(Word, usize), Failure<Fault>>
     requires { at ≤ length line.now }
-    ensures { Told (λ w. w) IsNamed WordEnds line.now at result }
+    ensures { ReadsPart (λ w. w) IsNamed WordEnds line.now at result }
 {
     let (_, bytes) = line.split_at(at);
     let (letters, _) = word_at(bytes);

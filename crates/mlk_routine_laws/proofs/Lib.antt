@@ -1,1 +1,2 @@
 pub mod ReadTrees
+pub mod TimedArguments

@@ -6,8 +6,9 @@ use Rattle.std.specs.List.{list_all}
 use Rattle.std.proofs.lemmas.Bool.{and_from}
 use Rattle.std.proofs.lemmas.Bool.Decides.{nat_tests}
 use Rattle.std.proofs.lemmas.List.Elements.{Contains-append_left, Contains-append_right}
+use Rattle.mlk_dialect.specs.declared.dialect.Dialect.{Dialect}
 use Rattle.mlk_text.specs.Spellings.{IsLabel}
-use Rattle.mlk_expr.specs.Grammar.{AreNext, IsList}
+use Rattle.mlk_expr.specs.Grammar.{Spelled, AreNext, IsList}
 use Rattle.mlk_syntax.specs.Distinct.{AreDistinct}
 use Rattle.mlk_syntax.specs.ExprTrees.{LocalName}
 use Rattle.mlk_syntax.specs.Trees.{VariableTree, Named, ReadTree, ReadText, ReadFormat, ReadLine, ReadCharacter}
@@ -30,26 +31,26 @@ labelled (Some label) None s l h is = subst IsLabel (one label l is) h.1
 labelled (Some label) (Some formals) s l h is = subst IsLabel (one label l is) h.2
 
 -- what holds of each line that is written holds of each line of a routine
-each_line : (P : HeadTree → Type 0) → ((n : ℕ) (head : HeadTree) (s : List ℕ) → IsLine n head s → P head)
-    → (n : ℕ) (heads : List HeadTree) (texts : List (List ℕ)) → AreLines n heads texts → (head : HeadTree) → Contains heads head → P head
-each_line P written n [] texts h head c = let low = c.1 in absurd (omega (arith, low))
-each_line P written n (first ∷ heads) texts (s, rest, is, good, more) head (zero, low, same) =
+pub each_line : (d : Dialect) (P : HeadTree → Type 0) → ((n : ℕ) (head : HeadTree) (s : List ℕ) → IsLine d n head s → P head)
+    → (n : ℕ) (heads : List HeadTree) (texts : List (List ℕ)) → AreLines d n heads texts → (head : HeadTree) → Contains heads head → P head
+each_line d P written n [] texts h head c = let low = c.1 in absurd (omega (arith, low))
+each_line d P written n (first ∷ heads) texts (s, rest, is, good, more) head (zero, low, same) =
     subst P same (written n first s good)
-each_line P written n (first ∷ heads) texts (s, rest, is, good, more) head (suc k, low, same) =
-    each_line P written (suc n) heads rest more head (k, omega (arith, low), same)
+each_line d P written n (first ∷ heads) texts (s, rest, is, good, more) head (suc k, low, same) =
+    each_line d P written (suc n) heads rest more head (k, omega (arith, low), same)
 
-line_labelled : (n : ℕ) (head : HeadTree) (s : List ℕ) → IsLine n head s → (l : List ℕ) → label_of head ≡ Some l → IsLabel l
-line_labelled n (LineHead number level end label formals commands) s (front, body, is, counted, ended, at, level_is, rest) l own =
+line_labelled : (d : Dialect) (n : ℕ) (head : HeadTree) (s : List ℕ) → IsLine d n head s → (l : List ℕ) → label_of head ≡ Some l → IsLabel l
+line_labelled d n (LineHead number level end label formals commands) s (front, body, is, counted, ended, at, level_is, rest) l own =
     labelled label formals front l at own
 
 distinct_names : (names : List (List ℕ)) (s : List ℕ) → IsFormals names s → AreDistinct names
 distinct_names [] s h = tt
 distinct_names (n ∷ names) s (inner, enclosed, are, distinct) = distinct
 
-line_differs : (n : ℕ) (head : HeadTree) (s : List ℕ) → IsLine n head s → AreDistinct (formals_in head)
-line_differs n (LineHead number level end label None commands) s h = tt
-line_differs n (LineHead number level end None (Some formals) commands) s (front, body, is, counted, ended, at, level_is, rest) = absurd at
-line_differs n (LineHead number level end (Some label) (Some formals) commands) s (front, body, is, counted, ended, (list, joined, spelled, good), level_is, rest) =
+line_differs : (d : Dialect) (n : ℕ) (head : HeadTree) (s : List ℕ) → IsLine d n head s → AreDistinct (formals_in head)
+line_differs d n (LineHead number level end label None commands) s h = tt
+line_differs d n (LineHead number level end None (Some formals) commands) s (front, body, is, counted, ended, at, level_is, rest) = absurd at
+line_differs d n (LineHead number level end (Some label) (Some formals) commands) s (front, body, is, counted, ended, (list, joined, spelled, good), level_is, rest) =
     distinct_names formals list good
 
 among : (lines : LineTrees) (l : HeadTree × LineTrees) → Contains (as_lines lines) l → Contains (heads_of lines) l.0
@@ -60,37 +61,37 @@ among (line head block rest) l (suc k, low, same) =
 
 pub routines-spelled : RoutinesSpelled
 unfolding IsRoutine
-routines-spelled stem text (Named_routine name lines) (texts, stemmed, named, small, cut, few, good, nested, distinct) =
-    (named, λ l label c own. each_line (λ head. (l : List ℕ) → label_of head ≡ Some l → IsLabel l) line_labelled 1 (heads_of lines) texts good l.0 (among lines l c) label own)
+routines-spelled d stem text (Named_routine name lines) (texts, stemmed, named, small, cut, few, good, nested, distinct) =
+    (named, λ l label c own. each_line d (λ head. (l : List ℕ) → label_of head ≡ Some l → IsLabel l) (line_labelled d) 1 (heads_of lines) texts good l.0 (among lines l c) label own)
 
 -- QUIT has a value only where it may
 no : {A : Type 0} → false ≡ true → A
 no h = absurd (cc h)
 
-quits : (may : Bool) (at : ℕ) (c : CommandTree) (s : List ℕ) → IsCommand may at c s → answers c ≡ true → may ≡ true
-quits may at (Does column condition (Quit (Some t))) s (is, conditioned, (front, rest, joined, word, (front', rest', joined', cond, (returns, more)))) h = returns
-quits may at (Does column condition (Do calls)) s is h = no h
-quits may at (Does column condition Else) s is h = no h
-quits may at (Does column condition Halt) s is h = no h
-quits may at (Does column condition (Hang times)) s is h = no h
-quits may at (Does column condition (If conditions)) s is h = no h
-quits may at (Does column condition (Job calls)) s is h = no h
-quits may at (Does column condition (Kill kills)) s is h = no h
-quits may at (Does column condition (Lock locks)) s is h = no h
-quits may at (Does column condition (Merge merges)) s is h = no h
-quits may at (Does column condition (New news)) s is h = no h
-quits may at (Does column condition (Quit None)) s is h = no h
-quits may at (Does column condition (Read reads)) s is h = no h
-quits may at (Does column condition (Set sets)) s is h = no h
-quits may at (Does column condition (Write writes)) s is h = no h
+quits : (d : Dialect) (may : Bool) (at : ℕ) (c : CommandTree) (s : List ℕ) → IsCommand d may at c s → answers c ≡ true → may ≡ true
+quits d may at (Does column condition (Quit (Some t))) s (is, conditioned, (front, rest, joined, word, (front', rest', joined', cond, (returns, more)))) h = returns
+quits d may at (Does column condition (Do calls)) s is h = no h
+quits d may at (Does column condition Else) s is h = no h
+quits d may at (Does column condition Halt) s is h = no h
+quits d may at (Does column condition (Hang times)) s is h = no h
+quits d may at (Does column condition (If conditions)) s is h = no h
+quits d may at (Does column condition (Job calls)) s is h = no h
+quits d may at (Does column condition (Kill kills)) s is h = no h
+quits d may at (Does column condition (Lock locks)) s is h = no h
+quits d may at (Does column condition (Merge merges)) s is h = no h
+quits d may at (Does column condition (New news)) s is h = no h
+quits d may at (Does column condition (Quit None)) s is h = no h
+quits d may at (Does column condition (Read reads)) s is h = no h
+quits d may at (Does column condition (Set sets)) s is h = no h
+quits d may at (Does column condition (Write writes)) s is h = no h
 
 -- and none behind a FOR
-answer_at_end : (level loops at : ℕ) (cs : CommandTrees) (s : List ℕ) → AreCommands level loops at cs s → AnswersAtEnd ((level == 1) && (loops == 0)) cs
-answer_at_end level loops at finished s h = tt
-answer_at_end level loops at (then_command c rest) s (text, gap, following, joined, is, gapped, more) =
-    (quits ((level == 1) && (loops == 0)) at c text is, answer_at_end level loops _ rest following more)
-answer_at_end level loops at (then_for column index control rest) s (text, gap, following, joined, head, counted, few, gapped, more) =
-    subst (λ b. AnswersAtEnd b rest) (none_behind level loops) (answer_at_end level (suc loops) _ rest following more)
+answer_at_end : (d : Dialect) (level loops at : ℕ) (cs : CommandTrees) (s : List ℕ) → AreCommands d level loops at cs s → AnswersAtEnd ((level == 1) && (loops == 0)) cs
+answer_at_end d level loops at finished s h = tt
+answer_at_end d level loops at (then_command c rest) s (text, gap, following, joined, is, gapped, more) =
+    (quits d ((level == 1) && (loops == 0)) at c text is, answer_at_end d level loops _ rest following more)
+answer_at_end d level loops at (then_for column index control rest) s (text, gap, following, joined, head, counted, few, gapped, more) =
+    subst (λ b. AnswersAtEnd b rest) (none_behind level loops) (answer_at_end d level (suc loops) _ rest following more)
   where
     none_behind : (level loops : ℕ) → ((level == 1) && (suc loops == 0)) ≡ false
     none_behind level loops = grind (arith, nat_tests)
@@ -101,18 +102,18 @@ commands_of (LineHead number level end label formals commands) = commands
 abbrev AnswersRight : HeadTree → Type 0
 AnswersRight head = AnswersAtEnd (level_of head == 1) (commands_of head)
 
-body_answers : (level at : ℕ) (cs : CommandTrees) (s : List ℕ) → IsBody level at cs s → AnswersAtEnd (level == 1) cs
-body_answers level at cs s (inl (first, none, comment)) = subst (AnswersAtEnd (level == 1)) (sym none) tt
-body_answers level at cs s (inr (periods, start, text, comment, joined, is, few, started, are, after)) =
-    subst (λ b. AnswersAtEnd b cs) (no_loops (level == 1)) (answer_at_end level 0 _ cs text are)
+body_answers : (d : Dialect) (level at : ℕ) (cs : CommandTrees) (s : List ℕ) → IsBody d level at cs s → AnswersAtEnd (level == 1) cs
+body_answers d level at cs s (inl (first, none, comment)) = subst (AnswersAtEnd (level == 1)) (sym none) tt
+body_answers d level at cs s (inr (periods, start, text, comment, joined, is, few, started, are, after)) =
+    subst (λ b. AnswersAtEnd b cs) (no_loops (level == 1)) (answer_at_end d level 0 _ cs text are)
   where
     no_loops : (b : Bool) → (b && true) ≡ b
     no_loops true = refl
     no_loops false = refl
 
-line_answers : (n : ℕ) (head : HeadTree) (s : List ℕ) → IsLine n head s → AnswersRight head
-line_answers n (LineHead number level end label formals commands) s (front, body, joined, counted, ended, labelled, leveled, is) =
-    body_answers level _ commands body is
+line_answers : (d : Dialect) (n : ℕ) (head : HeadTree) (s : List ℕ) → IsLine d n head s → AnswersRight head
+line_answers d n (LineHead number level end label formals commands) s (front, body, joined, counted, ended, labelled, leveled, is) =
+    body_answers d level _ commands body is
 
 -- the lines of a block, and those after it, are among all lines
 later : {A : Type 0} (first a : A) (others : List A) → Contains others a → Contains (first ∷ others) a
@@ -141,56 +142,59 @@ leveled level (line head block rest) low (at, reached, below, more) each = (
     deeper : (level : ℕ) → 0 < level → (suc level == 1) ≡ false
     deeper level low = grind (arith, nat_tests, low)
 
+-- what holds of each item that is written holds of all items of a list
+next_hold : {A : Type 0} (Is : Spelled A) (holds : A → Bool) → ((at : ℕ) (a : A) (s : List ℕ) → Is at a s → holds a ≡ true)
+    → (items : List A) (at : ℕ) (s : List ℕ) → AreNext Is at items s → list_all holds items ≡ true
+next_hold Is holds each [] at s is = refl
+next_hold Is holds each (a ∷ items) at s (front, rest, joined, is, more) =
+    and_from (holds a) (list_all holds items) (each _ a front is) (next_hold Is holds each items _ rest more)
+
+pub list_holds : {A : Type 0} (Is : Spelled A) (holds : A → Bool) → ((at : ℕ) (a : A) (s : List ℕ) → Is at a s → holds a ≡ true)
+    → (items : List A) (at : ℕ) (s : List ℕ) → IsList Is at items s → list_all holds items ≡ true
+list_holds Is holds each items at s (first, others, front, rest, same, joined, is, more) =
+    subst (λ xs. list_all holds xs ≡ true) (sym same)
+    (and_from (holds first) (list_all holds others) (each at first front is) (next_hold Is holds each others _ rest more))
+
 -- READ is into locals only
 local : (v : VariableTree) → grammar.is_local v ≡ true → is_local v ≡ true
 local (Named column (LocalName name subs)) h = refl
 local (Named column other) h = no h
 
-argument_reads : (at : ℕ) (r : ReadTree) (s : List ℕ) → IsRead at r s → reads_local r ≡ true
-argument_reads at (ReadText prompt) s is = refl
-argument_reads at (ReadFormat tab) s is = refl
-argument_reads at (ReadLine v most timeout) s (front, rest, joined, (variable, of), more) = local v of
-argument_reads at (ReadCharacter v timeout) s (after, star, (front, rest, joined, (variable, of), more)) = local v of
+argument_reads : (d : Dialect) (at : ℕ) (r : ReadTree) (s : List ℕ) → IsRead d at r s → reads_local r ≡ true
+argument_reads d at (ReadText prompt) s is = refl
+argument_reads d at (ReadFormat tab) s is = refl
+argument_reads d at (ReadLine v most timeout) s (front, rest, joined, (variable, of), more) = local v of
+argument_reads d at (ReadCharacter v timeout) s (after, star, (front, rest, joined, (variable, of), more)) = local v of
 
-next_reads : (reads : List ReadTree) (at : ℕ) (s : List ℕ) → AreNext IsRead at reads s → list_all reads_local reads ≡ true
-next_reads [] at s is = refl
-next_reads (r ∷ reads) at s (front, rest, joined, is, more) =
-    and_from (reads_local r) (list_all reads_local reads) (argument_reads _ r front is) (next_reads reads _ rest more)
+command_reads : (d : Dialect) (may : Bool) (at : ℕ) (c : CommandTree) (s : List ℕ) → IsCommand d may at c s → reads_locals c ≡ true
+command_reads d may at (Does column condition (Read reads)) s (is, conditioned, (front, rest, joined, word, (front', rest', joined', cond, (after, space, list)))) = list_holds (IsRead d) reads_local (argument_reads d) reads _ after list
+command_reads d may at (Does column condition (Do calls)) s is = refl
+command_reads d may at (Does column condition Else) s is = refl
+command_reads d may at (Does column condition Halt) s is = refl
+command_reads d may at (Does column condition (Hang times)) s is = refl
+command_reads d may at (Does column condition (If conditions)) s is = refl
+command_reads d may at (Does column condition (Job calls)) s is = refl
+command_reads d may at (Does column condition (Kill kills)) s is = refl
+command_reads d may at (Does column condition (Lock locks)) s is = refl
+command_reads d may at (Does column condition (Merge merges)) s is = refl
+command_reads d may at (Does column condition (New news)) s is = refl
+command_reads d may at (Does column condition (Quit value)) s is = refl
+command_reads d may at (Does column condition (Set sets)) s is = refl
+command_reads d may at (Does column condition (Write writes)) s is = refl
 
-list_reads : (reads : List ReadTree) (at : ℕ) (s : List ℕ) → IsList IsRead at reads s → list_all reads_local reads ≡ true
-list_reads reads at s (first, others, front, rest, same, joined, is, more) =
-    subst (λ rs. list_all reads_local rs ≡ true) (sym same)
-    (and_from (reads_local first) (list_all reads_local others) (argument_reads at first front is) (next_reads others _ rest more))
+commands_read : (d : Dialect) (level loops at : ℕ) (cs : CommandTrees) (s : List ℕ) → AreCommands d level loops at cs s → ReadsLocals cs
+commands_read d level loops at finished s h = tt
+commands_read d level loops at (then_command c rest) s (text, gap, following, joined, is, gapped, more) =
+    (command_reads d ((level == 1) && (loops == 0)) at c text is, commands_read d level loops _ rest following more)
+commands_read d level loops at (then_for column index control rest) s (text, gap, following, joined, head, counted, few, gapped, more) =
+    commands_read d level (suc loops) _ rest following more
 
-command_reads : (may : Bool) (at : ℕ) (c : CommandTree) (s : List ℕ) → IsCommand may at c s → reads_locals c ≡ true
-command_reads may at (Does column condition (Read reads)) s (is, conditioned, (front, rest, joined, word, (front', rest', joined', cond, (after, space, list)))) = list_reads reads _ after list
-command_reads may at (Does column condition (Do calls)) s is = refl
-command_reads may at (Does column condition Else) s is = refl
-command_reads may at (Does column condition Halt) s is = refl
-command_reads may at (Does column condition (Hang times)) s is = refl
-command_reads may at (Does column condition (If conditions)) s is = refl
-command_reads may at (Does column condition (Job calls)) s is = refl
-command_reads may at (Does column condition (Kill kills)) s is = refl
-command_reads may at (Does column condition (Lock locks)) s is = refl
-command_reads may at (Does column condition (Merge merges)) s is = refl
-command_reads may at (Does column condition (New news)) s is = refl
-command_reads may at (Does column condition (Quit value)) s is = refl
-command_reads may at (Does column condition (Set sets)) s is = refl
-command_reads may at (Does column condition (Write writes)) s is = refl
+body_reads : (d : Dialect) (level at : ℕ) (cs : CommandTrees) (s : List ℕ) → IsBody d level at cs s → ReadsLocals cs
+body_reads d level at cs s (inl (first, none, comment)) = subst ReadsLocals (sym none) tt
+body_reads d level at cs s (inr (periods, start, text, comment, joined, is, few, started, are, after)) = commands_read d level 0 _ cs text are
 
-commands_read : (level loops at : ℕ) (cs : CommandTrees) (s : List ℕ) → AreCommands level loops at cs s → ReadsLocals cs
-commands_read level loops at finished s h = tt
-commands_read level loops at (then_command c rest) s (text, gap, following, joined, is, gapped, more) =
-    (command_reads ((level == 1) && (loops == 0)) at c text is, commands_read level loops _ rest following more)
-commands_read level loops at (then_for column index control rest) s (text, gap, following, joined, head, counted, few, gapped, more) =
-    commands_read level (suc loops) _ rest following more
-
-body_reads : (level at : ℕ) (cs : CommandTrees) (s : List ℕ) → IsBody level at cs s → ReadsLocals cs
-body_reads level at cs s (inl (first, none, comment)) = subst ReadsLocals (sym none) tt
-body_reads level at cs s (inr (periods, start, text, comment, joined, is, few, started, are, after)) = commands_read level 0 _ cs text are
-
-line_reads : (n : ℕ) (head : HeadTree) (s : List ℕ) → IsLine n head s → HeadReadsLocals head
-line_reads n (LineHead number level end label formals commands) s (front, body, joined, counted, ended, at, level_is, is) = body_reads level _ commands body is
+line_reads : (d : Dialect) (n : ℕ) (head : HeadTree) (s : List ℕ) → IsLine d n head s → HeadReadsLocals head
+line_reads d n (LineHead number level end label formals commands) s (front, body, joined, counted, ended, at, level_is, is) = body_reads d level _ commands body is
 
 lines_read : (lines : LineTrees) → ((head : HeadTree) → Contains (heads_of lines) head → HeadReadsLocals head) → LinesReadLocals lines
 lines_read no_lines each = tt
@@ -202,8 +206,8 @@ lines_read (line head block rest) each = (
 
 pub well-formed : WellFormed
 unfolding IsRoutine
-well-formed stem text (Named_routine name lines) (texts, stemmed, named, small, cut, few, good, nested, distinct) = record {
-  levels = leveled 1 lines (omega arith) nested (each_line AnswersRight line_answers 1 (heads_of lines) texts good);
-  formals = λ l c. each_line (λ head. AreDistinct (formals_in head)) line_differs 1 (heads_of lines) texts good l.0 (among lines l c);
-  reads = lines_read lines (each_line HeadReadsLocals line_reads 1 (heads_of lines) texts good);
+well-formed d stem text (Named_routine name lines) (texts, stemmed, named, small, cut, few, good, nested, distinct) = record {
+  levels = leveled 1 lines (omega arith) nested (each_line d AnswersRight (line_answers d) 1 (heads_of lines) texts good);
+  formals = λ l c. each_line d (λ head. AreDistinct (formals_in head)) (line_differs d) 1 (heads_of lines) texts good l.0 (among lines l c);
+  reads = lines_read lines (each_line d HeadReadsLocals (line_reads d) 1 (heads_of lines) texts good);
 }

@@ -1,5 +1,6 @@
 -- Laws of routines that were read.
 use Rattle.std.specs.Prelude.{ℕ, List}
+use Rattle.mlk_dialect.specs.declared.dialect.Dialect.{Dialect}
 use Rattle.mlk_syntax.specs.Trees.{RoutineTree}
 use Rattle.mlk_routine.specs.RoutineGrammar.{IsRoutine}
 use Rattle.mlk_program.specs.Laws.{IsSpelled}
@@ -7,8 +8,8 @@ use Rattle.mlk_machine_laws.specs.WellFormed.{IsWellFormed}
 
 -- The names and labels of routines that were read have the right form.
 abbrev pub RoutinesSpelled : Type 0
-RoutinesSpelled = (stem text : List ℕ) (tree : RoutineTree) → IsRoutine stem tree text → IsSpelled tree
+RoutinesSpelled = (d : Dialect) (stem text : List ℕ) (tree : RoutineTree) → IsRoutine d stem tree text → IsSpelled tree
 
 -- Every tree that a text spells is well formed.
 abbrev pub WellFormed : Type 0
-WellFormed = (stem text : List ℕ) (tree : RoutineTree) → IsRoutine stem tree text → IsWellFormed tree
+WellFormed = (d : Dialect) (stem text : List ℕ) (tree : RoutineTree) → IsRoutine d stem tree text → IsWellFormed tree

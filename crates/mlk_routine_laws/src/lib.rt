@@ -3,4 +3,4 @@
 
 mod law;
 
-pub use law::{routines_spelled, well_formed};
+pub use law::{routines_spelled, timeouts_in_any_order, well_formed};

@@ -8,7 +8,7 @@ use Rattle.mlk_names.specs.declared.reference.Extent.TheVariants.{Node, Tree}
 use Rattle.mlk_names.specs.declared.reference.Reference.{Reference}
 use Rattle.mlk_names.specs.Lists.{Begins}
 use Rattle.mlk_names.specs.References.{GlobalNode, Region, InRegion, MayBe, MayReach, Reaches}
-use Rattle.mlk_names.proofs.ListLemmas.{begins_two}
+use Rattle.mlk_names.proofs.ListLemmas.{begins_two, begins_on}
 use Rattle.mlk_names.proofs.OverlapLemmas.{may_touch, reaches_itself}
 use Rattle.mlk_rules.specs.declared.pattern.Element.{Element}
 use Rattle.mlk_rules.specs.declared.pattern.Element.TheVariants as element
@@ -17,7 +17,7 @@ use Rattle.mlk_rules.specs.declared.rules.RuleLists.{RuleLists}
 use Rattle.mlk_rules.specs.Patterns.{Takes, LiesIn, Suits, StaysIn, SurelyLies, SurelyAbove}
 use Rattle.mlk_rules.specs.Coverage.{IsPattern, IsRuled}
 use Rattle.mlk_rules.specs.Laws.{SurelyLiesWhole, SharesPattern, SharePattern}
-use Rattle.mlk_rules.proofs.Places.{zip_split, zip_append, zip_through, begins_trans, begins_more}
+use Rattle.mlk_rules.proofs.Places.{zip_split, zip_append, zip_through, begins_more}
 
 -- an element takes each value of a symbol that suits it
 takes : (e : Element) (s : Sym) (v : List ℕ) → Suits e s → MayBe s v → Takes e v
@@ -29,7 +29,7 @@ takes element.Job s v suits may = tt
 -- what reaches no further than the pattern reaches only what the pattern does
 stays : (near far : Extent) (rest : List Sym) (own more ws : List (List ℕ)) → StaysIn near far rest → AllZip MayBe rest more → Reaches far (own ++ more) ws → Reaches near own ws
 stays Tree Node rest own more ws s z h = record { tail = more; is = sym h }
-stays Tree Tree rest own more ws s z h = begins_trans own (own ++ more) ws (begins_more own more) h
+stays Tree Tree rest own more ws s z h = begins_on own (own ++ more) ws (begins_more own more) h
 stays Node Node [] own [] ws s z h = h ∙ append-nil own
 stays Node Node [] own (v ∷ more) ws s z h = absurd z
 stays Node Node (x ∷ rest) own more ws s z h = cc
@@ -87,7 +87,7 @@ meets_below rules r s t u q is above m k tree root b =
     let more : Begins u.node.subs (u.node.subs ++ w.more) = begins_more u.node.subs w.more in
     let first : InRegion t node = record {
       root = sym (root ∙ k.root ∙ above.root);
-      subs = subst R (sym (m.extent ∙ tree)) (begins_trans t.node.subs u.node.subs node.subs b more);
+      subs = subst R (sym (m.extent ∙ tree)) (begins_on t.node.subs u.node.subs node.subs b more);
     } in
     let second : InRegion u node = record { root = sym (k.root ∙ above.root); subs = subst S (sym (k.extent ∙ above.tree)) more } in
     record {

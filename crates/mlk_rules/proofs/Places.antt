@@ -1,5 +1,5 @@
 -- Lists element by element.
-use Rattle.std.proofs.Common.{◌≡◌, ℕ, zero, suc, List, [], ◌∷◌, ◌++◌, Some, refl, sym, ap, ◌∙◌, subst, append_assoc}
+use Rattle.std.proofs.Common.{◌≡◌, ℕ, zero, suc, List, [], ◌∷◌, ◌++◌, Some, refl, ap, subst}
 use Rattle.std.specs.Prelude.{slice_get}
 use Rattle.std.specs.List.{AllZip}
 use Rattle.mlk_names.specs.Lists.{Begins}
@@ -49,12 +49,6 @@ begins_at [] ys k x b e = cc
 begins_at (x' ∷ xs) [] k x b e = absurd (begins_past x' xs b)
 begins_at (x' ∷ xs) (y ∷ ys) zero x b e = let d : x' ≡ y = begins_head x' y xs ys b in cc
 begins_at (x' ∷ xs) (y ∷ ys) (suc k) x b e = begins_at xs ys k x (begins_tail x' y xs ys b) e
-
-pub begins_trans : {X : Type 0} (xs ys zs : List X) → Begins xs ys → Begins ys zs → Begins xs zs
-begins_trans xs ys zs b c =
-    let i : xs ++ b.tail ≡ ys = b.is in
-    let j : ys ++ c.tail ≡ zs = c.is in
-    record { tail = b.tail ++ c.tail; is = sym (append_assoc xs b.tail c.tail) ∙ ap (λ us. us ++ c.tail) i ∙ j }
 
 pub begins_more : {X : Type 0} (xs ys : List X) → Begins xs (xs ++ ys)
 begins_more xs ys = record { tail = ys; is = refl }

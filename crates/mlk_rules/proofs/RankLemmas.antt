@@ -14,14 +14,13 @@ use Rattle.mlk_names.specs.Terms.{Names, IsPrefix}
 use Rattle.mlk_names.proofs.NameLemmas.{above_one}
 use Rattle.mlk_names.proofs.TermLemmas.{names_above, prefix_two}
 use Rattle.mlk_names.specs.Lists.{Begins}
-use Rattle.mlk_names.proofs.ListLemmas.{begins_none, begins_past, begins_head, begins_tail, begins_cons}
+use Rattle.mlk_names.proofs.ListLemmas.{begins_none, begins_past, begins_head, begins_tail, begins_cons, begins_on}
 use Rattle.mlk_rules.specs.declared.family.Family.{Family}
 use Rattle.mlk_rules.specs.Ranks.{constant_term, HasRank, NameHasRank, FamiliesApart}
 use Rattle.mlk_rules.specs.Laws.{OneRank}
-use Rattle.mlk_rules.proofs.Places.{begins_trans}
 
 above_trans : (m n o : LockName) → IsAbove m n → IsAbove n o → IsAbove m o
-above_trans m n o h k = record { root = h.root ∙ k.root; subs = begins_trans m.subs n.subs o.subs h.subs k.subs }
+above_trans m n o h k = record { root = h.root ∙ k.root; subs = begins_on m.subs n.subs o.subs h.subs k.subs }
 
 -- constants denote themselves
 constants_stand : (a : Assignment) (vs : List (List ℕ)) → AllZip (λ s v. StandsFor a (sym_of s) v) (map Const vs) vs

@@ -1,7 +1,8 @@
 // Rules grouped by the global of their patterns.
 
 ghost use Rattle.std.specs.Prelude.{◌≡◌, ◌∷◌, ◌++◌, [], IfOk, OnOk, None, option_copied};
-ghost use Rattle.mlk_rules.specs.Groups.{covers_of, patterns_of, of_global, group_of, AreGroups, AreComplete, Gains, GainsAll, NamedByCovers, NamedByPatterns};
+ghost use Rattle.mlk_rules.specs.Groups.{covers_of, patterns_of, of_global, group_of, AreGroups};
+ghost use Rattle.mlk_rules.specs.Groups.{AreComplete, Gains, GainsAll, NamedByCovers, NamedByPatterns};
 
 use crate::cover::Cover;
 use crate::pattern::Pattern;

@@ -25,7 +25,7 @@ fn is_known_as(symbol: &Sym, known: &KnownSym) -> bool
 }
 
 // Whether `part` of a rule's lock is `known` for the subscripts `symbols`.
-fn stands_at(known: &KnownSym, part: &TemplatePart, symbols: &[Sym]) -> bool
+fn is_known_at(known: &KnownSym, part: &TemplatePart, symbols: &[Sym]) -> bool
     ensures { IsTrue result ↔ (symbol_at symbols.now part.now ≡ Some known.now) }
 {
     match part {
@@ -49,7 +49,7 @@ fn begins_cut(known: &[KnownSym], parts: &[TemplatePart], symbols: &[Sym]) -> bo
         let Some((part, other_parts)) = parts.split_first() else {
             return false;
         };
-        if !stands_at(symbol, part, symbols) {
+        if !is_known_at(symbol, part, symbols) {
             return false;
         }
         known = other_symbols;

@@ -1,6 +1,8 @@
 -- The meaning of a rule file, or why it is refused: a text that `RuleGrammar` spells is read accordingly, and any other is
 -- refused with 403. This project's own choice.
-use Rattle.std.specs.Prelude.{ℕ, suc, ℤ, pos, negsuc, ◌≡◌, ◌&&◌, ◌||◌, ◌⊎◌, if◌then◌else◌, nat_lt, nat_le, Bool, true, List, [], ◌∷◌, ◌++◌, Option, Some, None, option_and_then, option_map, codes, bytes_eq, is_some, IsUtf8, Ok, Err}
+use Rattle.std.specs.Prelude.{ℕ, suc, ℤ, pos, negsuc, ◌≡◌, ◌&&◌, ◌||◌, ◌⊎◌, if◌then◌else◌, nat_lt}
+use Rattle.std.specs.Prelude.{nat_le, Bool, true, List, [], ◌∷◌, ◌++◌, Option, Some, None}
+use Rattle.std.specs.Prelude.{option_and_then, option_map, codes, bytes_eq, is_some, IsUtf8, Ok, Err}
 use Rattle.toml.specs.Data.{Data, array, Items, no_items, item, Members, no_members, member, as_str, as_integer, as_table, get_member}
 use Rattle.toml.specs.Parse.{parse_document}
 use Rattle.mlk_text.specs.declared.code.Code.TheVariants as code
@@ -20,7 +22,8 @@ use Rattle.mlk_rules_file.specs.declared.read.kinds.Spelling.{Spelling}
 use Rattle.mlk_rules.specs.Ranks.{FamiliesApart, IsFirstMeeting}
 use Rattle.mlk_rules_file.specs.RuleAnswers.{section_word, Answer, refused, next, answer_map}
 use Rattle.mlk_rules_file.specs.RuleTexts.{spelling_of, pattern_of, is_entry}
-use Rattle.mlk_rules_file.specs.RuleKinds.{is_long, is_family_name, family_name, is_pattern, pattern, is_template, is_second_template, is_long_second, template_of, second_template}
+use Rattle.mlk_rules_file.specs.RuleKinds.{is_long, is_family_name, family_name, is_pattern, pattern, is_template}
+use Rattle.mlk_rules_file.specs.RuleKinds.{is_second_template, is_long_second, template_of, second_template}
 
 -- the keys at the top, and those of the elements of each section
 abbrev pub is_key : Section → List ℕ → Bool

@@ -1,5 +1,6 @@
 -- How a case describes a job. This project's own choice.
-use Rattle.std.specs.Prelude.{◌≡◌, ◌<◌, ◌≤◌, ℕ, ◌+◌, ◌==◌, ◌&&◌, Bool, true, false, List, [], ◌∷◌, ◌++◌, reverse, Option, Some, None, bytes_eq}
+use Rattle.std.specs.Prelude.{◌≡◌, ◌<◌, ◌≤◌, ℕ, ◌+◌, ◌==◌, ◌&&◌, Bool, true, false, List}
+use Rattle.std.specs.Prelude.{[], ◌∷◌, ◌++◌, reverse, Option, Some, None, bytes_eq}
 use Rattle.std.specs.List.{list_any, AllZip}
 use Rattle.mlk_cert_lexemes.specs.Lists.{Each}
 use Rattle.mlk_names.specs.declared.lock_name.LockName.{LockName}

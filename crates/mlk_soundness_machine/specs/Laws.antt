@@ -39,7 +39,8 @@ abbrev pub SafeAtEachMoment : Type 0
 SafeAtEachMoment =
     (routines : List RoutineTree) (declared : EntryId → Bool) (rules : RuleLists) (entries : List (EntryId × EntryCert) × List EntryId)
     → ((e : EntryId) (test : Bool) (values : List (Option (List ℕ))) (k : ℕ) (first : Job)
-    → (machine routines declared).begin e test values k ≡ Ok first → (n : ℕ) → SafeFor routines (FactsSince routines rules entries) n (first ∷ []) first)
+    → (machine routines declared).begin e test values k ≡ Ok first → (n : ℕ)
+    → SafeFor routines (FactsSince routines rules entries) n (first ∷ []) first)
     → AtEachMomentSince routines declared (FactsSince routines rules entries)
 
 -- If a case describes a job and its terms cover a reference, names that the job holds cover what the reference denotes.

@@ -23,7 +23,8 @@ use Rattle.mlk_walk_state.specs.Scope.{Scope, block_at, has_entry, listed_at, sc
 use Rattle.mlk_soundness_machine.specs.Facts.{Facts}
 use Rattle.mlk_soundness_machine.specs.Frames.{Waiting, times_waiting, Binds, Agrees}
 use Rattle.mlk_soundness_machine.specs.History.{block_tests, frame_backs, first_back, is_reference, BeganAt}
-use Rattle.mlk_soundness_machine.specs.Places.{line_number, entry_trees, StandIn, round_of, none_follows, OnLine, AreRoundOf, arguments_from, ComesTo, ComesAfter}
+use Rattle.mlk_soundness_machine.specs.Places.{line_number, entry_trees, StandIn, round_of, none_follows}
+use Rattle.mlk_soundness_machine.specs.Places.{OnLine, AreRoundOf, arguments_from, ComesTo, ComesAfter}
 use Rattle.mlk_soundness_machine.specs.Reads.{now, times}
 
 -- The case describes the job: with what other open frames have set aside, each read in its own bindings, its terms denote
@@ -43,10 +44,12 @@ pub record IsDescribed (need : List LockTerm) (c : Case) (begun : List Job) (j :
   pub others : List Job
   pub since : begun ≡ first ∷ others
   pub aside : (m : LockName) → count_of first.held m ≡ times (now first) need m + times_waiting j.cells j.number waiting m
-  pub kept : (n : List ℕ) → is_among c.kept n ≡ true → is_reference first.bindings n ≡ false → j.cells (look j.bindings n) ≡ first.cells (look first.bindings n)
+  pub kept : (n : List ℕ) → is_among c.kept n ≡ true → is_reference first.bindings n ≡ false
+      → j.cells (look j.bindings n) ≡ first.cells (look first.bindings n)
 
 -- it is described by a case that is listed at this point for the certified entry by which the running frame began
-pub record IsListedAt (routines : List RoutineTree) (blocks : List (EntryId × EntryCert)) (number round : ℕ) (begun : List Job) (j : Job) : Type 0 where
+pub record IsListedAt (routines : List RoutineTree) (blocks : List (EntryId × EntryCert)) (number round : ℕ)
+    (begun : List Job) (j : Job) : Type 0 where
   pub entry : EntryId
   pub running : entry.routine ≡ j.routine
   pub block : EntryCert
@@ -61,7 +64,8 @@ abbrev pub IsAtStart : List RoutineTree → List (EntryId × EntryCert) → List
 IsAtStart routines blocks begun j = (number : ℕ) × (at : IsListedAt routines blocks number 0 begun j) × (line_number at.began.head ≡ number)
 
 -- such a case is listed at this line, which is one of that entry's or of a block below them, with the lines that follow it
-pub record IsAtLine (routines : List RoutineTree) (blocks : List (EntryId × EntryCert)) (l : LineTree) (lines : List LineTree) (begun : List Job) (j : Job) : Type 0 where
+pub record IsAtLine (routines : List RoutineTree) (blocks : List (EntryId × EntryCert)) (l : LineTree) (lines : List LineTree)
+    (begun : List Job) (j : Job) : Type 0 where
   pub at : IsListedAt routines blocks (line_number l.0) 0 begun j
   pub behind : LineTrees
   pub is_line : StandIn (line l.0 l.1 behind) (entry_trees routines at.entry)
@@ -70,7 +74,8 @@ pub record IsAtLine (routines : List RoutineTree) (blocks : List (EntryId × Ent
   pub no_more : none_follows others ≡ true
 
 -- such a case is listed for rounds of a FOR that runs these commands, on the line that the job is on
-pub record IsAtRound (routines : List RoutineTree) (blocks : List (EntryId × EntryCert)) (rest : CommandTrees) (here : LineTree) (ts : List Task) (begun : List Job) (j : Job) : Type 0 where
+pub record IsAtRound (routines : List RoutineTree) (blocks : List (EntryId × EntryCert)) (rest : CommandTrees)
+    (here : LineTree) (ts : List Task) (begun : List Job) (j : Job) : Type 0 where
   pub entry : EntryId
   pub on : OnLine (entry_trees routines entry) here ts
   pub index : ℕ
@@ -80,7 +85,8 @@ pub record IsAtRound (routines : List RoutineTree) (blocks : List (EntryId × En
 
 -- it is described by a case that the walk of the line reaches where the job is: `Comes` says which cases, in a scope and an
 -- entry's lines
-pub record IsInside (routines : List RoutineTree) (rules : RuleLists) (entries : List (EntryId × EntryCert) × List EntryId) (Comes : Scope → LineTrees → Case → Type 0) (begun : List Job) (j : Job) : Type 0 where
+pub record IsInside (routines : List RoutineTree) (rules : RuleLists) (entries : List (EntryId × EntryCert) × List EntryId)
+    (Comes : Scope → LineTrees → Case → Type 0) (begun : List Job) (j : Job) : Type 0 where
   pub entry : EntryId
   pub running : entry.routine ≡ j.routine
   pub certificate : EntryCert
@@ -95,7 +101,8 @@ pub record IsInside (routines : List RoutineTree) (rules : RuleLists) (entries :
 -- argument of one, one that the walk has there
 abbrev pub StartListed : List RoutineTree → List (EntryId × EntryCert) → List Job → Job → Type 0
 StartListed routines blocks begun j =
-    (others : List Job) (commands : CommandTrees) (here : LineTree) (ts : List Task) → begun ≡ j ∷ others → j.tasks ≡ RunCommands commands here ∷ ts → IsAtStart routines blocks begun j
+    (others : List Job) (commands : CommandTrees) (here : LineTree) (ts : List Task) → begun ≡ j ∷ others
+    → j.tasks ≡ RunCommands commands here ∷ ts → IsAtStart routines blocks begun j
 
 abbrev pub GoesListed : List RoutineTree → List (EntryId × EntryCert) → List Job → Job → Type 0
 GoesListed routines blocks begun j =
@@ -108,7 +115,8 @@ RoundListed routines blocks begun j =
 
 abbrev pub CommandWalked : List RoutineTree → RuleLists → List (EntryId × EntryCert) × List EntryId → List Job → Job → Type 0
 CommandWalked routines rules entries begun j =
-    (left : CommandTrees) (here : LineTree) (ts : List Task) → j.tasks ≡ RunCommands left here ∷ ts → IsInside routines rules entries (λ sc lines c. ComesTo sc lines left here ts c) begun j
+    (left : CommandTrees) (here : LineTree) (ts : List Task) → j.tasks ≡ RunCommands left here ∷ ts
+    → IsInside routines rules entries (λ sc lines c. ComesTo sc lines left here ts c) begun j
 
 abbrev pub ArgumentWalked : List RoutineTree → RuleLists → List (EntryId × EntryCert) × List EntryId → List Job → Job → Type 0
 ArgumentWalked routines rules entries begun j =
@@ -124,7 +132,8 @@ StartsDeclared routines declared j =
 
 -- the invariants of one job at each moment, if the entries of the first table are certified with its blocks, and those of the
 -- second are declared
-pub record FactsSince (routines : List RoutineTree) (rules : RuleLists) (entries : List (EntryId × EntryCert) × List EntryId) (begun : List Job) (j : Job) : Type 0 where
+pub record FactsSince (routines : List RoutineTree) (rules : RuleLists) (entries : List (EntryId × EntryCert) × List EntryId)
+    (begun : List Job) (j : Job) : Type 0 where
   pub facts : Facts rules j
   pub starts : StartListed routines entries.0 begun j
   pub lines : GoesListed routines entries.0 begun j

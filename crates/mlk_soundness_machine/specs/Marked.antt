@@ -23,7 +23,8 @@ pub record Begun (sc : Scope) (w : World) : Type 0 where
   pub since : w.begun ≡ first ∷ others
   pub began : BeganAt sc.routines w.entry first
   pub back : w.back ≡ first_back w.waiting
-  pub values : (x : List ℕ) → w.formals x ≡ true → is_reference first.bindings x ≡ false → (w.refs x ≡ false) × (w.snap x ≡ first.cells (look first.bindings x))
+  pub values : (x : List ℕ) → w.formals x ≡ true → is_reference first.bindings x ≡ false
+      → (w.refs x ≡ false) × (w.snap x ≡ first.cells (look first.bindings x))
   pub rests : Rests w.waiting
   pub held : (m : LockName) → count_of first.held m ≡ times (now first) block.summary.need m + times_waiting w.saved w.number w.waiting m
 

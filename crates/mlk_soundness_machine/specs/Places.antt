@@ -3,14 +3,16 @@
 use Rattle.std.specs.Prelude.{◌≡◌, ◌⊎◌, ℕ, List, [], ◌∷◌, ◌++◌, take, drop, Bool, true, false, Option, Some, None, is_some}
 use Rattle.mlk_names.specs.Lists.{Among}
 use Rattle.mlk_syntax.specs.ExprTrees.{Tree}
-use Rattle.mlk_syntax.specs.Trees.{RoutineTree, CommandTree, Does, ControlTree, CommandTrees, finished, then_command, then_for, HeadTree, LineHead, LineTrees, no_lines, line}
+use Rattle.mlk_syntax.specs.Trees.{RoutineTree, CommandTree, Does, ControlTree, CommandTrees, finished}
+use Rattle.mlk_syntax.specs.Trees.{then_command, then_for, HeadTree, LineHead, LineTrees, no_lines, line}
 use Rattle.mlk_syntax.specs.Trees.{ActionTree, Do, Else, Halt, Hang, If, Job, Kill, Lock, Merge, New, Quit, Read, Set, Write}
 use Rattle.mlk_syntax.specs.Views.{lines_from}
 use Rattle.mlk_program.specs.declared.entry.EntryId.{EntryId}
 use Rattle.mlk_program.specs.Entries.{as_lines, formals_of, lines_of}
 use Rattle.mlk_cert_parts.specs.declared.case.Case.{Case}
 use Rattle.mlk_machine_jobs.specs.Calling.{commands_in}
-use Rattle.mlk_machine_jobs.specs.Commands.{in_turn, evaluated, do_parts, if_parts, job_parts, kill_parts, lock_parts, merge_parts, new_parts, read_parts, set_parts, write_parts}
+use Rattle.mlk_machine_jobs.specs.Commands.{in_turn, evaluated, do_parts, if_parts, job_parts, kill_parts}
+use Rattle.mlk_machine_jobs.specs.Commands.{lock_parts, merge_parts, new_parts, read_parts, set_parts, write_parts}
 use Rattle.mlk_machine_jobs.specs.Tasks.{Task, LineTree, RunLines, Parameters, Forever, NextValue, LaterRound}
 use Rattle.mlk_walk_state.specs.States.{at_rest}
 use Rattle.mlk_walk_state.specs.Symbols.{truth_in}
@@ -20,8 +22,9 @@ use Rattle.mlk_walk_exprs.specs.Spots.{Spot}
 use Rattle.mlk_walk_exprs.specs.Walks.{begin}
 use Rattle.mlk_walk_exprs.specs.Expressions.{agrees, value}
 use Rattle.mlk_walk_exprs.specs.declared.walk.Walk.{Walk}
-use Rattle.mlk_walk_commands.specs.Arguments.{set_argument, kill_argument, new_argument, read_argument, merge_argument, write_argument, do_argument, job_argument, if_argument}
-use Rattle.mlk_walk_commands.specs.Locks.{lock_argument}
+use Rattle.mlk_walk_commands.specs.Arguments.{set_argument, kill_argument, new_argument, read_argument}
+use Rattle.mlk_walk_commands.specs.Arguments.{merge_argument, write_argument, do_argument, job_argument, if_argument}
+use Rattle.mlk_walk_locks.specs.Locks.{lock_argument}
 use Rattle.mlk_walk_lines.specs.Commands.{turn}
 use Rattle.mlk_walk_lines.specs.Endings.{OfBlock}
 use Rattle.mlk_walk_lines.specs.Lines.{block_with, walk_lines}
@@ -87,7 +90,8 @@ AreRoundOf rest index commands = (column : ℕ) × (control : Option ControlTree
 -- With which commands the walk of a line begins, and with which number its cases are listed: with all of them and 0; or, if a
 -- round is open, with what that round runs and its FOR's index.
 abbrev pub BeginsWith : CommandTrees → ℕ → CommandTrees → List Task → Type 0
-BeginsWith first round commands ts = ((round ≡ 0) × (first ≡ commands) × (open_round ts ≡ None)) ⊎ (AreRoundOf first round commands × (open_round ts ≡ Some first))
+BeginsWith first round commands ts = ((round ≡ 0) × (first ≡ commands) × (open_round ts ≡ None))
+    ⊎ (AreRoundOf first round commands × (open_round ts ≡ Some first))
 
 -- the first commands, then the second
 abbrev pub followed : List CommandTree → CommandTrees → CommandTrees
@@ -96,7 +100,13 @@ followed (c ∷ done) left = then_command c (followed done left)
 
 -- the walk of a line with its block
 abbrev pub spot_on : Scope → HeadTree → LineTrees → Spot
-spot_on sc head block = record { scope = sc; line = line_number head; level = line_level head; block = block_with block (walk_lines sc OfBlock block).ends; word = 1 }
+spot_on sc head block = record {
+  scope = sc;
+  line = line_number head;
+  level = line_level head;
+  block = block_with block (walk_lines sc OfBlock block).ends;
+  word = 1;
+}
 
 -- The walk is in case `c` where a job has these commands of a line left, and these tasks after them: the commands in between
 -- lead to it from one case that is listed where the walk begins.
@@ -161,7 +171,8 @@ holds_to p (Some t) s u = Among u (value p t (alone s)).going × (agrees true (t
 
 -- The walk is in case `c` where a job has done `count` arguments of a command, and has these commands of the line left: the
 -- postconditional and these arguments lead to it from a case in which the walk is before the command.
-pub record ComesAfter (sc : Scope) (lines : LineTrees) (action : ActionTree) (count : ℕ) (left : CommandTrees) (here : LineTree) (ts : List Task) (c : Case) : Type 0 where
+pub record ComesAfter (sc : Scope) (lines : LineTrees) (action : ActionTree) (count : ℕ) (left : CommandTrees)
+    (here : LineTree) (ts : List Task) (c : Case) : Type 0 where
   pub column : ℕ
   pub condition : Option Tree
   pub before : Case

@@ -3,7 +3,8 @@ use Rattle.std.specs.Prelude.{◌≡◌, ℕ, zero, suc, Bool, true, false, List
 use Rattle.mlk_names.specs.declared.lock_name.LockName.{LockName}
 use Rattle.mlk_syntax.specs.Trees.{RoutineTree}
 use Rattle.mlk_machine_jobs.specs.declared.choice.Choice.{Choice}
-use Rattle.mlk_machine_jobs.specs.Tasks.{Task, Job, marks, RunLines, RunCommands, NextArgument, StartJob, DoTouch, Claim, Call, CallIf, Block, HaltJob, EndBlock, EndFrame}
+use Rattle.mlk_machine_jobs.specs.Tasks.{Task, Job, marks, RunLines, RunCommands, NextArgument, StartJob}
+use Rattle.mlk_machine_jobs.specs.Tasks.{DoTouch, Claim, Call, CallIf, Block, HaltJob, EndBlock, EndFrame}
 use Rattle.mlk_machine_jobs.specs.Runs.{go}
 use Rattle.mlk_walk_state.specs.declared.state.State.{State}
 use Rattle.mlk_walk_state.specs.Scope.{Scope}
@@ -44,7 +45,8 @@ module _ (routines : List RoutineTree) (Fact : List Job → Job → Type 0) wher
   -- the fact holds now, and after each of up to `n` steps, of the job and of what it was when its open frames began
   abbrev pub SafeFor : ℕ → List Job → Job → Type 0
   SafeFor zero begun j = Fact begun j
-  SafeFor (suc n) begun j = Fact begun j × ((free : LockName → Bool) (c : Choice) (i : Job) → go routines free c j ≡ Ok i → SafeFor n (begun_after begun j i) i)
+  SafeFor (suc n) begun j = Fact begun j
+      × ((free : LockName → Bool) (c : Choice) (i : Job) → go routines free c j ≡ Ok i → SafeFor n (begun_after begun j i) i)
 
 -- if the open blocks and frames are those of the world and the level, the job meets its invariants, and is safe for `n` steps
 abbrev pub KeepsIn : Scope → World → Level → Job → Type 0

@@ -2,7 +2,7 @@
 use Rattle.std.proofs.Common.{◌≡◌, ℕ, ◌+◌, Bool, true, false, List, [], ◌∷◌, ◌++◌, reverse, map, Option, Some, None, refl, sym, ap, subst, inl, inr, suc, take, drop, ◌∙◌}
 use Rattle.std.specs.Prelude.{flat_map, if◌then◌else◌}
 use Rattle.mlk_names.specs.Lists.{Among}
-use Rattle.mlk_syntax.specs.ExprTrees.{Tree, ActualTree, actuals_from, as_list}
+use Rattle.mlk_syntax.specs.ExprTrees.{Tree, ActualTree, actuals_from}
 use Rattle.mlk_syntax.specs.Trees.{RoutineTree, WriteTree, WriteValue, WriteCharacter, WriteFormat, ActionTree}
 use Rattle.mlk_program.specs.Calls.{in_tree, in_actual, in_actuals, in_given, in_write}
 use Rattle.mlk_cert_parts.specs.declared.case.Case.{Case}
@@ -48,11 +48,6 @@ use Rattle.mlk_soundness_machine.specs.Safe.{KeepsIn}
 pub skip_ifs : (a : ActionTree) (k : ℕ) (conditions : List Tree) (ts : List Task) → skipped (made.in_turn if_parts a k conditions ++ ts) ≡ skipped ts
 skip_ifs a k [] ts = refl
 skip_ifs a k (t ∷ conditions) ts = skip_ifs a (suc k) conditions ts
-
--- lists of actuals
-pub back_again : (given : List ActualTree) → as_list (actuals_from given) ≡ given
-back_again [] = refl
-back_again (a ∷ given) = ap (λ z. a ∷ z) (back_again given)
 
 pub calls_again : (given : List ActualTree) → in_actuals (actuals_from given) ≡ flat_map in_actual given
 calls_again [] = refl

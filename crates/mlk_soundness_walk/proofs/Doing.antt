@@ -6,6 +6,7 @@ use Rattle.mlk_names.specs.Lists.{Among}
 use Rattle.mlk_syntax.specs.declared.expr.Callee.{Callee}
 use Rattle.mlk_syntax.specs.ExprTrees.{Tree, ActualTree, Given, ByRef, Missing, Actuals, actuals_from, as_list}
 use Rattle.mlk_syntax.specs.Trees.{RoutineTree, CallTree, Called, DoTree, DoCall}
+use Rattle.mlk_syntax.proofs.TreeLists.{as_list_same}
 use Rattle.mlk_program.specs.Calls.{in_tree, in_actuals, in_given, in_call, in_do}
 use Rattle.mlk_program.specs.Entries.{target_of}
 use Rattle.mlk_cert_parts.specs.declared.case.Case.{Case}
@@ -41,7 +42,7 @@ use Rattle.mlk_soundness_machine.proofs.Steps.{Comes, done, unasked}
 use Rattle.mlk_soundness_machine.proofs.Values.{Safe, Fits, FitsValue, plain_step}
 use Rattle.mlk_soundness_walk.proofs.Alone.{Leads}
 use Rattle.mlk_soundness_walk.proofs.Alone.{Meets, leads_both, leads_each, leads_changed}
-use Rattle.mlk_soundness_walk.proofs.Acts.{back_again, calls_again, given_same, in_given_same}
+use Rattle.mlk_soundness_walk.proofs.Acts.{calls_again, given_same, in_given_same}
 use Rattle.mlk_soundness_walk.proofs.Calls.{given_slots, given_taken}
 use Rattle.mlk_soundness_walk.specs.Ours.{IsOurs, AreOurs}
 use Rattle.mlk_soundness_walk.proofs.Ours.{ours_left, ours_right}
@@ -80,9 +81,9 @@ module _ (routines : List RoutineTree) (p : Spot) (w : World) (b : Level) (S : C
   given_fit : (column : ℕ) (callee : Callee) (written : Option (List ActualTree)) → AreOurs p.scope (in_given written) → (ts : List Task) (s : State) (A : State → Type 0)
       → Leads (capture_given p (Called column callee written)) s A S Q → ((u : State) → A u → Fit (given_slots (given_list written) []) n ts u) → Fit [] n (each_actual (made.given_in written) ++ ts) s
   given_fit column callee written ours ts s A l k =
-      subst (λ z. Fit [] n (each_actual z ++ ts) s) (back_again (given_list written) ∙ sym (given_same written))
+      subst (λ z. Fit [] n (each_actual z ++ ts) s) (as_list_same (given_list written) ∙ sym (given_same written))
       (actuals_fit (actuals_from (given_list written)) (subst (AreOurs p.scope) (in_given_same written ∙ sym (calls_again (given_list written))) ours) [] ts s A l
-      (λ u a. subst (λ z. Fit (given_slots z []) n ts u) (sym (back_again (given_list written))) (k u a)))
+      (λ u a. subst (λ z. Fit (given_slots z []) n ts u) (sym (as_list_same (given_list written))) (k u a)))
 
   module _
       (call : (column : ℕ) (callee : Callee) (written : Option (List ActualTree)) → IsOurs p.scope (Called column callee written) → (ts : List Task) (s : State) (A : State → Type 0)

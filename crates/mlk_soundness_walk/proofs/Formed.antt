@@ -9,7 +9,7 @@ use Rattle.mlk_cert_lexemes.specs.Lists.{Each}
 use Rattle.mlk_syntax.specs.Trees.{RoutineTree, Named_routine, CallTree, HeadTree, LineHead, LineTrees, no_lines, line}
 use Rattle.mlk_syntax.specs.Views.{lines_from}
 use Rattle.mlk_program.specs.Calls.{in_commands}
-use Rattle.mlk_program.specs.Entries.{as_lines, lines_in, lines_of, up_to_formals, lacks_formals}
+use Rattle.mlk_program.specs.Entries.{as_lines, lines_in, lines_of, up_to_formals, has_no_formals}
 use Rattle.mlk_program.specs.Program.{PlacedCall, calls_in, calls_from, calls_of}
 use Rattle.mlk_program.specs.declared.entry.EntryId.{EntryId}
 use Rattle.mlk_rules.specs.declared.rules.RuleLists.{RuleLists}
@@ -75,7 +75,7 @@ module _ (sc : Scope) where
 
   up_to : (level : ℕ) (may : Bool) (ls : List (HeadTree × LineTrees)) → Each (IsLineOf level may) ls → Each (IsLineOf level may) (up_to_formals ls)
   up_to level may [] h = tt
-  up_to level may (l ∷ ls) h = (h.0, each_while (IsLineOf level may) lacks_formals ls h.1)
+  up_to level may (l ∷ ls) h = (h.0, each_while (IsLineOf level may) has_no_formals ls h.1)
 
 -- the calls of a routine are the program's
 routine_calls : (base r : ℕ) (routines : List RoutineTree) (tree : RoutineTree) → slice_get routines r ≡ Some tree → (q : PlacedCall) → Contains (calls_in (base + r) (lines_of_routine tree)) q → Contains (calls_from base routines) q

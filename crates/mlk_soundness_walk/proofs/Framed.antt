@@ -6,7 +6,7 @@ use Rattle.std.proofs.lemmas.Bool.{cases_Bool, or_cases}
 use Rattle.mlk_names.specs.Lists.{Among}
 use Rattle.mlk_syntax.specs.Trees.{RoutineTree, HeadTree, LineTrees, no_lines, line, LineHead}
 use Rattle.mlk_syntax.specs.Views.{lines_from}
-use Rattle.mlk_program.specs.Entries.{as_lines, formals_of, lacks_formals}
+use Rattle.mlk_program.specs.Entries.{as_lines, formals_of, has_no_formals}
 use Rattle.mlk_text.specs.declared.code.Code.TheVariants.{HeldAtEnd, NameEscapes, CaseNotListed}
 use Rattle.mlk_cert_parts.specs.declared.case.Case.{Case}
 use Rattle.mlk_cert_parts.specs.declared.case.ExitCase.{ExitCase}
@@ -81,7 +81,7 @@ listed_back (l ∷ ls) = ap (λ z. l ∷ z) (listed_back ls)
 -- the machine's lines continue after the entry's
 pub record Behind (lines : List (HeadTree × LineTrees)) : Type 0 where
   pub tail : List (HeadTree × LineTrees)
-  pub are : lines ≡ take_while lacks_formals lines ++ tail
+  pub are : lines ≡ take_while has_no_formals lines ++ tail
   pub starts : (tail ≡ []) ⊎ ((l : HeadTree × LineTrees) × (more : List (HeadTree × LineTrees)) × (tail ≡ l ∷ more) × (is_some (formals_of l.0) ≡ true))
 
 -- into which no job continues
@@ -100,9 +100,9 @@ behind (l ∷ lines) = by (behind lines)
     by : Behind lines → Behind (l ∷ lines)
     by r =
         ⊎_elim
-        (λ (h : lacks_formals l ≡ true). record { tail = r.tail; are = (let n = prefix_len lacks_formals lines in let e : suc n ≡ 1 + n = omega arith in rw h (ap (λ z. l ∷ z) r.are ∙ ap (λ k. take k (l ∷ lines) ++ r.tail) e)); starts = r.starts })
-        (λ (h : lacks_formals l ≡ false). record { tail = l ∷ lines; are = rw h refl; starts = inr (l, lines, refl, no_none (formals_of l.0) h) })
-        (cases_Bool (lacks_formals l))
+        (λ (h : has_no_formals l ≡ true). record { tail = r.tail; are = (let n = prefix_len has_no_formals lines in let e : suc n ≡ 1 + n = omega arith in rw h (ap (λ z. l ∷ z) r.are ∙ ap (λ k. take k (l ∷ lines) ++ r.tail) e)); starts = r.starts })
+        (λ (h : has_no_formals l ≡ false). record { tail = l ∷ lines; are = rw h refl; starts = inr (l, lines, refl, no_none (formals_of l.0) h) })
+        (cases_Bool (has_no_formals l))
 
 get_after : (front tail : List (HeadTree × LineTrees)) → slice_get (front ++ tail) (length front) ≡ slice_get tail 0
 get_after [] tail = refl
@@ -125,7 +125,7 @@ listed_begin sc number formals h = by (is_listed (listed sc number 0) (begin_cas
 
 -- an entry's own lines among the machine's
 record Placed (routines : List RoutineTree) (e : EntryId) (head : HeadTree) (body : LineTrees) (lines : List (HeadTree × LineTrees)) (tail : List (HeadTree × LineTrees)) : Type 0 where
-  pub own : lines_of routines e ≡ (head, body) ∷ take_while lacks_formals lines
+  pub own : lines_of routines e ≡ (head, body) ∷ take_while has_no_formals lines
   pub its : line_of_entry routines e ≡ Some (head, body)
   pub after : head_after routines e ≡ option_map (λ l. l.0) (slice_get tail 0)
 
@@ -137,15 +137,15 @@ module _ (routines : List RoutineTree) (rules : RuleLists) (entries : List (Entr
       on None f g = let z : [] ≡ (head, body) ∷ lines = (rw f at g) in absurd (cc z)
       on (Some tree) f g =
           let z : drop e.line (lines_in tree) ≡ (head, body) ∷ lines = (rw f at g) in
-          let own : lines_of routines e ≡ (head, body) ∷ take_while lacks_formals lines = rw (f, z) refl in
-          let y : drop e.line (lines_in tree) ≡ ((head, body) ∷ take_while lacks_formals lines) ++ r.tail = z ∙ ap (λ q. (head, body) ∷ q) r.are in
+          let own : lines_of routines e ≡ (head, body) ∷ take_while has_no_formals lines = rw (f, z) refl in
+          let y : drop e.line (lines_in tree) ≡ ((head, body) ∷ take_while has_no_formals lines) ++ r.tail = z ∙ ap (λ q. (head, body) ∷ q) r.are in
           record {
             own = own;
             its = ap (λ o. option_and_then (λ x. slice_get (lines_in x) e.line) o) f ∙ first_line routines rules entries (lines_in tree) e.line (head, body) lines z;
             after =
                 ap (λ q. option_map (λ l. l.0) (line_of_entry routines (record e { line = e.line + length q }))) own
-                ∙ ap (λ o. option_map (λ l. l.0) (option_and_then (λ x. slice_get (lines_in x) (e.line + length ((head, body) ∷ take_while lacks_formals lines))) o)) f
-                ∙ ap (option_map (λ l. l.0)) (place_after e.line (lines_in tree) ((head, body) ∷ take_while lacks_formals lines) r.tail y);
+                ∙ ap (λ o. option_map (λ l. l.0) (option_and_then (λ x. slice_get (lines_in x) (e.line + length ((head, body) ∷ take_while has_no_formals lines))) o)) f
+                ∙ ap (option_map (λ l. l.0)) (place_after e.line (lines_in tree) ((head, body) ∷ take_while has_no_formals lines) r.tail y);
           }
 
   goes_past : (lines : List (HeadTree × LineTrees)) (r : Behind lines) (after : Option HeadTree) → after ≡ option_map (λ l. l.0) (slice_get r.tail 0)
@@ -196,13 +196,13 @@ module _ (routines : List RoutineTree) (rules : RuleLists) (blocks : List EntryC
       let around : Around = OfFrame (head_after routines e) in
       let ends : List Case = (walk_lines (sc_of e blk) (OfFrame (head_after routines e)) (lines_from (lines_of routines e))).ends in
       let all : EachLinePasses (sc_of e blk) around ends (lines_from (lines_of routines e)) = lines_pass (sc_of e blk) (OfFrame (head_after routines e)) (lines_from (lines_of routines e)) (once e blk at) c.lines in
-      let passes : EachLinePasses (sc_of e blk) around ends (line head body (lines_from (take_while lacks_formals lines))) = subst (λ z. EachLinePasses (sc_of e blk) around ends (lines_from z)) pl.own all in
-      let deep : AreLinesOf (sc_of e blk) 1 true (line head body (lines_from (take_while lacks_formals lines))) = subst (λ z. AreLinesOf (sc_of e blk) 1 true (lines_from z)) pl.own (leveled e blk) in
-      let trees : LineTrees = line head body (lines_from (take_while lacks_formals lines)) in
+      let passes : EachLinePasses (sc_of e blk) around ends (line head body (lines_from (take_while has_no_formals lines))) = subst (λ z. EachLinePasses (sc_of e blk) around ends (lines_from z)) pl.own all in
+      let deep : AreLinesOf (sc_of e blk) 1 true (line head body (lines_from (take_while has_no_formals lines))) = subst (λ z. AreLinesOf (sc_of e blk) 1 true (lines_from z)) pl.own (leveled e blk) in
+      let trees : LineTrees = line head body (lines_from (take_while has_no_formals lines)) in
       let are : AreWithin trees (own_lines (sc_of e blk) w) =
       subst (λ z. AreWithin trees (entry_trees routines z)) (sym of) (subst (λ z. AreWithin trees (lines_from z)) (sym pl.own) (λ some i. i)) in
-      let fits : EachBlockFits routines (sc_of e blk) w (first_level w) m (line head body (lines_from (take_while lacks_formals lines))) =
-      all_fit routines (sc_of e blk) w (first_level w) m (λ block inside below its h p same deep is. each e blk at w world p h block same deep is inside below its) true around ends (line head body (lines_from (take_while lacks_formals lines))) deep passes are in
+      let fits : EachBlockFits routines (sc_of e blk) w (first_level w) m (line head body (lines_from (take_while has_no_formals lines))) =
+      all_fit routines (sc_of e blk) w (first_level w) m (λ block inside below its h p same deep is. each e blk at w world p h block same deep is inside below its) true around ends (line head body (lines_from (take_while has_no_formals lines))) deep passes are in
       let in_list : is_listed (listed (sc_of e blk) (number_of head) 0) (begin_case blk.summary (formals_in head)) ≡ true =
       subst (λ z. is_listed (listed (sc_of e blk) (number_of head) 0) (begin_case blk.summary z) ≡ true) (formals_same routines rules entries e head body lines heads)
       (subst (λ z. is_listed (listed (sc_of e blk) (entry_number z) 0) (begin_case blk.summary (walked.formals_in (line_of_entry routines e))) ≡ true) pl.its
@@ -217,11 +217,11 @@ module _ (routines : List RoutineTree) (rules : RuleLists) (blocks : List EntryC
       gives routines rules (known routines rules blocks) (sc_of e blk) w m frame next r ts ends_fit f l.exit (subst (λ z. Among l.exit z.summary.exits) same l.is_its) l.leaves l.stays) in
       head_fits routines (sc_of e blk) w (first_level w) around ends (once e blk at) m (EndFrame frame w.back next r) refl ts past.tail (none_past past.tail past.starts)
       (goes_past routines rules entries lines past (head_after routines e) pl.after) at_end
-      true give head body (lines_from (take_while lacks_formals lines)) (first_in head body (lines_from (take_while lacks_formals lines)) (own_lines (sc_of e blk) w) are) fits.0 deep.0 passes.0
+      true give head body (lines_from (take_while has_no_formals lines)) (first_in head body (lines_from (take_while has_no_formals lines)) (own_lines (sc_of e blk) w) are) fits.0 deep.0 passes.0
       (λ f g. lines_fit routines (sc_of e blk) w (first_level w) around ends (once e blk at) m (EndFrame frame w.back next r) refl ts past.tail (none_past past.tail past.starts)
-      (goes_past routines rules entries lines past (head_after routines e) pl.after) at_end true give (lines_from (take_while lacks_formals lines)) (lines_behind head body (lines_from (take_while lacks_formals lines)) (own_lines (sc_of e blk) w) are) fits.1 deep.2 passes.2 f g)
+      (goes_past routines rules entries lines past (head_after routines e) pl.after) at_end true give (lines_from (take_while has_no_formals lines)) (lines_behind head body (lines_from (take_while has_no_formals lines)) (own_lines (sc_of e blk) w) are) fits.1 deep.2 passes.2 f g)
       (begin_case blk.summary (formals_in head)) in_list j d
-      (tasks ∙ ap (λ z. RunCommands (commands_in head) (head, body) ∷ RunLines z ∷ EndFrame frame w.back next r ∷ ts) (past.are ∙ ap (λ z. z ++ past.tail) (sym (listed_back (take_while lacks_formals lines)))))
+      (tasks ∙ ap (λ z. RunCommands (commands_in head) (head, body) ∷ RunLines z ∷ EndFrame frame w.back next r ∷ ts) (past.are ∙ ap (λ z. z ++ past.tail) (sym (listed_back (take_while has_no_formals lines)))))
       (record { marks = marks; begun = begun; starts = starts (sc_of e blk) w (first_level w) head (begin_case blk.summary (formals_in head)) in_list j d begun is same marks })
 
   -- the induction for calls is on the number of steps

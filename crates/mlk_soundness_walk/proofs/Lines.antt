@@ -31,7 +31,7 @@ use Rattle.mlk_walk_state.proofs.CaseTests.{includes_decides}
 use Rattle.mlk_walk_exprs.specs.declared.walk.Quit.{Quit}
 use Rattle.mlk_walk_exprs.specs.Spots.{Spot}
 use Rattle.mlk_walk_lines.specs.Loops.{commands, one_command}
-use Rattle.mlk_walk_lines.specs.Endings.{Around, OfBlock, LineEnd, number_of, into_line, go_on, case_end, quit_end, state_end, level_end}
+use Rattle.mlk_walk_lines.specs.Endings.{Around, OfBlock, LineEnd, number_of, into_line, continuation, case_end, quit_end, state_end, level_end}
 use Rattle.mlk_walk_lines.specs.Lines.{next_head, block_with, walk_lines}
 use Rattle.mlk_walk_laws.specs.Fewer.{ListsEachOnce}
 use Rattle.mlk_soundness_machine.specs.Safe.{KeepsIn}
@@ -247,15 +247,15 @@ module _ (routines : List RoutineTree) (sc : Scope) (w : World) (b : Level) (aro
       ⊎_elim
       (λ (z : (tail ≡ []) × (next_head around no_lines ≡ None)).
       let f : e.next ≡ None = next ∙ z.1 in
-      let g : IsRight ends (level_end e.around e e.column c) = subst (λ o. IsRight ends (go_on o e c)) f h in
+      let g : IsRight ends (level_end e.around e e.column c) = subst (λ o. IsRight ends (continuation o e c)) f h in
       (z.0, e, e.column, same, deep, subst (λ a. IsRight ends (level_end a e e.column c)) also g))
       (λ (z : (h : HeadTree) × (next_head around no_lines ≡ Some h) × (is_some (formals_of h) ≡ true)).
       let f : e.next ≡ Some z.0 = next ∙ z.1 in
-      let g : IsRight ends (into_line e.scope z.0 c) = subst (λ o. IsRight ends (go_on o e c)) f h in
+      let g : IsRight ends (into_line e.scope z.0 c) = subst (λ o. IsRight ends (continuation o e c)) f h in
       let y = z.2 in absurd (rw y at g))
       last
   enters_next e same deep also (line head block rest) next c h =
-      let f : IsRight ends (into_line sc head c) = subst (λ z. IsRight ends (into_line z head c)) same (subst (λ o. IsRight ends (go_on o e c)) next h) in
+      let f : IsRight ends (into_line sc head c) = subst (λ z. IsRight ends (into_line z head c)) same (subst (λ o. IsRight ends (continuation o e c)) next h) in
       ⊎_elim
       (λ (u : is_some (formals_of head) ≡ true). absurd (rw u at f))
       (λ (u : is_some (formals_of head) ≡ false).

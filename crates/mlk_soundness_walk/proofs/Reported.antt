@@ -1,5 +1,5 @@
 -- What an empty report implies: each certified entry has a clean verdict.
-use Rattle.std.proofs.Common.{◌≡◌, refl, sym, ap, subst, ◌∙◌, ℕ, zero, suc, ◌+◌, List, [], ◌∷◌, ◌++◌, map, Option, Some, None, Bool, true, false, inl, inr, ⊎_elim, arith, is_some, eqb-true}
+use Rattle.std.proofs.Common.{◌≡◌, refl, sym, ap, subst, ◌∙◌, ℕ, zero, suc, ◌+◌, List, [], ◌∷◌, ◌++◌, map, Option, Some, None, true, false, inl, ⊎_elim, arith, is_some, eqb-true}
 use Rattle.std.specs.Prelude.{◌⊎◌, ◌==◌, position, flat_map, option_map, option_and_then, slice_get, if◌then◌else◌}
 use Rattle.std.specs.Ordering.{match_ordering}
 use Rattle.std.specs.declared.cmp.Ordering.{Ordering}
@@ -11,7 +11,7 @@ use Rattle.mlk_syntax.specs.Trees.{RoutineTree, HeadTree, LineTrees}
 use Rattle.mlk_program.specs.Entries.{same_entry, lines_in, label_of, is_label, line_named, entry_by, has_label, line_of_entry}
 use Rattle.mlk_program.specs.Laws.{IsEntryOf}
 use Rattle.mlk_program.specs.declared.entry.EntryId.{EntryId}
-use Rattle.mlk_program.proofs.EntryTexts.{entries-named}
+use Rattle.mlk_program.proofs.EntryTexts.{entries-named, one_place, first_passes}
 use Rattle.mlk_program.proofs.NameTables.{position-cons}
 use Rattle.mlk_cert_parts.specs.declared.block.EntryCert.{EntryCert}
 use Rattle.mlk_rules.specs.declared.rules.RuleLists.{RuleLists}
@@ -22,6 +22,7 @@ use Rattle.mlk_walk_exprs.specs.declared.walk.Fault.{Fault}
 use Rattle.mlk_walk.specs.Faults.{fault_cmp, put_fault, put_faults}
 use Rattle.mlk_walk.specs.Verdicts.{fault_at, known, verdict, entry_faults, faults_with, all_faults, own_faults, begin_faults, need_faults, exit_faults, entry_number, entry_walk, fault_in}
 use Rattle.mlk_walk.specs.Reports.{is_entry, entry_at, line_entries, entries_from, is_checked, row_of, rows_of, report}
+use Rattle.mlk_walk_laws.proofs.Lists.{in_front, in_back}
 use Rattle.mlk_soundness_walk.specs.Clean.{IsCleanEntry}
 
 -- lists that are empty
@@ -41,14 +42,6 @@ flat_none : {A B : Type 0} (f : A → List B) (xs : List A) (a : A) → flat_map
 flat_none f [] a h m = absurd m
 flat_none f (x ∷ xs) a h m = ⊎_elim (λ e. ap f e ∙ left_none (f x) (flat_map f xs) h) (λ k. flat_none f xs a (right_none (f x) (flat_map f xs) h) k) m
 
-among_left : {A : Type 0} (a : A) (xs ys : List A) → Among a xs → Among a (xs ++ ys)
-among_left a [] ys m = absurd m
-among_left a (x ∷ xs) ys m = ⊎_elim (λ e. inl e) (λ k. inr (among_left a xs ys k)) m
-
-among_right : {A : Type 0} (a : A) (xs ys : List A) → Among a ys → Among a (xs ++ ys)
-among_right a [] ys m = m
-among_right a (x ∷ xs) ys m = inr (among_right a xs ys m)
-
 -- no fault is lost
 put_some : (f : Fault) (faults : List Fault) → put_fault f faults ≡ [] → ⊥
 put_some f [] h = cc h
@@ -62,33 +55,6 @@ put_some f (g ∷ faults) h = by (fault_cmp f g) h
 put_none : (faults : List Fault) → put_faults faults [] ≡ [] → faults ≡ []
 put_none [] h = refl
 put_none (f ∷ faults) h = absurd (put_some f (put_faults faults []) h)
-
--- the index of the first element that passes a test
-one_place : (m n : ℕ) → Some m ≡ Some n → m ≡ n
-one_place m n h = cc h
-
-module _ {A : Type 0} (p : A → Bool) where
-  abbrev Passes : List A → ℕ → Type 0
-  Passes xs n = (x : A) × (slice_get xs n ≡ Some x) × (p x ≡ true)
-
-  first_passes : (xs : List A) (n : ℕ) → position p xs ≡ Some n → Passes xs n
-  first_passes [] n h = cc h
-  first_passes (x ∷ xs) n h = ⊎_elim here (later (first_passes xs)) (cases_Bool (p x))
-    where
-      chosen : (if p x then Some 0 else option_map suc (position p xs)) ≡ Some n
-      chosen = sym (position-cons p x xs) ∙ h
-
-      here : p x ≡ true → Passes (x ∷ xs) n
-      here e = subst (Passes (x ∷ xs)) (one_place 0 n (rw e at chosen)) (x, refl, e)
-
-      next : ((m : ℕ) → position p xs ≡ Some m → Passes xs m) → (o : Option ℕ) → position p xs ≡ o → option_map suc o ≡ Some n → Passes (x ∷ xs) n
-      next more None is k = cc k
-      next more (Some m) is k =
-          let found = more m is in
-          subst (Passes (x ∷ xs)) (one_place (suc m) n k) (found.0, found.1, found.2)
-
-      later : ((m : ℕ) → position p xs ≡ Some m → Passes xs m) → p x ≡ false → Passes (x ∷ xs) n
-      later more e = next more (position p xs) refl (rw e at chosen)
 
 -- the line that a label names is an entry
 is_its : (label : List ℕ) (o : Option (List ℕ)) → is_label label o ≡ true → is_some o ≡ true
@@ -110,7 +76,7 @@ named_entry (Some label) lines n h =
 
 among_lines : (r number n : ℕ) (lines : List (HeadTree × LineTrees)) (l : HeadTree × LineTrees) → slice_get lines n ≡ Some l → is_entry (number + n) l ≡ true → Among (entry_at r (number + n)) (line_entries r number lines)
 among_lines r number n [] l h e = cc h
-among_lines r number zero (x ∷ lines) l h e = among_left (entry_at r (number + 0)) (if is_entry number x then entry_at r number ∷ [] else []) (line_entries r (suc number) lines) here
+among_lines r number zero (x ∷ lines) l h e = in_front (entry_at r (number + 0)) (if is_entry number x then entry_at r number ∷ [] else []) (line_entries r (suc number) lines) here
   where
     z : number + 0 ≡ number
     z = omega arith
@@ -125,7 +91,7 @@ among_lines r number zero (x ∷ lines) l h e = among_left (entry_at r (number +
     here = subst (λ q. Among (entry_at r (number + 0)) (if q then entry_at r number ∷ [] else [])) (sym is) (inl (ap (entry_at r) z))
 among_lines r number (suc n) (x ∷ lines) l h e =
     let z : suc number + n ≡ number + suc n = omega arith in
-    among_right (entry_at r (number + suc n)) (if is_entry number x then entry_at r number ∷ [] else []) (line_entries r (suc number) lines)
+    in_back (entry_at r (number + suc n)) (if is_entry number x then entry_at r number ∷ [] else []) (line_entries r (suc number) lines)
     (subst (λ k. Among (entry_at r k) (line_entries r (suc number) lines)) z (among_lines r (suc number) n lines l h (ap (λ k. is_entry k l) z ∙ e)))
 
 among_routines : (e : EntryId) (base r : ℕ) (routines : List RoutineTree) (tree : RoutineTree) → slice_get routines r ≡ Some tree → Among e (line_entries (base + r) 0 (lines_in tree)) → Among e (entries_from base routines)
@@ -133,11 +99,11 @@ among_routines e base r [] tree h m = cc h
 among_routines e base zero (x ∷ routines) tree h m =
     let z : base + 0 ≡ base = omega arith in
     let same : tree ≡ x = cc h in
-    among_left e (line_entries base 0 (lines_in x)) (entries_from (suc base) routines)
+    in_front e (line_entries base 0 (lines_in x)) (entries_from (suc base) routines)
     (subst (λ k. Among e (line_entries k 0 (lines_in x))) z (subst (λ t. Among e (line_entries (base + 0) 0 (lines_in t))) same m))
 among_routines e base (suc r) (x ∷ routines) tree h m =
     let z : base + suc r ≡ suc base + r = omega arith in
-    among_right e (line_entries base 0 (lines_in x)) (entries_from (suc base) routines)
+    in_back e (line_entries base 0 (lines_in x)) (entries_from (suc base) routines)
     (among_routines e (suc base) r routines tree h (subst (λ k. Among e (line_entries k 0 (lines_in tree))) z m))
 
 pub entry_among : (routines : List RoutineTree) (e : EntryId) → IsEntryOf routines e → Among e (entries_from 0 routines)

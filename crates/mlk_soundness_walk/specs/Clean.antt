@@ -11,8 +11,10 @@ use Rattle.mlk_walk.specs.Verdicts.{known, begin_faults, need_faults, exit_fault
 use Rattle.mlk_walk.specs.Reports.{report}
 
 -- nothing is wrong with an entry: its begin, its needs, its exits and its lines
-pub record IsCleanEntry (routines : List RoutineTree) (rules : RuleLists) (blocks : List EntryCert) (e : EntryId) (b : EntryCert) : Type 0 where
-  pub begins : begin_faults (scope_with routines rules (known routines rules blocks) e b) (entry_number (line_of_entry routines e)) (formals_in (line_of_entry routines e)) ≡ []
+pub record IsCleanEntry (routines : List RoutineTree) (rules : RuleLists) (blocks : List EntryCert) (e : EntryId)
+    (b : EntryCert) : Type 0 where
+  pub begins : begin_faults (scope_with routines rules (known routines rules blocks) e b)
+      (entry_number (line_of_entry routines e)) (formals_in (line_of_entry routines e)) ≡ []
   pub needs : need_faults (scope_with routines rules (known routines rules blocks) e b) (entry_number (line_of_entry routines e)) ≡ []
   pub exits : exit_faults (scope_with routines rules (known routines rules blocks) e b) (entry_number (line_of_entry routines e)) ≡ []
   pub lines : (entry_walk routines e (scope_with routines rules (known routines rules blocks) e b)).faults ≡ []

@@ -47,13 +47,17 @@ module _ (routines : List RoutineTree) (w : World) (b : Level) where
   -- after each argument of a command that begins in this state, a job meets its invariants, whatever tasks follow
   abbrev pub KeepsBetween : Spot → CommandTree → List Task → State → Type 0
   KeepsBetween p (Does column condition action) ts s =
-      (begun : State) → holds_to (at_word p column) condition s begun → (count : ℕ) (u : State) → acts_to (at_word p column) action count begun u
-      → (j : Job) → Describes p.scope w b [] u (idle j) → j.tasks ≡ NextArgument action count ∷ (arguments_from action count ++ ts) → KeepsIn p.scope w b j
+      (begun : State) → holds_to (at_word p column) condition s begun
+      → (count : ℕ) (u : State) → acts_to (at_word p column) action count begun u
+      → (j : Job) → Describes p.scope w b [] u (idle j)
+      → j.tasks ≡ NextArgument action count ∷ (arguments_from action count ++ ts) → KeepsIn p.scope w b j
 
   -- a command, and a FOR with the rest of its line, are safe if the walk finds nothing wrong with them and its outcomes are safe
   pub record CommandsAreSafe (p : Spot) (here : LineTree) (n : ℕ) : Type 0 where
     pub one : (may : Bool) (c : CommandTree) → IsOf p.scope may c → (ts : List Task) (s : State) → KeepsBetween p c ts s
         → IsClean (one_command p (alone s) c) → AreSafe p may n ts (one_command p (alone s) c) → IsSafe p n (command_parts here.1 c ++ ts) s
-    pub loop : (may : Bool) (column index : ℕ) (control : Option ControlTree) (rest : CommandTrees) → AreOf p.scope may (then_for column index control rest)
-        → (ts : List Task) → AreOnLine w p here (then_for column index control rest) ts → (s : State) → IsClean (commands p (then_for column index control rest) (alone s))
+    pub loop : (may : Bool) (column index : ℕ) (control : Option ControlTree) (rest : CommandTrees)
+        → AreOf p.scope may (then_for column index control rest)
+        → (ts : List Task) → AreOnLine w p here (then_for column index control rest) ts
+        → (s : State) → IsClean (commands p (then_for column index control rest) (alone s))
         → AreSafe p false n ts (commands p (then_for column index control rest) (alone s)) → IsSafe p n (for_parts control rest here ∷ ts) s

@@ -25,7 +25,8 @@ use Rattle.mlk_soundness_machine.specs.Marked.{Begun, AreMarked}
 -- the form in which a frame may reach its end, and with which values: QUIT with a value hands it to the frame of an extrinsic
 -- call
 abbrev pub Ended : Frame → Frame → List Slot → Type 0
-Ended frame end slots = ((end ≡ frame) × (slots ≡ [])) ⊎ ((t : Bool) × (frame ≡ AwaitsValue t) × (end ≡ HasValue t) × (slots ≡ Bare None ∷ []))
+Ended frame end slots = ((end ≡ frame) × (slots ≡ []))
+    ⊎ ((t : Bool) × (frame ≡ AwaitsValue t) × (end ≡ HasValue t) × (slots ≡ Bare None ∷ []))
 
 abbrev pub first_level : World → Level
 first_level w = record { level = 1; back = w.back; own = []; tests = [] }
@@ -53,4 +54,5 @@ module _ (routines : List RoutineTree) (rules : RuleLists) (entries : List (Entr
       → (frame : Frame) (next r : ℕ) (ts : List Task) → EndsFit (scope e blk) w m frame w.back next r ts
       → (j : Job) → Describes (scope e blk) w (first_level w) [] (at_rest (begin_case blk.summary (formals_in head))) (idle j)
       → j.tasks ≡ RunCommands (commands_in head) (head, body) ∷ RunLines lines ∷ EndFrame frame w.back next r ∷ ts
-      → (begun : Begun (scope e blk) w) → begun.first ≡ j → begun.began.head ≡ head → AreMarked w (first_level w) (marks j.tasks) → SafeFor routines (KeepsTo (scope e blk)) m w.begun j
+      → (begun : Begun (scope e blk) w) → begun.first ≡ j → begun.began.head ≡ head
+      → AreMarked w (first_level w) (marks j.tasks) → SafeFor routines (KeepsTo (scope e blk)) m w.begun j

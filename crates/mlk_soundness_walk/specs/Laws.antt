@@ -36,7 +36,10 @@ AllCommands routines rules entries n =
 abbrev pub EntriesByCommands : Type 0
 EntriesByCommands =
     (routines : List RoutineTree) (rules : RuleLists) (blocks : List EntryCert) → report routines rules blocks ≡ []
-    → ((e : EntryId) (b : EntryCert) → block_at (known routines rules blocks).0 e ≡ Some b → ListsEachOnce (scope routines rules (known routines rules blocks) e b))
-    → ((e : EntryId) (b : EntryCert) → AreLinesOf (scope routines rules (known routines rules blocks) e b) 1 true (lines_from (lines_of routines e)))
-    → ((n : ℕ) → ((k : ℕ) → k < n → EntryFits routines rules (known routines rules blocks) k) → AllCommands routines rules (known routines rules blocks) n)
+    → ((e : EntryId) (b : EntryCert) → block_at (known routines rules blocks).0 e ≡ Some b
+    → ListsEachOnce (scope routines rules (known routines rules blocks) e b))
+    → ((e : EntryId) (b : EntryCert)
+    → AreLinesOf (scope routines rules (known routines rules blocks) e b) 1 true (lines_from (lines_of routines e)))
+    → ((n : ℕ) → ((k : ℕ) → k < n → EntryFits routines rules (known routines rules blocks) k)
+    → AllCommands routines rules (known routines rules blocks) n)
     → (n : ℕ) → EntryFits routines rules (known routines rules blocks) n

@@ -31,4 +31,5 @@ IsHeadOf sc level may (LineHead number at end label formals commands) = (at ≡ 
 
 abbrev pub AreLinesOf : Scope → ℕ → Bool → LineTrees → Type 0
 AreLinesOf sc level may no_lines = Unit {0}
-AreLinesOf sc level may (line head block rest) = IsHeadOf sc level may head × AreLinesOf sc (suc level) false block × AreLinesOf sc level may rest
+AreLinesOf sc level may (line head block rest) =
+    IsHeadOf sc level may head × AreLinesOf sc (suc level) false block × AreLinesOf sc level may rest

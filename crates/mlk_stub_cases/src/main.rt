@@ -7,6 +7,7 @@
 #![tactic(auto)]
 
 use bstr::ByteSlice;
+use mlk_dialect::Dialect;
 use mlk_stubs::{RoutineText, Wanted, stubs_for};
 use mlk_text::{Failure, push_sparing};
 use std::alloc::{AllocError, Global};
@@ -29,8 +30,13 @@ fn front_of<'a>(text: &'a [u8], mark: &[u8]) -> &'a [u8] {
 // The routine of a part of a case: its name on the first line, and the other lines.
 fn routine_of(part: &[u8]) -> RoutineText<'_> {
     match part.split_once_str(b"\n") {
-        Some((stem, text)) => RoutineText { stem, text },
+        Some((stem, text)) => RoutineText {
+            dialect: Dialect::Standard,
+            stem,
+            text,
+        },
         None => RoutineText {
+            dialect: Dialect::Standard,
             stem: part,
             text: b"",
         },

@@ -3,6 +3,7 @@
 ghost use Rattle.std.specs.Prelude.{◌≡◌, OnOk};
 ghost use Rattle.mlk_stubs.specs.StubTexts.{AreStubs};
 
+use mlk_dialect::Dialect;
 use mlk_routine::read_routine;
 use mlk_text::{Failure, Fault};
 use std::alloc::Global;
@@ -50,7 +51,7 @@ impl StubText {
     ) -> Result<(), Failure<Fault>>
         ensures { OnOk result (AreStubs self.old → AreStubs self.new) }
     {
-        let _routine = read_routine(alloc, routine, stub)?;
+        let _routine = read_routine(alloc, Dialect::Standard, routine, stub)?;
         self.bytes.extend_from_slice(stub)?;
         Ok(())
     }

@@ -7,6 +7,7 @@ use crate::collection::collection_of;
 use crate::draft::{Draft, drafts_of};
 use crate::scope::{Scope, Wanted};
 use crate::stub_text::StubText;
+use mlk_dialect::Dialect;
 use mlk_routine::read_routine;
 use mlk_suggest_read::{PartlyRead, RoutineText, read_partly};
 use mlk_text::{Failure, Fault, Name, push_sparing};
@@ -40,7 +41,7 @@ fn stubs_in<'a>(
 fn names_of(alloc: Global, stems: &[&str]) -> Result<Vec<Name>, Failure<Fault>> {
     let mut names = Vec::with_capacity(alloc, stems.len())?;
     for stem in stems {
-        let routine = read_routine(alloc, stem.as_bytes(), b"")?;
+        let routine = read_routine(alloc, Dialect::Standard, stem.as_bytes(), b"")?;
         push_sparing(&mut names, routine.name)?;
     }
     Ok(names)

@@ -6,6 +6,7 @@
 #![tactic(auto)]
 
 use bstr::ByteSlice;
+use mlk_dialect::Dialect;
 use mlk_suggest_text::{KnownRules, RoutineText, suggested_rules};
 use mlk_text::push_sparing;
 use std::alloc::{AllocError, Global};
@@ -20,8 +21,13 @@ const ROUTINE: &[u8] = b"\n-- ";
 // The routine of a part of a case: its name on the first line, and the other lines.
 fn routine_of(part: &[u8]) -> RoutineText<'_> {
     match part.split_once_str(b"\n") {
-        Some((stem, text)) => RoutineText { stem, text },
+        Some((stem, text)) => RoutineText {
+            dialect: Dialect::Standard,
+            stem,
+            text,
+        },
         None => RoutineText {
+            dialect: Dialect::Standard,
             stem: part,
             text: b"",
         },

@@ -2,6 +2,7 @@
 
 use crate::cut::readable_front;
 use bstr::ByteSlice;
+use mlk_dialect::Dialect;
 use mlk_routine::read_routine;
 use mlk_syntax::Routine;
 use mlk_text::{Code, Column, Failure, Fault, LineNumber, Place, push_sparing};
@@ -17,6 +18,7 @@ const MOST_LEFT_OUT: usize = 16;
 /// A routine's text.
 #[derive(Clone, Copy, Drop)]
 pub struct RoutineText<'t> {
+    pub dialect: Dialect,
     /// the name of its file up to the last dot
     pub stem: &'t [u8],
     pub text: &'t [u8],
@@ -56,9 +58,13 @@ fn line_alone(alloc: Global, line: &[u8]) -> Result<Vec<u8>, AllocError> {
     Ok(text)
 }
 
-// The fault of a text that is read as a routine.
-fn fault_of(alloc: Global, stem: &[u8], text: &[u8]) -> Result<Option<Fault>, AllocError> {
-    match read_routine(alloc, stem, text) {
+// The fault of `text` if it is read as the routine of `source`.
+fn fault_of(
+    alloc: Global,
+    source: &RoutineText<'_>,
+    text: &[u8],
+) -> Result<Option<Fault>, AllocError> {
+    match read_routine(alloc, source.dialect, source.stem, text) {
         Ok(_routine) => Ok(None),
         Err(Failure::Refused(fault)) => Ok(Some(fault)),
         Err(Failure::OutOfMemory) => Err(AllocError),
@@ -84,24 +90,28 @@ fn with_commands(alloc: Global, line: &[u8], commands: &[u8]) -> Result<Vec<u8>,
 // The readable front of a line, and the line's first fault, if it has one.
 fn readable_part(
     alloc: Global,
-    stem: &[u8],
+    source: &RoutineText<'_>,
     line: &[u8],
 ) -> Result<(Vec<u8>, Option<Fault>), AllocError> {
     let text = line_alone(alloc, line)?;
-    let Some(first) = fault_of(alloc, stem, text.as_slice())? else {
+    let Some(first) = fault_of(alloc, source, text.as_slice())? else {
         return Ok((Vec::from_slice(alloc, line)?, None));
     };
     let front = readable_front(text.as_slice(), &first);
-    let commands = readable_commands(alloc, stem, front)?;
+    let commands = readable_commands(alloc, source, front)?;
     let left = with_commands(alloc, line, commands.as_slice())?;
     Ok((left, Some(first)))
 }
 
 // The readable part of commands after the maximum number of cuts; empty if that can't be read either.
-fn readable_commands(alloc: Global, stem: &[u8], commands: &[u8]) -> Result<Vec<u8>, AllocError> {
+fn readable_commands(
+    alloc: Global,
+    source: &RoutineText<'_>,
+    commands: &[u8],
+) -> Result<Vec<u8>, AllocError> {
     let mut left = Vec::from_slice(alloc, commands)?;
     for _ in 0..MOST_CUTS {
-        let Some(fault) = fault_of(alloc, stem, left.as_slice())? else {
+        let Some(fault) = fault_of(alloc, source, left.as_slice())? else {
             return Ok(left);
         };
         let front = Vec::from_slice(alloc, readable_front(left.as_slice(), &fault))?;
@@ -173,14 +183,14 @@ fn placed_fault(fault: Fault, line: usize, lead: usize) -> Fault {
 }
 
 // The lines of a text, as far as each can be read separately.
-fn readable_lines(alloc: Global, stem: &[u8], text: &[u8]) -> Result<Readable, AllocError> {
+fn readable_lines(alloc: Global, source: &RoutineText<'_>) -> Result<Readable, AllocError> {
     let mut found = Readable {
         lines: Vec::new(alloc),
         faults: Vec::new(alloc),
     };
-    let lines: Vec<&[u8]> = text.lines().collect(alloc)?;
+    let lines: Vec<&[u8]> = source.text.lines().collect(alloc)?;
     for (place, line) in lines.iter().enumerate() {
-        let (left, fault) = readable_part(alloc, stem, line)?;
+        let (left, fault) = readable_part(alloc, source, line)?;
         push_sparing(&mut found.lines, left)?;
         if let Some(fault) = fault {
             let next = lines.get(place.saturating_add(1));
@@ -216,12 +226,12 @@ fn leave_out(alloc: Global, lines: &mut Vec<Vec<u8>>, fault: &Fault) -> Result<(
 // there are too many of these.
 fn read_together(
     alloc: Global,
-    stem: &[u8],
+    source: &RoutineText<'_>,
     found: &mut Readable,
 ) -> Result<Result<Routine, Fault>, AllocError> {
     for _ in 0..MOST_LEFT_OUT {
         let text = join_lines(alloc, found.lines.as_slice())?;
-        match read_routine(alloc, stem, text.as_slice()) {
+        match read_routine(alloc, source.dialect, source.stem, text.as_slice()) {
             Ok(routine) => return Ok(Ok(routine)),
             Err(Failure::OutOfMemory) => return Err(AllocError),
             Err(Failure::Refused(fault)) => {
@@ -231,7 +241,7 @@ fn read_together(
         }
     }
     let text = join_lines(alloc, found.lines.as_slice())?;
-    match read_routine(alloc, stem, text.as_slice()) {
+    match read_routine(alloc, source.dialect, source.stem, text.as_slice()) {
         Ok(routine) => Ok(Ok(routine)),
         Err(Failure::OutOfMemory) => Err(AllocError),
         Err(Failure::Refused(fault)) => Ok(Err(fault)),
@@ -245,8 +255,8 @@ fn is_hopeless(fault: &Fault) -> bool {
 
 impl PartlyRead {
     // Adds the routine of `source`, as far as it can be read.
-    fn add(&mut self, alloc: Global, source: RoutineText<'_>) -> Result<(), AllocError> {
-        let fault = match read_routine(alloc, source.stem, source.text) {
+    fn add(&mut self, alloc: Global, source: &RoutineText<'_>) -> Result<(), AllocError> {
+        let fault = match read_routine(alloc, source.dialect, source.stem, source.text) {
             Ok(routine) => return push_sparing(&mut self.routines, routine),
             Err(Failure::OutOfMemory) => return Err(AllocError),
             Err(Failure::Refused(fault)) => fault,
@@ -254,8 +264,8 @@ impl PartlyRead {
         if is_hopeless(&fault) {
             return push_sparing(&mut self.unread, fault);
         }
-        let mut found = readable_lines(alloc, source.stem, source.text)?;
-        match read_together(alloc, source.stem, &mut found)? {
+        let mut found = readable_lines(alloc, source)?;
+        match read_together(alloc, source, &mut found)? {
             Ok(routine) => {
                 push_sparing(&mut self.routines, routine)?;
                 for fault in found.faults {
@@ -276,7 +286,7 @@ pub fn read_partly(alloc: Global, sources: &[RoutineText<'_>]) -> Result<PartlyR
         unread: Vec::new(alloc),
     };
     for source in sources {
-        read.add(alloc, *source)?;
+        read.add(alloc, source)?;
     }
     Ok(read)
 }

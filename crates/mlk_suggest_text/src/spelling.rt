@@ -101,7 +101,7 @@ impl<'v> View<'v> {
         }
     }
 
-    // A lock name.
+    // The text of a lock name: its root, and in parentheses its subscripts.
     fn lock_name(&self, name: &LockName) -> Result<Vec<u8>, AllocError> {
         let mut subscripts = Vec::new(self.alloc);
         for symbol in &name.subscripts {

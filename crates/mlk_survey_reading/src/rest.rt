@@ -1,5 +1,6 @@
 // What is left of a text behind a line that is refused.
 
+use mlk_dialect::Dialect;
 use mlk_pool::Source;
 use mlk_text::{Code, Fault, LineNumber, Place};
 use std::alloc::{AllocError, Global};
@@ -10,6 +11,7 @@ const DEEPEST: usize = 15;
 /// What is left to read of the text of a routine.
 #[derive(Drop)]
 pub(crate) struct Rest {
+    dialect: Dialect,
     stem: Vec<u8>,
     text: Vec<u8>,
     /// how many lines of the routine come before the text
@@ -60,6 +62,7 @@ impl Rest {
     /// Keeps a copy of a whole text.
     pub(crate) fn of(alloc: Global, source: &Source<'_>) -> Result<Rest, AllocError> {
         Ok(Rest {
+            dialect: source.dialect,
             stem: Vec::from_slice(alloc, source.stem)?,
             text: Vec::from_slice(alloc, source.text.as_slice())?,
             before: 0,
@@ -110,6 +113,7 @@ impl Rest {
             return Ok(None);
         }
         Ok(Some(Rest {
+            dialect: self.dialect,
             stem: Vec::from_slice(alloc, self.stem.as_slice())?,
             text: Vec::from_slice(alloc, left)?,
             before: line,
@@ -129,6 +133,7 @@ impl Rest {
         }
         text.extend_from_slice(self.text.as_slice())?;
         Ok(Source {
+            dialect: self.dialect,
             stem: self.stem.as_slice(),
             text,
         })

@@ -1,7 +1,17 @@
 -- The numbers of the codes, and the words that are printed after them. This project's own choice.
 use Rattle.std.specs.Prelude.{◌≡◌, ℕ, List, codes}
 use Rattle.mlk_text.specs.declared.code.Code.{Code}
-use Rattle.mlk_text.specs.declared.code.Code.TheVariants.{ExprForm, ExprLeftOut, ExprDeep, NameLong, Byte, LineForm, LabelTwice, LevelJump, UnknownCommand, CommandLeftOut, ArgumentForm, Spacing, BlockUnreached, TooLarge, RoutineName, RoutineTwice, UnknownLabel, Arity, TooMany, Toml, Key, Pattern, TemplateVariable, FamiliesMeet, RulesLimit, NotEnabled, BadChoice, UnknownJob, EventForm, Head, Form, Order, EntryTwice, CertLimit, NoEnd, CaseUnused, Unruled, Uncovered, ReadOnly, NotPrivate, Pinned, NotHeld, Unranked, RankOrder, HeldAtEnd, CaseNotListed, NeedMissing, SummaryShort, NoCertificate, SharedName, UnknownSubscript, FallsIntoFormals, TooManyCases, NameEscapes, DropsFrame, GaveUp, EntryMissing, Workers, GateShut}
+use Rattle.mlk_text.specs.declared.code.Code.TheVariants.{ExprForm, ExprLeftOut, ExprDeep, NameLong, Byte, LineForm}
+use Rattle.mlk_text.specs.declared.code.Code.TheVariants.{LabelTwice, LevelJump, UnknownCommand, CommandLeftOut, ArgumentForm}
+use Rattle.mlk_text.specs.declared.code.Code.TheVariants.{Spacing, BlockUnreached, TooLarge, RoutineName}
+use Rattle.mlk_text.specs.declared.code.Code.TheVariants.{RoutineTwice, UnknownLabel, Arity, TooMany, Toml, Key, Pattern}
+use Rattle.mlk_text.specs.declared.code.Code.TheVariants.{TemplateVariable, FamiliesMeet, RulesLimit, NotEnabled, BadChoice}
+use Rattle.mlk_text.specs.declared.code.Code.TheVariants.{UnknownJob, EventForm, Head, Form, Order, EntryTwice}
+use Rattle.mlk_text.specs.declared.code.Code.TheVariants.{CertLimit, NoEnd, CaseUnused, Unruled, Uncovered, ReadOnly}
+use Rattle.mlk_text.specs.declared.code.Code.TheVariants.{NotPrivate, Pinned, NotHeld, Unranked, RankOrder, HeldAtEnd}
+use Rattle.mlk_text.specs.declared.code.Code.TheVariants.{CaseNotListed, NeedMissing, SummaryShort, NoCertificate, SharedName}
+use Rattle.mlk_text.specs.declared.code.Code.TheVariants.{UnknownSubscript, FallsIntoFormals, TooManyCases}
+use Rattle.mlk_text.specs.declared.code.Code.TheVariants.{NameEscapes, DropsFrame, GaveUp, EntryMissing, Workers, GateShut}
 
 abbrev pub number_of : Code → ℕ
 number_of ExprForm = 101

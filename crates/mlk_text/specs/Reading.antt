@@ -18,11 +18,13 @@ abbrev pub put : {A : Type 0} → List A → Option (List A × List ℕ) → Opt
 put front read = with (λ items. front ++ items) read
 
 -- as long as a head is at the front, an item must follow it; the count exceeds the length of the text
-abbrev pub many_by : {A B : Type 0} → (B → List ℕ → Option (A × List ℕ)) → (List ℕ → Option (List A × List ℕ)) → List ℕ → Option (B × List ℕ) → Option (List A × List ℕ)
+abbrev pub many_by : {A B : Type 0} → (B → List ℕ → Option (A × List ℕ)) → (List ℕ → Option (List A × List ℕ)) → List ℕ
+    → Option (B × List ℕ) → Option (List A × List ℕ)
 many_by item more xs None = Some ([], xs)
 many_by item more xs (Some h) = item h.0 h.1 >>= λ a. put (a.0 ∷ []) (more a.1)
 
-unfoldable pub many : {A B : Type 0} → (List ℕ → Option (B × List ℕ)) → (B → List ℕ → Option (A × List ℕ)) → ℕ → List ℕ → Option (List A × List ℕ)
+unfoldable pub many : {A B : Type 0} → (List ℕ → Option (B × List ℕ)) → (B → List ℕ → Option (A × List ℕ)) → ℕ → List ℕ
+    → Option (List A × List ℕ)
 many head item zero xs = None
 many head item (suc n) xs = many_by item (many head item n) xs (head xs)
 

@@ -1,7 +1,9 @@
 -- The words that are printed for parts of M that are not read. This project's own choice.
 use Rattle.std.specs.Prelude.{ℕ, List, codes}
 use Rattle.mlk_text.specs.declared.fault.LeftOut.{LeftOut}
-use Rattle.mlk_text.specs.declared.fault.LeftOut.TheVariants.{Indirection, Naked, Environment, Ssvn, External, Offset, Function, Special, Order, GlobalRead, ForVariable, QuitValue, Timeout, Command}
+use Rattle.mlk_text.specs.declared.fault.LeftOut.TheVariants.{Indirection, Naked, Environment, Ssvn, External}
+use Rattle.mlk_text.specs.declared.fault.LeftOut.TheVariants.{Offset, Function, Special, Order, GlobalRead}
+use Rattle.mlk_text.specs.declared.fault.LeftOut.TheVariants.{ForVariable, QuitValue, Timeout, Command}
 
 abbrev pub left_out_word : LeftOut → List ℕ
 left_out_word Indirection = codes "INDIRECTION"

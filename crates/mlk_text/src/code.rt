@@ -3,6 +3,8 @@
 ghost use Rattle.std.specs.Prelude.{◌≡◌};
 ghost use Rattle.mlk_text.specs.Codes.{number_of, word_of};
 
+use std::fmt::{self, Display, Formatter, Write};
+
 /// A refusal or a fault: 1xx expressions, 2xx lines and commands, 3xx linking, 4xx the rule file,
 /// 5xx events, 6xx the certificate, 7xx the walk, 8xx the maker, 9xx the whole run.
 #[derive(Clone, Copy, Debug, Drop, PartialEq, Eq, PartialOrd, Ord)]
@@ -200,5 +202,12 @@ impl Code {
             Code::Workers => b"Workers",
             Code::GateShut => b"GateShut",
         }
+    }
+}
+
+/// The number and the name, as in `101 ExprForm`.
+impl Display for Code {
+    fn fmt<W: Write>(&self, f: &mut Formatter<W>) -> fmt::Result {
+        write!(f, "{} {:?}", self.number(), self)
     }
 }

@@ -1,7 +1,8 @@
 // The smallest parts of M's texts: classes of bytes, and how many bytes of a class begin a text.
 
 ghost use Rattle.std.specs.Prelude.{◌≡◌, ◌≤◌, length, option_map};
-ghost use Rattle.mlk_text.specs.Lexemes.{is_digit, is_letter, is_name_byte, is_text_byte, is_text, digits, letters, name_bytes, byte_at, word_at};
+ghost use Rattle.mlk_text.specs.Lexemes.{is_digit, is_letter, is_name_byte, is_text_byte};
+ghost use Rattle.mlk_text.specs.Lexemes.{is_text, digits, letters, name_bytes, byte_at, word_at};
 
 /// Whether `b` is a digit.
 pub fn is_digit(b: u8) -> bool

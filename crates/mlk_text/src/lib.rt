@@ -10,7 +10,6 @@ pub mod lexeme;
 pub mod limit;
 mod list;
 pub mod literal;
-mod meaning;
 mod name;
 mod operator;
 mod place;

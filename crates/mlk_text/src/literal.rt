@@ -3,7 +3,8 @@
 ghost use Rattle.std.specs.Prelude.{◌≡◌, ◌≤◌, ◌∷◌, [], suc, length, nat_le, ◌&&◌};
 ghost use Rattle.mlk_text.specs.Reading.{put};
 ghost use Rattle.mlk_text.specs.Plain.{plain_bytes};
-ghost use Rattle.mlk_text.specs.Lexemes.{zeros, to_last, digits_at, exact_digits_at, inside, literal_at, list_at, subs_at, canonical, canonical_of, is_exact};
+ghost use Rattle.mlk_text.specs.Lexemes.{zeros, to_last, digits_at, exact_digits_at, inside, literal_at};
+ghost use Rattle.mlk_text.specs.Lexemes.{list_at, subs_at, canonical, canonical_of, is_exact};
 ghost use Rattle.mlk_text.specs.Failures.{Reads};
 
 use crate::failure::Failure;

@@ -18,5 +18,5 @@ pub use line::{check_line, walk_line};
 pub use missing::missing_entry;
 pub use parts::{Pieces, Unseen};
 pub use report::{Report, Row};
-pub use split::{DEEPEST_CUT, check_entry_split, verdict_split};
+pub use split::{DEEPEST_CUT, verdict_split};
 pub use verdict::Verdict;

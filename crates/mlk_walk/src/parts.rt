@@ -14,7 +14,7 @@ use mlk_cert_parts::Case;
 use mlk_syntax::Line;
 use mlk_text::{LineNumber, List};
 use mlk_walk_exprs::Note;
-use mlk_walk_lines::{Around, LineFault, LineFaults, walk_alone, walk_lines};
+use mlk_walk_lines::{Around, LineFault, LineFaults, Surroundings, walk_alone, walk_lines};
 use std::alloc::{AllocError, Global};
 use std::thread;
 use std::thread::Threads;
@@ -145,13 +145,16 @@ fn walk_head<'a>(
         faults: mut all,
         ends: inner,
     } = block;
+    let surroundings = Surroundings {
+        around: part.around,
+        next: part.after,
+    };
     let mut found = LineFaults::new(alloc);
     let ends = walk_alone(
         alloc,
         scope,
         line,
-        part.around,
-        part.after,
+        surroundings,
         List::of(inner),
         &mut found,
     )?;

@@ -6,17 +6,16 @@ ghost use Rattle.mlk_program.specs.Entries.{lines_of};
 ghost use Rattle.mlk_walk_state.specs.Scope.{scope_of, scope_with};
 ghost use Rattle.mlk_walk.specs.Faults.{ascending};
 ghost use Rattle.mlk_walk.specs.Parts.{IsOfEntry};
-ghost use Rattle.mlk_walk.specs.Verdicts.{all_faults, known, verdict};
+ghost use Rattle.mlk_walk.specs.Verdicts.{all_faults, verdict};
 
 use crate::begin::own_faults;
 use crate::check::{Checks, verdict_of};
 use crate::entry::{formals_of, line_after, number_of};
 use crate::parts::{Part, Pieces, walk_part};
 use crate::verdict::Verdict;
-use mlk_calls::{Entries, Scope};
-use mlk_cert_parts::{Certificate, EntryCert};
+use mlk_calls::Scope;
+use mlk_cert_parts::EntryCert;
 use mlk_program::{EntryId, Program};
-use mlk_rules::Rules;
 use mlk_walk_lines::Around;
 use std::alloc::{AllocError, Global};
 use std::thread::Threads;
@@ -61,7 +60,9 @@ fn verdict_by<P: Pieces + Sync, R: Threads + Sync>(
     Ok(verdict)
 }
 
-/// The faults of an entry, as `check_entry_split` returns them, given what is known of all entries.
+/// The faults of an entry that `verdict_of` returns, by a walk of its lines in parts. A list of more than one line is cut into
+/// halves, the first rounded up, which are walked in parallel and cut again, up to `depth` times: 0 cuts nothing, 6 makes up to
+/// 64 parts of each list. The block of a single line is cut likewise. If no thread starts, the caller walks that half itself.
 #[tactic(auto, unfolding(crate::specs::Verdicts::entry_faults))]
 pub fn verdict_split<P: Pieces + Sync, R: Threads + Sync>(
     rt: &R,
@@ -79,30 +80,4 @@ pub fn verdict_split<P: Pieces + Sync, R: Threads + Sync>(
         Some(block) => verdict_by(rt, alloc, checks, entry, block, depth, pieces),
         None => verdict_of(alloc, checks, entry),
     }
-}
-
-/// The faults of an entry that `check_entry` returns, by a walk of its lines in parts. A list of more than one line is cut into
-/// halves, the first rounded up, which are walked in parallel and cut again, up to `depth` times: 0 cuts nothing, 6 makes up to
-/// 64 parts of each list. The block of a single line is cut likewise. If no thread starts, the caller walks that half itself.
-pub fn check_entry_split<P: Pieces + Sync, R: Threads + Sync>(
-    rt: &R,
-    alloc: Global,
-    program: &Program<'_>,
-    rules: &Rules,
-    certificate: &Certificate,
-    entry: EntryId,
-    depth: u32,
-    pieces: &P,
-) -> Result<Verdict, AllocError>
-    requires { depth ≤ 6 }
-    ensures { IfOk result (λ v. v ≡ verdict (map routine_of program.now) rules.now
-        (known (map routine_of program.now) rules.now certificate.now) entry) }
-{
-    let entries = Entries::of(alloc, program, rules, certificate.blocks())?;
-    let checks = Checks {
-        program,
-        rules,
-        entries: &entries,
-    };
-    verdict_split(rt, alloc, &checks, entry, depth, pieces)
 }

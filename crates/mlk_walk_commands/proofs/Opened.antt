@@ -1,11 +1,11 @@
 -- The walk of variables, by the kinds of their names.
-use Rattle.std.proofs.Common.{◌≡◌, ◌∙◌, refl, ap, ℕ, suc, length, Bool, List, [], ◌∷◌, Vec, Global}
-use Rattle.mlk_text.specs.declared.root.Root.TheVariants as root
+use Rattle.std.proofs.Common.{◌≡◌, ◌∙◌, ap, ℕ, length, List, [], ◌∷◌, Vec, Global}
 use Rattle.mlk_syntax.specs.declared.expr.Subscript.{Subscript}
 use Rattle.mlk_syntax.specs.declared.expr.Expr.TheVariants as rust
-use Rattle.mlk_syntax.specs.ExprTrees.{tree_of, sub_trees, subs_from, LocalName, count_subs}
+use Rattle.mlk_syntax.specs.ExprTrees.{tree_of, sub_trees, subs_from, count_subs}
 use Rattle.mlk_syntax.proofs.Variants.{tree_local, tree_global}
 use Rattle.mlk_syntax.specs.Trees.{Named}
+use Rattle.mlk_syntax.proofs.TreeLists.{counted}
 use Rattle.mlk_names.specs.declared.reference.Access.TheVariants.{Reads, Writes}
 use Rattle.mlk_names.specs.declared.reference.Extent.TheVariants as extent
 use Rattle.mlk_walk_state.specs.declared.state.State.{State}
@@ -13,26 +13,10 @@ use Rattle.mlk_walk_state.specs.States.{without_last}
 use Rattle.mlk_walk_exprs.specs.Walks.{Goes}
 use Rattle.mlk_walk_exprs.specs.Spots.{Spot}
 use Rattle.mlk_walk_exprs.specs.References.{touch, touch_last}
-use Rattle.mlk_walk_commands.specs.Variables.{subs_of, change_local}
-use Rattle.mlk_walk_commands.specs.Locks.{root_of, unknown_code}
+use Rattle.mlk_walk_variables.specs.Variables.{change_local}
 use Rattle.mlk_walk_commands.specs.Arguments.{kill_row, read_row, merge_from, symbols_at, write_variable, read_part}
 
--- a slice of subscripts has the length of their trees
-pub counted : (subs : List Subscript) → count_subs (subs_from (sub_trees subs)) ≡ length subs
-counted [] = refl
-counted (s ∷ subs) = ap suc (counted subs)
-
 module _ (name : List ℕ) (v : Vec Subscript Global) where
-  pub local_subs : subs_of (tree_of (rust.Local name v)) ≡ subs_from (sub_trees v.items)
-  local_subs = ap subs_of (tree_local name v)
-
-  pub local_root : root_of (tree_of (rust.Local name v)) ≡ root.Local name
-  local_root = ap root_of (tree_local name v)
-
-  pub local_unknown : (shared : List ℕ → Bool) → unknown_code shared (tree_of (rust.Local name v))
-      ≡ unknown_code shared (LocalName name (subs_from (sub_trees v.items)))
-  local_unknown shared = ap (unknown_code shared) (tree_local name v)
-
   pub local_killed : (p : Spot) (column : ℕ) (s : State) → kill_row p (Named column (tree_of (rust.Local name v))) s
       ≡ change_local p column name (subs_from (sub_trees v.items)) (without_last (count_subs (subs_from (sub_trees v.items))) s)
   local_killed p column s = ap (λ t. kill_row p (Named column t) s) (tree_local name v)
@@ -51,12 +35,6 @@ module _ (name : List ℕ) (v : Vec Subscript Global) where
   local_written p from column s = ap (λ t. write_variable p from (Named column t) s) (tree_local name v)
 
 module _ (caret : ℕ) (name : List ℕ) (v : Vec Subscript Global) where
-  pub global_subs : subs_of (tree_of (rust.Global caret name v)) ≡ subs_from (sub_trees v.items)
-  global_subs = ap subs_of (tree_global caret name v)
-
-  pub global_root : root_of (tree_of (rust.Global caret name v)) ≡ root.Global name
-  global_root = ap root_of (tree_global caret name v)
-
   pub global_killed : (p : Spot) (column : ℕ) (s : State) → kill_row p (Named column (tree_of (rust.Global caret name v))) s
       ≡ touch_last p extent.Tree Writes caret name (count_subs (subs_from (sub_trees v.items))) s
   global_killed p column s = ap (λ t. kill_row p (Named column t) s) (tree_global caret name v)

@@ -1,24 +1,19 @@
 -- What is assigned to, in every state.
-use Rattle.std.proofs.Common.{◌≡◌, ◌∙◌, ap, true, ℕ, length, List, [], ◌∷◌, Vec, Global}
-use Rattle.std.specs.Prelude.{is_none, Ok}
-use Rattle.std.specs.List.{list_all}
+use Rattle.std.proofs.Common.{◌≡◌, ◌∙◌, ap, ℕ, length, List, Vec, Global}
 use Rattle.mlk_syntax.specs.declared.expr.Subscript.{Subscript}
 use Rattle.mlk_syntax.specs.declared.expr.Expr.TheVariants as rust
 use Rattle.mlk_syntax.specs.ExprTrees.{tree_of, sub_trees, subs_from}
 use Rattle.mlk_syntax.specs.Trees.{Named}
 use Rattle.mlk_syntax.proofs.Variants.{tree_local, tree_global}
+use Rattle.mlk_syntax.proofs.TreeLists.{counted}
 use Rattle.mlk_names.specs.declared.reference.Access.TheVariants.{Writes}
 use Rattle.mlk_names.specs.declared.reference.Extent.TheVariants as extent
-use Rattle.mlk_cert_parts.specs.declared.names.NameSet.{NameSet}
-use Rattle.mlk_calls.specs.Changes.{change_fault, changed_state, unless}
 use Rattle.mlk_walk_exprs.specs.declared.walk.Walk.{Walk}
-use Rattle.mlk_walk_exprs.specs.Walks.{each, each_changed, placed, put_states, with_states}
+use Rattle.mlk_walk_exprs.specs.Walks.{each}
 use Rattle.mlk_walk_exprs.specs.Spots.{Spot}
 use Rattle.mlk_walk_exprs.specs.References.{touch}
-use Rattle.mlk_walk_exprs.proofs.Passing.{all_change, all_stay, is_nothing}
-use Rattle.mlk_walk_commands.specs.Variables.{change_at, change_local}
+use Rattle.mlk_walk_variables.specs.Variables.{change_local}
 use Rattle.mlk_walk_commands.specs.Arguments.{symbols_at, write_variable}
-use Rattle.mlk_walk_commands.proofs.Opened.{counted}
 
 module _ (p : Spot) (from column : ℕ) (w : Walk) where
   pub local_written : (name : List ℕ) (v : Vec Subscript Global)
@@ -31,17 +26,3 @@ module _ (p : Spot) (from column : ℕ) (w : Walk) where
       ≡ each (λ s. touch p extent.Node Writes caret name (symbols_at from (length v.items) s) s) w
   global_written caret name v = ap (λ t. each (write_variable p from (Named column t)) w) (tree_global caret name v)
       ∙ ap (λ n. each (λ s. touch p extent.Node Writes caret name (symbols_at from n s) s) w) (counted v.items)
-
--- a local with subscripts, whose value is not known
-pub local_stays : (p : Spot) (column : ℕ) (name : List ℕ) (w : Walk) (subs : List Subscript) (first : Subscript) (others : List Subscript)
-    → subs ≡ first ∷ others → each (change_local p column name (subs_from (sub_trees subs))) w ≡ with_states (put_states w.going []) w
-local_stays p column name w subs first others is =
-    ap (λ z. each (change_local p column name (subs_from (sub_trees z))) w) is ∙ all_stay w
-
--- a change that is allowed in all states
-pub all_allow : (p : Spot) (column : ℕ) (names : NameSet) (w : Walk)
-    → list_all (λ s. is_none (change_fault p.scope (names ∷ []) s)) w.going ≡ true
-    → each (change_at p column names) w ≡ each_changed (changed_state (names ∷ [])) w
-all_allow p column names =
-    all_change (λ s. is_none (change_fault p.scope (names ∷ []) s)) (change_at p column names) (changed_state (names ∷ []))
-    (λ s h. ap (λ f. placed p.line column (unless f (Ok (changed_state (names ∷ []) s)))) (is_nothing (change_fault p.scope (names ∷ []) s) h))

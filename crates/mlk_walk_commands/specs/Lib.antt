@@ -1,5 +1,2 @@
-pub mod Variables
-pub mod Locks
-pub mod Holding
 pub mod News
 pub mod Arguments

@@ -9,15 +9,17 @@ ghost use Rattle.mlk_walk_state.specs.declared.state.State.{State};
 ghost use Rattle.mlk_walk_exprs.specs.Spots.{spot_of};
 ghost use Rattle.mlk_walk_exprs.specs.Walks.{Outcome, each};
 ghost use Rattle.mlk_walk_exprs.specs.References.{checked, touch};
-ghost use Rattle.mlk_walk_commands.specs.Arguments.{variable_in, arguments_in, capture_targets, symbols_at, read_part, read_target, write_variable, assign, assign_all, count_targets, set_argument};
+ghost use Rattle.mlk_walk_commands.specs.Arguments.{variable_in, arguments_in, capture_targets};
+ghost use Rattle.mlk_walk_commands.specs.Arguments.{symbols_at, read_part, read_target, write_variable};
+ghost use Rattle.mlk_walk_commands.specs.Arguments.{assign, assign_all, count_targets, set_argument};
 
-use crate::variable::{capture_variable, change_local, change_locals, count_of};
 use mlk_calls::State;
 use mlk_names::{Access, Extent, Sym};
 use mlk_syntax::{Expr, SetArgument, Target, Variable};
 use mlk_walk_exprs::{
     Spot, Touch, Transfer, Walk, apply_to_states, covered_or, forget_captured, value, values,
 };
+use mlk_walk_variables::{capture_variable, change_local, change_locals, count_of};
 use std::alloc::AllocError;
 
 fn variable_in(target: &Target) -> &Variable
@@ -179,7 +181,7 @@ struct Write<'a> {
 impl<'a> Transfer for Write<'a> {
     ghost outcomes = { λ r s. write_variable (spot_of r.spot.now) r.from (variable_of r.variable.now) s };
 
-    #[tactic(auto, using(crate::proofs::Opened::counted, crate::proofs::Opened::local_written, crate::proofs::Opened::global_written))]
+    #[tactic(auto, using(mlk_syntax::proofs::TreeLists::counted, crate::proofs::Opened::local_written, crate::proofs::Opened::global_written))]
     fn make(&self, state: State, walk: &mut Walk) -> Result<(), AllocError> {
         let spot = self.spot;
         match &self.variable.name {

@@ -7,14 +7,13 @@ ghost use Rattle.mlk_walk_exprs.specs.Spots.{spot_of};
 ghost use Rattle.mlk_walk_exprs.specs.Walks.{Outcome};
 ghost use Rattle.mlk_walk_commands.specs.Arguments.{kill_row, kill_all_but, kill_argument};
 
-use crate::order::in_order;
-use crate::variable::{capture_variable, change_all, change_local};
 use mlk_calls::State;
 use mlk_cert_parts::NameSet;
 use mlk_names::{Access, Extent};
 use mlk_syntax::{Expr, KillArgument, Variable};
 use mlk_text::{List, Name};
 use mlk_walk_exprs::{Spot, Touch, TouchLast, Transfer, Walk, apply_to_states};
+use mlk_walk_variables::{capture_variable, change_all, change_local, in_order};
 use std::alloc::AllocError;
 
 /// The KILL of a variable whose subscripts were captured last.
@@ -27,7 +26,7 @@ pub(crate) struct Kill<'a> {
 impl<'a> Transfer for Kill<'a> {
     ghost outcomes = { λ r s. kill_row (spot_of r.spot.now) (variable_of r.variable.now) s };
 
-    #[tactic(auto, using(crate::proofs::Opened::counted, crate::proofs::Opened::local_killed, crate::proofs::Opened::global_killed))]
+    #[tactic(auto, using(mlk_syntax::proofs::TreeLists::counted, crate::proofs::Opened::local_killed, crate::proofs::Opened::global_killed))]
     fn make(&self, state: State, walk: &mut Walk) -> Result<(), AllocError> {
         let spot = self.spot;
         match &self.variable.name {

@@ -6,18 +6,19 @@ ghost use Rattle.mlk_syntax.specs.Views.{variable_of, read_of, merge_of, write_o
 ghost use Rattle.mlk_walk_state.specs.declared.state.State.{State};
 ghost use Rattle.mlk_walk_exprs.specs.Spots.{spot_of};
 ghost use Rattle.mlk_walk_exprs.specs.Walks.{Outcome};
-ghost use Rattle.mlk_walk_commands.specs.Arguments.{in_time_or_not, read_row, read_variable, read_argument, merge_from, merge_argument, write_argument};
+ghost use Rattle.mlk_walk_commands.specs.Arguments.{in_time_or_not, read_row, read_variable, read_argument};
+ghost use Rattle.mlk_walk_commands.specs.Arguments.{merge_from, merge_argument, write_argument};
 
 use crate::kill::Kill;
-use crate::variable::{capture_variable, change_local, count_of};
 use mlk_calls::State;
 use mlk_cert_parts::Test;
 use mlk_names::{Access, Extent};
 use mlk_syntax::{Expr, MergeArgument, ReadArgument, Variable, WriteArgument};
 use mlk_walk_exprs::{Spot, Touch, TouchLast, Transfer, Walk, apply_to_states, value, value_if};
+use mlk_walk_variables::{capture_variable, change_local, count_of};
 use std::alloc::AllocError;
 
-// With a timeout, `$TEST` is then 1 or 0.
+// The end of a READ: with a timeout there is a state in which `$TEST` is 1, and one in which it is 0.
 #[derive(Clone, Copy, Drop)]
 struct InTime<'a> {
     timeout: Option<&'a Expr>,
@@ -26,6 +27,7 @@ struct InTime<'a> {
 impl<'a> Transfer for InTime<'a> {
     ghost outcomes = { λ r s. in_time_or_not (option_map tree_of (option_copied r.timeout)) s };
 
+    // Adds the state, or with a timeout both states.
     fn make(&self, state: State, walk: &mut Walk) -> Result<(), AllocError> {
         match self.timeout {
             None => walk.add_live(state),
@@ -48,7 +50,8 @@ struct Read<'a> {
 impl<'a> Transfer for Read<'a> {
     ghost outcomes = { λ r s. read_row (spot_of r.spot.now) (variable_of r.variable.now) s };
 
-    #[tactic(auto, using(crate::proofs::Opened::counted, crate::proofs::Opened::local_read))]
+    // Adds the states in which the local has another value.
+    #[tactic(auto, using(mlk_syntax::proofs::TreeLists::counted, crate::proofs::Opened::local_read))]
     fn make(&self, state: State, walk: &mut Walk) -> Result<(), AllocError> {
         let Expr::Local(name, subscripts) = &self.variable.name else {
             return walk.add_live(state);
@@ -112,7 +115,8 @@ struct ReadTree<'a> {
 impl<'a> Transfer for ReadTree<'a> {
     ghost outcomes = { λ r s. merge_from (spot_of r.spot.now) (variable_of r.variable.now) s };
 
-    #[tactic(auto, using(crate::proofs::Opened::counted, crate::proofs::Opened::local_merged, crate::proofs::Opened::global_merged))]
+    // Adds the states after a global is read; a local is read without effect.
+    #[tactic(auto, using(mlk_syntax::proofs::TreeLists::counted, crate::proofs::Opened::local_merged, crate::proofs::Opened::global_merged))]
     fn make(&self, state: State, walk: &mut Walk) -> Result<(), AllocError> {
         match &self.variable.name {
             Expr::Global(column, name, subscripts) => {

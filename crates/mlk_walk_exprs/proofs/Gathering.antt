@@ -10,7 +10,7 @@ use Rattle.mlk_walk_exprs.specs.declared.walk.Walk.{Walk}
 use Rattle.mlk_walk_exprs.specs.Walks.{put_state, put_states, with_states, joined, joins}
 use Rattle.mlk_walk_exprs.specs.Gathered.{in_turn, gathered}
 
-same_is : (s t : State) → same_state s t ≡ true → s ≡ t
+pub same_is : (s t : State) → same_state s t ≡ true → s ≡ t
 same_is s t h = (same_decides.states s t).0 h
 
 same_self : (s : State) → same_state s s ≡ true

@@ -1,19 +1,17 @@
 -- How the walk of each kind of expression unfolds.
 use Rattle.std.specs.Prelude.{OnOk}
-use Rattle.std.proofs.Common.{◌≡◌, ◌∙◌, ap, sym, subst, arith, eqb-true, true, false, nat_eq, Result, refl, suc, length, ℕ, List, [], ◌∷◌, None, Some, Vec, Box, Global}
+use Rattle.std.proofs.Common.{◌≡◌, ◌∙◌, ap, sym, subst, arith, eqb-true, true, false, nat_eq, Result, refl, length, ℕ, List, [], ◌∷◌, None, Some, Vec, Box, Global}
 use Rattle.mlk_text.specs.declared.operator.Op.{Op}
 use Rattle.mlk_text.specs.declared.operator.UnaryOp.{UnaryOp}
 use Rattle.mlk_syntax.specs.declared.expr.Callee.{Callee}
 use Rattle.mlk_syntax.specs.declared.expr.Function.{Function}
-use Rattle.mlk_syntax.specs.declared.expr.Expr.{Expr, fold-roll-Expr}
+use Rattle.mlk_syntax.specs.declared.expr.Expr.{Expr}
 use Rattle.mlk_syntax.specs.declared.expr.Actual.{Actual}
 use Rattle.mlk_syntax.specs.declared.expr.Subscript.{Subscript}
-use Rattle.mlk_syntax.specs.declared.expr.Actual.TheOpen as open'
 use Rattle.mlk_syntax.specs.declared.expr.Expr.TheVariants as rust
-use Rattle.mlk_syntax.specs.declared.expr.Expr.TheVariants.{rolls-Unary, rolls-Binary, rolls-Select, rolls-Call}
-use Rattle.mlk_syntax.specs.ExprTrees.{Tree, ActualTree, Prefixed, Chain, Selected, BareCall, tree_of, sub_trees, subs_from, trees, trees_from, no_subs, links, links_from, choices, choices_from, actual_trees, actuals_from, actual_step, expr_step, subscript_step, count_subs}
-use Rattle.mlk_syntax.proofs.Variants.{tree_local, tree_global, tree_func, tree_call}
-use Rattle.mlk_program.proofs.FoundCalls.{as_list_same}
+use Rattle.mlk_syntax.specs.ExprTrees.{Tree, tree_of, sub_trees, subs_from, trees, trees_from, no_subs, links, links_from, choices, choices_from, actual_trees, actuals_from}
+use Rattle.mlk_syntax.proofs.Variants.{tree_local, tree_global, tree_func, tree_call, tree_unary, tree_binary, tree_select, tree_bare}
+use Rattle.mlk_syntax.proofs.TreeLists.{counted, as_list_same}
 use Rattle.mlk_walk_exprs.specs.declared.walk.Walk.{Walk}
 use Rattle.mlk_walk_exprs.specs.declared.reference.Use.{Use}
 use Rattle.mlk_walk_exprs.specs.declared.reference.Use.TheVariants.{ItsValue}
@@ -25,28 +23,6 @@ use Rattle.mlk_walk_exprs.specs.Walks.{each, each_changed}
 use Rattle.mlk_walk_exprs.specs.Spots.{Spot}
 use Rattle.mlk_walk_exprs.specs.References.{use_of, read_last}
 use Rattle.mlk_walk_exprs.specs.Expressions.{with_symbol_of, forget_subs, extrinsic, evaluate, evaluate_all, capture_subs, evaluate_links, evaluate_choices, capture_actuals}
-
-tree_unary : (op : UnaryOp) (b : Box Expr Global) → tree_of (rust.Unary op b) ≡ Prefixed op (tree_of b.value)
-tree_unary op b = ap tree_of (sym (rolls-Unary op b))
-    ∙ fold-roll-Expr ActualTree Tree (ℕ × Tree) actual_step expr_step subscript_step (open'.Unary op b)
-
-tree_binary : (b : Box Expr Global) (v : Vec (Op × Expr) Global)
-    → tree_of (rust.Binary b v) ≡ Chain (tree_of b.value) (links_from (links v.items))
-tree_binary b v = ap tree_of (sym (rolls-Binary b v))
-    ∙ fold-roll-Expr ActualTree Tree (ℕ × Tree) actual_step expr_step subscript_step (open'.Binary b v)
-
-tree_select : (v : Vec (Expr × Expr) Global) → tree_of (rust.Select v) ≡ Selected (choices_from (choices v.items))
-tree_select v = ap tree_of (sym (rolls-Select v))
-    ∙ fold-roll-Expr ActualTree Tree (ℕ × Tree) actual_step expr_step subscript_step (open'.Select v)
-
-tree_bare : (column : ℕ) (callee : Box Callee Global) → tree_of (rust.Call column callee None) ≡ BareCall column callee.value
-tree_bare column callee = ap tree_of (sym (rolls-Call column callee None))
-    ∙ fold-roll-Expr ActualTree Tree (ℕ × Tree) actual_step expr_step subscript_step (open'.Call column callee None)
-
--- as many subscripts as the list has
-counted : (ss : List Subscript) → count_subs (subs_from (sub_trees ss)) ≡ length ss
-counted [] = refl
-counted (s ∷ ss) = ap suc (counted ss)
 
 pub forgets : (ss : List Subscript) (w : Walk) → nat_eq (length ss) 0 ≡ false
     → forget_subs (subs_from (sub_trees ss)) w ≡ each_changed (without_last (length ss)) w

@@ -67,7 +67,8 @@ pub fn where_it_holds(
     condition: &Expr,
     walk: &mut Walk,
 ) -> Result<List<State>, AllocError>
-    ensures holds { OnOk result (walk.new ≡ with_states (where_it_may_be true (scope_of spot.now.scope.now) (tree_of condition.now) walk.old.going) walk.old) }
+    ensures holds { OnOk result (walk.new
+        ≡ with_states (where_it_may_be true (scope_of spot.now.scope.now) (tree_of condition.now) walk.old.going) walk.old) }
     ensures fails { IfOk result (λ s. s ≡ where_it_may_be false (scope_of spot.now.scope.now) (tree_of condition.now) walk.old.going) }
 {
     let going = walk.take_going(spot.alloc);

@@ -1,14 +1,18 @@
 // Expressions: the effect of their references and calls on the states of a walk.
 
 ghost use Rattle.std.specs.Prelude.{◌≡◌, IfOk, OnOk, option_map, option_copied};
-ghost use Rattle.mlk_syntax.specs.ExprTrees.{tree_of, trees, trees_from, sub_trees, subs_from, no_subs, links, links_from, choices, choices_from, actual_of, actual_trees, actuals_from};
+ghost use Rattle.mlk_syntax.specs.ExprTrees.{tree_of, trees, trees_from, sub_trees, subs_from, no_subs, links};
+ghost use Rattle.mlk_syntax.specs.ExprTrees.{links_from, choices, choices_from, actual_of, actual_trees, actuals_from};
 ghost use Rattle.mlk_walk_state.specs.Scope.{scope_of};
 ghost use Rattle.mlk_walk_state.specs.States.{with_symbol};
 ghost use Rattle.mlk_walk_state.specs.Symbols.{local_symbol};
 ghost use Rattle.mlk_walk_exprs.specs.Walks.{each};
 ghost use Rattle.mlk_walk_exprs.specs.References.{read_last};
 ghost use Rattle.mlk_walk_exprs.specs.Spots.{spot_of};
-ghost use Rattle.mlk_walk_exprs.specs.Expressions.{with_symbol_of, capture, capture_unknown, forget_subs, extrinsic, evaluate, evaluate_all, capture_subs, evaluate_links, evaluate_choices, where_chosen, passed_over, capture_actual, capture_actuals, value, value_if, values};
+ghost use Rattle.mlk_walk_exprs.specs.Expressions.{with_symbol_of, capture, capture_unknown, forget_subs};
+ghost use Rattle.mlk_walk_exprs.specs.Expressions.{extrinsic, evaluate, evaluate_all, capture_subs, evaluate_links};
+ghost use Rattle.mlk_walk_exprs.specs.Expressions.{evaluate_choices, where_chosen, passed_over};
+ghost use Rattle.mlk_walk_exprs.specs.Expressions.{capture_actual, capture_actuals, value, value_if, values};
 
 use crate::call::CallTransfer;
 use crate::condition::{join_all, where_it_holds};

@@ -17,4 +17,4 @@ pub use expression::{
 pub use reference::{ReadLast, Touch, TouchLast, Use, covered_or, last_of, use_of};
 pub use spot::{Block, Spot};
 pub use transfer::{Transfer, apply_to_states, forget_captured};
-pub use walk::{Fault, Faults, Found, Mend, Note, Quit, Standing, Walk, put, put_all, too_many};
+pub use walk::{Fault, Faults, Found, Mend, Note, Quit, Situation, Walk, put, put_all, too_many};

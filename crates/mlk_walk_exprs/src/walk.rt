@@ -2,7 +2,8 @@
 
 ghost use Rattle.std.specs.Prelude.{◌≡◌, ◌↔◌, IsTrue, ◌∷◌, ◌++◌, [], IfOk, MatchOption, OnOk, map};
 ghost use Rattle.mlk_walk_state.specs.States.{same_state};
-ghost use Rattle.mlk_walk_exprs.specs.Walks.{Goes, Skips, Quits, Refused, add, add_all, put_state, put_states, is_large, too_many, few, joined, with_states};
+ghost use Rattle.mlk_walk_exprs.specs.Walks.{Goes, Skips, Quits, Refused, add, add_all, put_state};
+ghost use Rattle.mlk_walk_exprs.specs.Walks.{put_states, is_large, too_many, few, joined, with_states};
 ghost use Rattle.std.specs.List.{list_any};
 
 use mlk_calls::State;
@@ -44,7 +45,7 @@ pub enum Mend {
 
 /// The locks that were held, and what was known of `$TEST`, where a fault was found.
 #[derive(Drop)]
-pub struct Standing {
+pub struct Situation {
     pub test: Test,
     pub held: Shared<LockTerm>,
 }
@@ -54,7 +55,7 @@ pub struct Standing {
 #[derive(Drop)]
 pub struct Note {
     pub mend: Mend,
-    pub standing: Option<Standing>,
+    pub situation: Option<Situation>,
 }
 
 impl Note {
@@ -62,19 +63,19 @@ impl Note {
     pub fn of(mend: Mend) -> Note {
         Note {
             mend,
-            standing: None,
+            situation: None,
         }
     }
 
     /// A note on a fault that was found in `case`.
     pub fn in_case(mend: Mend, case: &Case) -> Result<Note, AllocError> {
-        let standing = Standing {
+        let situation = Situation {
             test: case.test,
             held: case.held.clone()?,
         };
         Ok(Note {
             mend,
-            standing: Some(standing),
+            situation: Some(situation),
         })
     }
 }

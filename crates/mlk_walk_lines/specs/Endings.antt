@@ -1,7 +1,8 @@
 -- The end of a line: a case continues at the next line of its level, or its block ends, or its frame. Standard: line
 -- structure, levels, DO, QUIT; that a job stops before a line with a formal list, and the checks at an end, are this
 -- project's own choice.
-use Rattle.std.specs.Prelude.{ℕ, Bool, not, ◌&&◌, ◌==◌, if◌then◌else◌, List, [], ◌∷◌, ◌++◌, map, filter, fold, Option, Some, None, is_some, option_map, option_copied}
+use Rattle.std.specs.Prelude.{ℕ, Bool, not, ◌&&◌, ◌==◌, if◌then◌else◌, List, [], ◌∷◌, ◌++◌, map}
+use Rattle.std.specs.Prelude.{filter, fold, Option, Some, None, is_some, option_map, option_copied}
 use Rattle.std.specs.List.{list_any}
 use Rattle.mlk_text.specs.declared.code.Code.{Code}
 use Rattle.mlk_text.specs.declared.code.Code.TheVariants.{HeldAtEnd, CaseNotListed, FallsIntoFormals, NameEscapes}
@@ -114,12 +115,12 @@ level_end (OfFrame after) e column c = frame_end e column c
 abbrev pub quit_end : LineEnd → Quit → Ending
 quit_end e q = level_end e.around e q.column q.case
 
-abbrev pub go_on : Option HeadTree → LineEnd → Case → Ending
-go_on None e c = level_end e.around e e.column c
-go_on (Some head) e c = into_line e.scope head c
+abbrev pub continuation : Option HeadTree → LineEnd → Case → Ending
+continuation None e c = level_end e.around e e.column c
+continuation (Some head) e c = into_line e.scope head c
 
 abbrev pub case_end : LineEnd → Case → Ending
-case_end e c = go_on e.next e c
+case_end e c = continuation e.next e c
 
 -- the cases that are listed at the next line, for private clauses only
 abbrev pub listed_in : Scope → Option HeadTree → List Case

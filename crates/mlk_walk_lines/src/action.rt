@@ -8,7 +8,8 @@ ghost use Rattle.mlk_walk_state.specs.declared.state.State.{State};
 ghost use Rattle.mlk_walk_state.specs.Cases.{holds_some};
 ghost use Rattle.mlk_walk_exprs.specs.Spots.{spot_of};
 ghost use Rattle.mlk_walk_exprs.specs.Walks.{Outcome, add_all};
-ghost use Rattle.mlk_walk_lines.specs.Commands.{if_row, else_row, halt_row, quit_row, do_calls, if_all, kill_each, lock_each, new_each, act};
+ghost use Rattle.mlk_walk_lines.specs.Commands.{if_row, else_row, halt_row, quit_row, do_calls};
+ghost use Rattle.mlk_walk_lines.specs.Commands.{if_all, kill_each, lock_each, new_each, act};
 ghost use Rattle.mlk_walk_lines.specs.Counting.{counted};
 
 use crate::argument::{walk_arguments, walk_conditions};
@@ -18,8 +19,9 @@ use mlk_cert_parts::Test;
 use mlk_names::LockTerm;
 use mlk_syntax::{Action, DoArgument, Expr, KillArgument, LockArgument, NewArgument};
 use mlk_text::{Code, List};
-use mlk_walk_commands::{Release, kill_all_but, new_all_but};
+use mlk_walk_commands::{kill_all_but, new_all_but};
 use mlk_walk_exprs::{Mend, Note, Spot, Transfer, Walk, apply_to_states, value_if};
+use mlk_walk_locks::Release;
 use std::alloc::{AllocError, Global};
 
 // IF without arguments: if `$TEST` is 0, the rest of the line is skipped; if it is not known, both ways are taken, and it is

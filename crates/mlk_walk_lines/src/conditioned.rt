@@ -48,8 +48,8 @@ fn apply_if_true<'a>(
     command: &'a Command,
     walk: &mut Walk,
 ) -> Result<(), AllocError>
-    ensures { OnOk result (counted walk.new ≡ counted (conditioned (spot_of spot.now) (option_map (λ b. tree_of b.value) command.now.condition)
-        (act (spot_of spot.now) (action_of command.now.action)) stay walk.old)) }
+    ensures { OnOk result (counted walk.new ≡ counted (conditioned (spot_of spot.now)
+        (option_map (λ b. tree_of b.value) command.now.condition) (act (spot_of spot.now) (action_of command.now.action)) stay walk.old)) }
 {
     match &command.condition {
         None => act(spot, &command.action, walk),

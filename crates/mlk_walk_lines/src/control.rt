@@ -6,7 +6,8 @@ ghost use Rattle.mlk_walk_state.specs.States.{at_rest};
 ghost use Rattle.mlk_walk_exprs.specs.Spots.{spot_of};
 ghost use Rattle.mlk_walk_exprs.specs.Walks.{begin, put_states};
 ghost use Rattle.mlk_walk_lines.specs.Counting.{counted};
-ghost use Rattle.mlk_walk_lines.specs.Loops.{rounds_of, parameters, controlled, and_faults, and_states, over_too, after_rounds, at_word, one_command, commands};
+ghost use Rattle.mlk_walk_lines.specs.Loops.{rounds_of, parameters, controlled, and_faults, and_states};
+ghost use Rattle.mlk_walk_lines.specs.Loops.{over_too, after_rounds, at_word, one_command, commands};
 
 use crate::block::are_many;
 use crate::conditioned::perform;

@@ -11,7 +11,7 @@ ghost use Rattle.mlk_walk_lines.specs.Parts.{first_or, part_walk};
 use crate::control::{begin, commands};
 use crate::ending::Ends;
 use crate::found::LineFaults;
-use crate::line_end::{Around, LineEnd};
+use crate::line_end::{Around, LineEnd, Surroundings};
 use mlk_calls::Scope;
 use mlk_cert_parts::Case;
 use mlk_syntax::Line;
@@ -87,26 +87,26 @@ fn without_first(lines: &[Line]) -> &[Line]
     }
 }
 
-/// Walks one line alone, whose block may end in the cases `ends`. Adds the faults, and returns the cases in which the block
-/// that contains the line may end. `next` is the line at which a job continues.
+/// Walks one line alone, whose block may end in the cases `inner`. Adds the faults, and returns the cases in which the block
+/// that contains the line may end.
 pub fn walk_alone<'a>(
     alloc: Global,
     scope: &'a Scope<'a>,
     line: &'a Line,
-    around: Around<'a>,
-    next: Option<&'a Line>,
+    surroundings: Surroundings<'a>,
     inner: List<Case>,
     found: &mut LineFaults,
 ) -> Result<Vec<Case>, AllocError>
     ensures faults { OnOk result (found.new ≡ found.old
-        ++ map (found_in (number_of (head_of line.now))) (head_walk (scope_of scope.now) (around_of around.entry)
-        (option_map head_of (option_copied next.entry)) (block_with (line_of line.now).1 inner)
-        (head_of line.now)).faults) }
-    ensures ends { IfOk result (λ v. v.items ≡ (head_walk (scope_of scope.now) (around_of around.entry)
-        (option_map head_of (option_copied next.entry)) (block_with (line_of line.now).1 inner)
-        (head_of line.now)).cases) }
+        ++ map (found_in (number_of (head_of line.now))) (head_walk (scope_of scope.now)
+        (around_of surroundings.entry.around) (option_map head_of (option_copied surroundings.entry.next))
+        (block_with (line_of line.now).1 inner) (head_of line.now)).faults) }
+    ensures ends { IfOk result (λ v. v.items ≡ (head_walk (scope_of scope.now)
+        (around_of surroundings.entry.around) (option_map head_of (option_copied surroundings.entry.next))
+        (block_with (line_of line.now).1 inner) (head_of line.now)).cases) }
 {
     let block = block_of(line.block.as_slice(), inner);
+    let Surroundings { around, next } = surroundings;
     let ends = walk_head(alloc, scope, around, next, &block, line)?;
     found.add(line.number, ends.faults)?;
     Ok(ends.cases.into_vec())

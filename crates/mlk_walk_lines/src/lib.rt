@@ -14,4 +14,4 @@ mod rounds;
 
 pub use found::{LineFault, LineFaults};
 pub use level::{walk_alone, walk_lines};
-pub use line_end::Around;
+pub use line_end::{Around, Surroundings};

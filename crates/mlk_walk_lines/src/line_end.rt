@@ -5,7 +5,9 @@ ghost use Rattle.std.specs.List.{list_any};
 ghost use Rattle.mlk_walk_state.specs.Terms.{is_such, mention_such};
 ghost use Rattle.mlk_walk_state.specs.Cases.{holds_some, last_saved, before_last};
 ghost use Rattle.mlk_walk_state.specs.Scope.{scope_of};
-ghost use Rattle.mlk_walk_lines.specs.Endings.{end_of, around_of, head_of, into_line, listed_in, listed_ahead, is_at_level, escapes_block, is_left, restored, block_end, escapes, frame_end, level_end, quit_end, go_on, case_end, state_end, add_ending, add_endings, at_end};
+ghost use Rattle.mlk_walk_lines.specs.Endings.{end_of, around_of, head_of, into_line, listed_in, listed_ahead, is_at_level};
+ghost use Rattle.mlk_walk_lines.specs.Endings.{escapes_block, is_left, restored, block_end, escapes, frame_end, level_end};
+ghost use Rattle.mlk_walk_lines.specs.Endings.{quit_end, continuation, case_end, state_end, add_ending, add_endings, at_end};
 
 use crate::action::holds_some;
 use crate::ending::Ends;
@@ -23,6 +25,13 @@ use std::slice;
 pub enum Around<'a> {
     Block,
     Frame(Option<&'a Line>),
+}
+
+/// What is around a line: its block or its frame, and the line at which a job continues after it, if there is one.
+#[derive(Clone, Copy, Drop)]
+pub struct Surroundings<'a> {
+    pub around: Around<'a>,
+    pub next: Option<&'a Line>,
 }
 
 /// The end of a line: what contains the lines of its level, the next of them, the line's number and level, and the column

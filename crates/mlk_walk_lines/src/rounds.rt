@@ -6,14 +6,15 @@ ghost use Rattle.mlk_walk_state.specs.declared.state.State.{State};
 ghost use Rattle.mlk_walk_exprs.specs.Spots.{spot_of};
 ghost use Rattle.mlk_walk_exprs.specs.Walks.{Outcome, Refused, add_all, each};
 ghost use Rattle.mlk_text.specs.declared.code.Code.TheVariants.{CaseNotListed};
-ghost use Rattle.mlk_walk_lines.specs.Loops.{rounds_of, begin_round, round_or_after, after_round, step_variable, step_again, limited, parameter};
+ghost use Rattle.mlk_walk_lines.specs.Loops.{rounds_of, begin_round, round_or_after, after_round};
+ghost use Rattle.mlk_walk_lines.specs.Loops.{step_variable, step_again, limited, parameter};
 
 use mlk_calls::{State, is_listed};
 use mlk_cert_parts::{Case, NameSet};
 use mlk_syntax::Parameter;
 use mlk_text::{Code, Column, List};
-use mlk_walk_commands::Change;
 use mlk_walk_exprs::{Mend, Note, Spot, Transfer, Walk, apply_to_states, value};
+use mlk_walk_variables::Change;
 use std::alloc::{AllocError, Global};
 
 /// The rounds of a FOR, whose word is at the spot's column: its variable with the column of its name, the number of the FOR on

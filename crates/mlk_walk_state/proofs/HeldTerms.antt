@@ -1,25 +1,17 @@
 -- Held terms: how often each is held, and their order.
 use Rattle.std.proofs.Common.{◌≡◌, ℕ, suc, Bool, true, false, not, List, [], ◌∷◌, length, Option, Some, None, refl, sym, ap, ◌∙◌, arith, ⊎_elim, one-add}
-use Rattle.std.specs.Prelude.{◌==◌, ◌+◌, nat_lt, option_map, remove, if◌then◌else◌}
+use Rattle.std.specs.Prelude.{◌+◌, nat_lt, option_map, remove, if◌then◌else◌}
 use Rattle.std.specs.List.{position_or_len}
-use Rattle.std.proofs.lemmas.Bool.{cases_Bool, and_parts, and_from}
+use Rattle.std.proofs.lemmas.Bool.{cases_Bool, and_parts, and_from, not-true, not-false}
 use Rattle.std.proofs.lemmas.Bool.Decides.{nat_tests}
 use Rattle.mlk_names.specs.declared.term.LockTerm.{LockTerm}
 use Rattle.mlk_cert_lexemes.specs.Lists.{ascends, upto, below}
 use Rattle.mlk_cert_lexemes.specs.Kinds.{terms_upto}
 use Rattle.mlk_cert_lexemes.specs.Texts.{term_text}
+use Rattle.mlk_cert_lexemes.proofs.TextOrder.{upto-total}
 use Rattle.mlk_walk_state.specs.Terms.{same_term, add_term, add_terms, taken}
 use Rattle.mlk_walk_state.specs.Laws.{one_if, count_of, HeldAre}
 use Rattle.mlk_walk_state.proofs.TermTests.{same_term_decides}
-
-turned : (x y : ℕ) → (x == y) ≡ true → (y == x) ≡ true
-turned x y h = grind (arith, nat_tests)
-
-apart : (x y : ℕ) → (x == y) ≡ false → (y == x) ≡ false
-apart x y h = grind (arith, nat_tests)
-
-above : (x y : ℕ) → (x == y) ≡ false → nat_lt x y ≡ false → nat_lt y x ≡ true
-above x y h k = grind (arith, nat_tests)
 
 lt_suc : (x y : ℕ) → nat_lt (suc x) (suc y) ≡ nat_lt x y
 lt_suc x y = ⊎_elim (λ (h : nat_lt x y ≡ true). let i : nat_lt (suc x) (suc y) ≡ true = grind (arith, nat_tests) in i ∙ sym h)
@@ -28,30 +20,12 @@ lt_suc x y = ⊎_elim (λ (h : nat_lt x y ≡ true). let i : nat_lt (suc x) (suc
 lt_zero : (x : ℕ) → nat_lt 0 (suc x) ≡ true
 lt_zero x = grind (arith, nat_tests)
 
--- if one text is not up to another, the other is up to it
-total : (xs ys : List ℕ) → upto xs ys ≡ false → upto ys xs ≡ true
-total [] ys h = absurd (cc h)
-total (x ∷ xs) [] h = refl
-total (x ∷ xs) (y ∷ ys) h =
-    ⊎_elim
-    (λ (e : (x == y) ≡ true). let f : upto xs ys ≡ false = rw e at h in rw (turned x y e) (total xs ys f))
-    (λ (e : (x == y) ≡ false). let f : nat_lt x y ≡ false = rw e at h in rw (apart x y e) (above x y e f))
-    (cases_Bool (x == y))
-
-not_above : (b : Bool) → not b ≡ false → b ≡ true
-not_above true h = refl
-not_above false h = absurd (cc h)
-
-not_upto : (b : Bool) → not b ≡ true → b ≡ false
-not_upto true h = absurd (cc h)
-not_upto false h = refl
-
 module _ (t : LockTerm) where
   stands_before : (u : LockTerm) → below (term_text u) (term_text t) ≡ true → terms_upto u t ≡ true
-  stands_before u h = total (term_text t) (term_text u) (not_upto (upto (term_text t) (term_text u)) h)
+  stands_before u h = upto-total (term_text t) (term_text u) (not-true (upto (term_text t) (term_text u)) h)
 
   stands_after : (u : LockTerm) → below (term_text u) (term_text t) ≡ false → terms_upto t u ≡ true
-  stands_after u h = not_above (upto (term_text t) (term_text u)) h
+  stands_after u h = not-false (upto (term_text t) (term_text u)) h
 
   -- where a term is added: before the first of these, or after it
   put_first : (u : LockTerm) (us : List LockTerm) → below (term_text u) (term_text t) ≡ false → add_term t (u ∷ us) ≡ t ∷ u ∷ us

@@ -51,7 +51,8 @@ count_of t (h ∷ held) = one_if (same_term t h) + count_of t held
 
 pub record HeldAre : Type 0 where
   pub of_put : (t u : LockTerm) (held : List LockTerm) → count_of u (add_term t held) ≡ count_of u held + one_if (same_term u t)
-  pub of_taken : (t u : LockTerm) (held rest : List LockTerm) → taken t held ≡ Some rest → count_of u held ≡ count_of u rest + one_if (same_term u t)
+  pub of_taken : (t u : LockTerm) (held rest : List LockTerm) → taken t held ≡ Some rest
+      → count_of u held ≡ count_of u rest + one_if (same_term u t)
   pub of_none : (t : LockTerm) (held : List LockTerm) → taken t held ≡ None → count_of t held ≡ 0
   pub of_all : (terms held : List LockTerm) → length (add_terms terms held) ≡ length terms + length held
   pub ordered : (t : LockTerm) (held : List LockTerm) → ascends terms_upto held ≡ true → ascends terms_upto (add_term t held) ≡ true

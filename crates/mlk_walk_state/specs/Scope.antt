@@ -1,5 +1,6 @@
 -- The input of the walk of an entry's lines. This project's own choice.
-use Rattle.std.specs.Prelude.{ℕ, ◌≡◌, Bool, ◌&&◌, ◌||◌, ◌==◌, nat_lt, not, false, if◌then◌else◌, List, [], ◌∷◌, ◌++◌, map, find, filter, filter_map}
+use Rattle.std.specs.Prelude.{ℕ, ◌≡◌, Bool, ◌&&◌, ◌||◌, ◌==◌, nat_lt, not, false, if◌then◌else◌}
+use Rattle.std.specs.Prelude.{List, [], ◌∷◌, ◌++◌, map, find, filter, filter_map}
 use Rattle.std.specs.Prelude.{Option, Some, None, option_map}
 use Rattle.std.specs.List.{list_any, list_all}
 use Rattle.mlk_syntax.specs.Trees.{RoutineTree}
@@ -71,7 +72,8 @@ unfoldable pub declared : List RoutineTree → List (List ℕ) → List EntryId
 declared routines texts = firsts (λ e. e) (filter_map (entry_by routines) texts)
 
 -- for each entry, the tables agree with its block and with the rules
-pub record AreEntries (routines : List RoutineTree) (blocks : List EntryCert) (texts : List (List ℕ)) (found : List (EntryId × EntryCert) × List EntryId) : Type 0 where
+pub record AreEntries (routines : List RoutineTree) (blocks : List EntryCert) (texts : List (List ℕ))
+    (found : List (EntryId × EntryCert) × List EntryId) : Type 0 where
   pub certified : (e : EntryId) → block_at found.0 e ≡ block_of routines blocks e
   pub declared : (e : EntryId) → has_entry found.1 e ≡ is_declared routines texts e
 

@@ -1,6 +1,7 @@
 -- Lists of held lock terms, each as often as it is held. Standard: LOCK (a name that is claimed again counts once more);
 -- their order in the list, and ranks, are this project's own choice.
-use Rattle.std.specs.Prelude.{ℕ, Bool, true, false, ◌&&◌, List, [], ◌∷◌, map, insert, remove, position, Option, Some, None, option_map, option_and_then, find}
+use Rattle.std.specs.Prelude.{ℕ, Bool, true, false, ◌&&◌, List, [], ◌∷◌, map, insert, remove}
+use Rattle.std.specs.Prelude.{position, Option, Some, None, option_map, option_and_then, find}
 use Rattle.std.specs.List.{list_any}
 use Rattle.mlk_names.specs.declared.symbol.Sym.{Sym}
 use Rattle.mlk_names.specs.declared.known_symbol.KnownSym.{KnownSym}

@@ -3,7 +3,8 @@
 ghost use Rattle.std.specs.Prelude.{◌≡◌, IfOk, true, drop};
 ghost use Rattle.mlk_syntax.specs.ExprTrees.{tree_of, links, links_from, subs_from, sub_trees};
 ghost use Rattle.mlk_walk_state.specs.Scope.{scope_of};
-ghost use Rattle.mlk_walk_state.specs.Symbols.{local_symbol, before_symbol, between_symbols, symbol_in, truth_in, chain_in, truth_of_symbol};
+ghost use Rattle.mlk_walk_state.specs.Symbols.{local_symbol, before_symbol, between_symbols};
+ghost use Rattle.mlk_walk_state.specs.Symbols.{symbol_in, truth_in, chain_in, truth_of_symbol};
 ghost use Rattle.mlk_walk_state.specs.Cases.{known_test};
 
 use crate::scope::Scope;

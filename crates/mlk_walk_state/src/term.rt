@@ -4,7 +4,8 @@ ghost use Rattle.std.specs.Prelude.{◌≡◌, ◌↔◌, ◌<◌, IsTrue, OnOk,
 ghost use Rattle.std.specs.List.{list_any};
 ghost use Rattle.mlk_rules.specs.Computed.{is_prefix};
 ghost use Rattle.mlk_walk_state.specs.Names.{have};
-ghost use Rattle.mlk_walk_state.specs.Terms.{same_term, add_term, add_terms, taken, all_taken, first_missing, is_such, mention, is_within, rank_of};
+ghost use Rattle.mlk_walk_state.specs.Terms.{same_term, add_term, add_terms, taken, all_taken};
+ghost use Rattle.mlk_walk_state.specs.Terms.{first_missing, is_such, mention, is_within, rank_of};
 
 use crate::names::any_has_name;
 use mlk_cert_parts::{NameSet, place_of_term};

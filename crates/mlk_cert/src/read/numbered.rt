@@ -6,7 +6,8 @@ ghost use Rattle.mlk_cert.specs.Fitting.{passes};
 ghost use Rattle.mlk_cert.specs.Blocks.{after_at};
 ghost use Rattle.mlk_cert.specs.Second.{cases_of_points};
 ghost use Rattle.mlk_cert.specs.Named.{AddsNumbers};
-ghost use Rattle.mlk_cert.specs.Numbered.{are_upto, numbers_at, fits_numbers, numbered_point_at, fits_numbered_point, next_place_fits, cases_by, point_by, numbered_points_at};
+ghost use Rattle.mlk_cert.specs.Numbered.{are_upto, numbers_at, fits_numbers, numbered_point_at, fits_numbered_point};
+ghost use Rattle.mlk_cert.specs.Numbered.{next_place_fits, cases_by, point_by, numbered_points_at};
 
 use crate::number::CaseNumber;
 use crate::read::fault::{BlockFault, other_form};

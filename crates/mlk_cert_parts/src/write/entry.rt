@@ -2,7 +2,8 @@
 
 ghost use Rattle.std.specs.Prelude.{◌≡◌, ◌++◌, ◌∷◌, OnOk, codes};
 ghost use Rattle.mlk_cert_lexemes.specs.Texts.{line, listed, term_text};
-ghost use Rattle.mlk_cert_parts.specs.Texts.{names_text, exit_line, place_text, case_line, point_text, low_text, drops_text, summary_text, block_text};
+ghost use Rattle.mlk_cert_parts.specs.Texts.{names_text, exit_line, place_text, case_line, point_text};
+ghost use Rattle.mlk_cert_parts.specs.Texts.{low_text, drops_text, summary_text, block_text};
 
 use crate::block::{EntryCert, Point, Summary};
 use crate::case::{Case, ExitCase};

@@ -138,7 +138,8 @@ pub(crate) fn global<'a>(
     bytes: &'a [u8],
 ) -> Result<(Expr, &'a [u8]), Failure<Offence>>
     ensures { Reads (λ x. (tree_of x.0, x.1.now)) result
-        (global_with (globals_may context.now.allows) context.now.end (column_of context.now.end whole.now) (nested_in context.now) bytes.now) }
+        (global_with (globals_may context.now.allows) context.now.end (column_of context.now.end whole.now)
+        (nested_in context.now) bytes.now) }
 {
     let (name, rest) = global_name(alloc, context.allows, whole, bytes)?;
     let (subs, rest) = subscripts(alloc, context, rest)?;

@@ -4,7 +4,8 @@ ghost use Rattle.std.specs.Prelude.{◌≡◌, IfOk, IfErr};
 ghost use Rattle.toml.specs.View.{table_view};
 ghost use Rattle.mlk_rules.specs.Sound.{IsSound};
 ghost use Rattle.mlk_text.specs.Failures.{Answers};
-ghost use Rattle.mlk_rules_file.specs.RuleSections.{all_of, family_of, cover_of, rule_pattern_of, entry_of, lists_of, IsDocument, NoTable, SaysRules, RefusesRules};
+ghost use Rattle.mlk_rules_file.specs.RuleSections.{all_of, family_of, cover_of, rule_pattern_of, entry_of};
+ghost use Rattle.mlk_rules_file.specs.RuleSections.{lists_of, IsDocument, NoTable, SaysRules, RefusesRules};
 ghost use Rattle.mlk_rules_file.specs.declared.read.fault.Section.TheVariants.{Lock, Cover as CoverSection, Entry};
 
 use crate::read::fault::{RulesFault, Section, refusal_at};

@@ -1,7 +1,9 @@
 // The items of names and patterns as spelled, and which are allowed where.
 
 ghost use Rattle.std.specs.Prelude.{◌≡◌};
-ghost use Rattle.mlk_rules_file.specs.RuleKinds.{is_long, is_long_second, is_node, is_literals, is_jobless, has_one_job, is_item, has_variable, is_new, is_distinct, has_its_job, is_family_name, is_pattern, is_template, is_second_template};
+ghost use Rattle.mlk_rules_file.specs.RuleKinds.{is_long, is_long_second, is_node, is_literals, is_jobless};
+ghost use Rattle.mlk_rules_file.specs.RuleKinds.{has_one_job, is_item, has_variable, is_new, is_distinct, has_its_job};
+ghost use Rattle.mlk_rules_file.specs.RuleKinds.{is_family_name, is_pattern, is_template, is_second_template};
 
 use crate::read::fault::Section;
 use mlk_names::{Extent, Root};
@@ -46,6 +48,7 @@ pub fn is_long_second(spelling: &Option<Option<Spelling>>) -> bool
     }
 }
 
+// Whether an extent is one node, without what is below it.
 fn is_node(extent: Extent) -> bool
     ensures { result ≡ is_node extent }
 {

@@ -4,7 +4,8 @@ ghost use Rattle.std.specs.Prelude.{◌≡◌, option_map};
 ghost use Rattle.toml.specs.Data.{get_member};
 ghost use Rattle.toml.specs.View.{view, table_view, items_view};
 ghost use Rattle.mlk_text.specs.Failures.{Answers};
-ghost use Rattle.mlk_rules_file.specs.RuleSections.{is_tables, tables_in, elements_in, count, section_of, each, family_of, cover_of, rule_pattern_of, entry_of};
+ghost use Rattle.mlk_rules_file.specs.RuleSections.{is_tables, tables_in, elements_in, count, section_of};
+ghost use Rattle.mlk_rules_file.specs.RuleSections.{each, family_of, cover_of, rule_pattern_of, entry_of};
 
 use crate::read::cover::cover;
 use crate::read::entry::entry;

@@ -3,7 +3,8 @@
 ghost use Rattle.std.specs.Prelude.{◌≡◌, option_map, Some};
 ghost use Rattle.toml.specs.Data.{as_table};
 ghost use Rattle.toml.specs.View.{view, table_view};
-ghost use Rattle.mlk_rules_file.specs.RuleSections.{is_key, has_only, text_at, as_text, text_if, policy_of, policy_at, integer_at, family_keys, cover_keys, text_key};
+ghost use Rattle.mlk_rules_file.specs.RuleSections.{is_key, has_only, text_at, as_text, text_if, policy_of};
+ghost use Rattle.mlk_rules_file.specs.RuleSections.{policy_at, integer_at, family_keys, cover_keys, text_key};
 
 use crate::read::fault::Section;
 use mlk_rules::ReadPolicy;

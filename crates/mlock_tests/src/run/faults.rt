@@ -29,7 +29,7 @@ impl Write for Short {
     }
 }
 
-// Files of which one can't be read, for this reason.
+// Files, one of which can't be read, for this reason.
 #[derive(Drop)]
 struct Broken<'a> {
     path: &'a str,
@@ -85,7 +85,7 @@ fn is_usage<R: Threads + Wait + Sync>(
     Ok(status == 2 && out.is_empty() && !err.is_empty())
 }
 
-// No words, and a call for help, are answered with the whole text; others stand in the rows of `mlock_cases`.
+// No words, and a call for help, are answered with the whole text; others are rows of `mlock_cases`.
 #[test]
 fn help_goes_to_the_error_stream(rt: HostRuntime) -> Result<(), Fail> {
     for words in [

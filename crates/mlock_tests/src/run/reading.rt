@@ -4,7 +4,7 @@ use mlk_app::read_whole;
 use std::io::{self, ErrorKind, Read};
 use std::test::Fail;
 
-// A reader that gives one byte at a time, and fails where it has no more, if it is told to.
+// A reader that gives one byte at a time, and fails at the end if it is asked to.
 #[derive(Drop)]
 struct Drops<'a> {
     left: &'a [u8],

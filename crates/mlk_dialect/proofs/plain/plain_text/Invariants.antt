@@ -1,4 +1,4 @@
-use Rattle.std.proofs.Common.{◌≡◌, ◌≤◌, ◌+◌, ◌++◌, ℕ, length}
+use Rattle.std.proofs.Common.{◌≡◌, ◌≤◌, ◌+◌, ◌++◌, length}
 use Rattle.mlk_dialect.specs.Plain.{plain_from, inert_from, plain, inert}
 use Rattle.mlk_dialect.proofs.plain.plain_text.Given as goal
 

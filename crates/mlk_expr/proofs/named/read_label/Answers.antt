@@ -25,4 +25,4 @@ returns-in-Ok-clause-only c =
 pub returns-in-Err-clause-refused : goal.returns-in-Err-clause-refused
 returns-in-Err-clause-refused c =
     let h = subst (λ l. FailsOn c.in-Err.refusal (label_at l)) c.split_at.ensures.back c.in-Err.ensures in
-    refuses (λ end. label_at) Labels IsLabelText LabelEnds labels-exact same-label c.args.line.now c.args.at c.requires c.in-Err.refusal c.locate.result h c.locate.ensures.tells
+    refuses (λ end. label_at) Labels IsLabelText LabelEnds labels-exact same-label c.args.line.now c.args.at c.requires c.in-Err.refusal c.locate.result h c.locate.ensures.alike

@@ -33,4 +33,4 @@ pub returns-in-Err-clause-refused : goal.returns-in-Err-clause-refused
 returns-in-Err-clause-refused c =
     let moved = subst (λ l. FailsOn c.in-Err.refusal (actual_list_in c.args.passing (record { end = length c.args.line.now + 1; left = 63; allows = c.args.allows }) l)) c.split_at.ensures.back c.in-Err.ensures in
     let h = subst (λ n. FailsOn c.in-Err.refusal (actual_list_in c.args.passing (record { end = n; left = 63; allows = c.args.allows }) (drop c.args.at c.args.line.now))) (add-one (length c.args.line.now)) moved in
-    refuses (λ end. actual_list_in c.args.passing (record { end = end; left = 63; allows = c.args.allows })) (λ end a xs ys. followed.IsActualList end a xs ys × (given_stand c.args.allows c.args.passing a ≡ true)) (Standing (given_stand c.args.allows c.args.passing) IsActualList) ListEnds (actual_list_in-exact c.args.allows c.args.passing) (same-standing (given_stand c.args.allows c.args.passing) followed.IsActualList IsActualList ListEnds same-list) c.args.line.now c.args.at c.requires c.in-Err.refusal c.locate.result h c.locate.ensures.tells
+    refuses (λ end. actual_list_in c.args.passing (record { end = end; left = 63; allows = c.args.allows })) (λ end a xs ys. followed.IsActualList end a xs ys × (given_stand c.args.allows c.args.passing a ≡ true)) (Standing (given_stand c.args.allows c.args.passing) IsActualList) ListEnds (actual_list_in-exact c.args.allows c.args.passing) (same-standing (given_stand c.args.allows c.args.passing) followed.IsActualList IsActualList ListEnds same-list) c.args.line.now c.args.at c.requires c.in-Err.refusal c.locate.result h c.locate.ensures.alike

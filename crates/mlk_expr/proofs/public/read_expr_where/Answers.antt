@@ -33,4 +33,4 @@ pub returns-in-Err-clause-refused : goal.returns-in-Err-clause-refused
 returns-in-Err-clause-refused c =
     let moved = subst (λ l. FailsOn c.in-Err.refusal (expr_in (record { end = length c.args.line.now + 1; left = 64; allows = c.args.allows }) l)) c.split_at.ensures.back c.in-Err.ensures in
     let h = subst (λ n. FailsOn c.in-Err.refusal (expr_in (record { end = n; left = 64; allows = c.args.allows }) (drop c.args.at c.args.line.now))) (add-one (length c.args.line.now)) moved in
-    refuses (λ end. expr_in (record { end = end; left = 64; allows = c.args.allows })) (λ end a xs ys. followed.IsExpr end a xs ys × (may_stand c.args.allows a ≡ true)) (Standing (may_stand c.args.allows) IsExpr) ExprEnds (expr_in-exact c.args.allows) (same-standing (may_stand c.args.allows) followed.IsExpr IsExpr ExprEnds same-expr) c.args.line.now c.args.at c.requires c.in-Err.refusal c.locate.result h c.locate.ensures.tells
+    refuses (λ end. expr_in (record { end = end; left = 64; allows = c.args.allows })) (λ end a xs ys. followed.IsExpr end a xs ys × (may_stand c.args.allows a ≡ true)) (Standing (may_stand c.args.allows) IsExpr) ExprEnds (expr_in-exact c.args.allows) (same-standing (may_stand c.args.allows) followed.IsExpr IsExpr ExprEnds same-expr) c.args.line.now c.args.at c.requires c.in-Err.refusal c.locate.result h c.locate.ensures.alike

@@ -8,4 +8,4 @@ pub returns-clause-numbers : goal.returns-clause-numbers
 returns-clause-numbers c =
     c.requires.numbers
     ∙ sym (went_numbers (map routine_of c.args.program.now) (λ e. false) (map job_of c.args.jobs.now.items)
-    (map job_of c.step_job.new.jobs.items) c.args.number c.args.choice c.step_job.result (c.step_job.ensures.answer (λ e. false)) c.step_job.ensures.stays)
+    (map job_of c.step_job.new.jobs.items) c.args.turn.number c.args.turn.choice c.step_job.result (c.step_job.ensures.answer (λ e. false)) c.step_job.ensures.stays)

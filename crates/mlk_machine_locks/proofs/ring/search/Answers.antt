@@ -27,7 +27,7 @@ pub loop-stop-preserved : goal.loop-stop-preserved
 loop-stop-preserved g c =
     let e : reverse c.loop-stop.path.items ≡ c.in-Some.stop ∷ reverse c.pop.new.self.items =
     ap reverse c.in-Some.ensures.items ∙ reverse-append c.pop.new.self.items (c.in-Some.stop ∷ []) in (
-      c.in_ok-go_on.ensures.goes c.if-branch.false,
-      c.in_ok-go_on.ensures.met c.if-branch.false c.args.start
+      c.in_ok-take_step.ensures.goes c.if-branch.false,
+      c.in_ok-take_step.ensures.met c.if-branch.false c.args.start
           (subst (λ path. IsMet (waits_as g.J.Seen.seen) c.args.jobs.now path c.args.start) e c.loop-stop.invariant.1),
     )

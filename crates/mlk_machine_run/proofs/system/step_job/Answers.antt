@@ -21,7 +21,7 @@ use Rattle.mlk_machine_run.proofs.system.step_job.Goals as goal
 
 pub returns-in_default-clause-answer : goal.returns-in_default-clause-answer
 returns-in_default-clause-answer c = λ declared.
-    changed_none (machine (map routine_of c.args.program.now) declared) _ c.args.number (map job_of c.args.jobs.now.items)
+    changed_none (machine (map routine_of c.args.program.now) declared) _ c.args.turn.number (map job_of c.args.jobs.now.items)
     (sym c.requires.place.first ∙ c.in_default.is)
 
 pub step-requires : goal.step-requires
@@ -51,23 +51,23 @@ returns-in_err-list-clause-covers c =
 pub returns-clause-answer : goal.returns-clause-answer
 returns-clause-answer c = λ declared.
     let js = c.args.jobs.now.items in
-    let free : LockName → Bool = is_free_among seen (map job_of js) c.args.number in
-    let found : position (λ (j : Job). (seen j).number == c.args.number) (map job_of js) ≡ Some c.in-Some.place =
+    let free : LockName → Bool = is_free_among seen (map job_of js) c.args.turn.number in
+    let found : position (λ (j : Job). (seen j).number == c.args.turn.number) (map job_of js) ≡ Some c.in-Some.place =
     sym c.requires.place.first ∙ c.in-Some.is in
     let given : list_all free (claimed_in (job_of c.index_mut.result.now).tasks) ≡ c.are_free-are_free.result =
     claimed_free js c.in-Some.place c.index.result.now c.index_mut.result.now
     (found_within js c.args.place c.in-Some.place c.in-Some.is c.requires.place.within) c.index.ensures c.index_mut.ensures.value
-    c.claimed_names-names.result.now c.claimed_names-names.ensures c.args.number c.are_free-are_free.result
+    c.claimed_names-names.result.now c.claimed_names-names.ensures c.args.turn.number c.are_free-are_free.result
     (c.are_free-are_free.ensures.free
-    ∙ ap (λ (xs : List JobIn). list_all (is_free_among seen_in xs c.args.number) c.claimed_names-names.result.now)
+    ∙ ap (λ (xs : List JobIn). list_all (is_free_among seen_in xs c.args.turn.number) c.claimed_names-names.result.now)
     c.as_slice.ensures.value) in
     subst (λ (s : _). Answers (λ _. map job_of (slice_set js c.in-Some.place c.step.new.job)) c.step.result s)
     (sym (changed_at (machine (map routine_of c.args.program.now) declared)
-    (go (map routine_of c.args.program.now) free c.args.choice) c.args.number (map job_of js) c.in-Some.place
+    (go (map routine_of c.args.program.now) free c.args.turn.choice) c.args.turn.number (map job_of js) c.in-Some.place
     (job_of c.index_mut.result.now) found (job_at js c.in-Some.place c.index_mut.result.now c.index_mut.ensures.value)))
     (subst (λ (z : List Job). Answers (λ _. z) c.step.result
     (and_then (λ y. Ok (slice_set (map job_of js) c.in-Some.place y))
-    (go (map routine_of c.args.program.now) free c.args.choice (job_of c.index_mut.result.now))))
+    (go (map routine_of c.args.program.now) free c.args.turn.choice (job_of c.index_mut.result.now))))
     (jobs_set js c.in-Some.place c.step.new.job)
     (answers_all (λ y. slice_set (map job_of js) c.in-Some.place y) c.step.result (job_of c.step.new.job) _
     (c.step.ensures.answer free given)))
@@ -76,13 +76,13 @@ pub returns-clause-covers : goal.returns-clause-covers
 returns-clause-covers c =
     let js = c.args.jobs.now.items in
     let old : JobIn = c.index_mut.result.now in
-    let free : LockName → Bool = is_free_among seen (map job_of js) c.args.number in
+    let free : LockName → Bool = is_free_among seen (map job_of js) c.args.turn.number in
     let within = found_within js c.args.place c.in-Some.place c.in-Some.is c.requires.place.within in
     let given : list_all free (claimed_in (job_of old).tasks) ≡ c.are_free-are_free.result =
     claimed_free js c.in-Some.place c.index.result.now old within c.index.ensures c.index_mut.ensures.value
-    c.claimed_names-names.result.now c.claimed_names-names.ensures c.args.number c.are_free-are_free.result
+    c.claimed_names-names.result.now c.claimed_names-names.ensures c.args.turn.number c.are_free-are_free.result
     (c.are_free-are_free.ensures.free
-    ∙ ap (λ (xs : List JobIn). list_all (is_free_among seen_in xs c.args.number) c.claimed_names-names.result.now)
+    ∙ ap (λ (xs : List JobIn). list_all (is_free_among seen_in xs c.args.turn.number) c.claimed_names-names.result.now)
     c.as_slice.ensures.value) in
     claim_covered c.are_free-are_free.new.self c.list.new.self c.list.ensures.kept js
     (subst (λ (xs : List JobIn). Covers seen_in c.are_free-are_free.new.self xs) c.as_slice.ensures.value
@@ -92,5 +92,5 @@ returns-clause-covers c =
     (claimed_at js c.in-Some.place c.index.result.now old within c.index.ensures c.index_mut.ensures.value
     c.claimed_names-names.result.now c.claimed_names-names.ensures)
     c.in_ok-list.ensures.found)
-    (takes_claimed (map routine_of c.args.program.now) free c.args.choice c.are_free-are_free.result c.step.result
+    (takes_claimed (map routine_of c.args.program.now) free c.args.turn.choice c.are_free-are_free.result c.step.result
     (job_of old) (job_of c.step.new.job) given c.step.ensures.answer c.step.ensures.stays)

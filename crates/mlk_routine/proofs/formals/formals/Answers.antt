@@ -1,7 +1,7 @@
 use Rattle.std.proofs.Common.{◌+◌, refl, sym, ap, ◌∙◌, subst}
 use Rattle.std.proofs.lemmas.Result.{err_from_is_err_and}
 use Rattle.mlk_expr.specs.Theorem.{LabelEnds}
-use Rattle.mlk_routine_arguments.specs.Told.{Found}
+use Rattle.mlk_routine_arguments.specs.PartsRead.{Found}
 use Rattle.mlk_routine_arguments.specs.Ends.{AnyEnds}
 use Rattle.mlk_routine.specs.Lines.{IsUnseen, IsFormalList}
 use Rattle.mlk_routine_arguments.proofs.Outcomes.{denies, hands_on}

@@ -1,6 +1,6 @@
 use Rattle.std.proofs.Common.{subst}
 use Rattle.std.proofs.lemmas.Result.{err_from_is_err_and}
-use Rattle.mlk_routine_arguments.specs.Told.{Found, Nowhere}
+use Rattle.mlk_routine_arguments.specs.PartsRead.{Found, Nowhere}
 use Rattle.mlk_routine.specs.Lines.{IsFormalsPart, FormalsPartEnds, IsOpening, OpeningEnds, IsFront, FrontEnds}
 use Rattle.mlk_routine_arguments.proofs.Outcomes.{hands_on}
 use Rattle.mlk_routine.proofs.Fronts.{no_formals_front, no_opening_front, front_found}

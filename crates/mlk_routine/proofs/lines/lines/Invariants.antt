@@ -4,4 +4,4 @@ use Rattle.mlk_routine.proofs.FlatLines.{FlatSoFar}
 use Rattle.mlk_routine.proofs.lines.lines.Given as goal
 
 abbrev pub invariant-loop-i : goal.invariant-loop-i
-invariant-loop-i l = FlatSoFar (texts_of l.texts) l.i (map head_of l.lines.items) l.before
+invariant-loop-i l = FlatSoFar l.dialect (texts_of l.texts) l.i (map head_of l.lines.items) l.before

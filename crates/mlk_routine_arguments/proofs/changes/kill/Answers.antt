@@ -2,7 +2,7 @@ use Rattle.std.proofs.Common.{◌≡◌, map, refl, sym, subst, ◌∙◌}
 use Rattle.std.proofs.lemmas.List.{map-id}
 use Rattle.std.proofs.lemmas.Result.{err_from_is_err_and}
 use Rattle.mlk_syntax.specs.Trees.{KillAllBut}
-use Rattle.mlk_routine_arguments.specs.Told.{Found}
+use Rattle.mlk_routine_arguments.specs.PartsRead.{Found}
 use Rattle.mlk_routine_arguments.specs.Ends.{KillEnds}
 use Rattle.mlk_routine_arguments.specs.CommandGrammar.{IsKill}
 use Rattle.mlk_routine_arguments.proofs.Sequences.{turned_found, turned_denied}

@@ -2,7 +2,7 @@ use Rattle.std.proofs.Common.{◌≡◌, map, refl, sym, subst, ◌∙◌}
 use Rattle.std.proofs.lemmas.List.{map-id}
 use Rattle.std.proofs.lemmas.Result.{err_from_is_err_and}
 use Rattle.mlk_syntax.specs.Trees.{NewAllBut}
-use Rattle.mlk_routine_arguments.specs.Told.{Found}
+use Rattle.mlk_routine_arguments.specs.PartsRead.{Found}
 use Rattle.mlk_routine_arguments.specs.Ends.{NewEnds}
 use Rattle.mlk_routine_arguments.specs.CommandGrammar.{IsNew}
 use Rattle.mlk_routine_arguments.proofs.Outcomes.{denies}

@@ -2,7 +2,7 @@ use Rattle.std.proofs.Common.{◌≡◌, map, sym, ap, subst, ◌∙◌}
 use Rattle.std.proofs.lemmas.Simd.{map-map}
 use Rattle.mlk_expr.specs.declared.context.Allows.TheVariants.{NoTouches}
 use Rattle.mlk_routine_arguments.specs.declared.items.Unsigned.{Unsigned}
-use Rattle.mlk_routine_arguments.specs.Told.{Found, byte_at}
+use Rattle.mlk_routine_arguments.specs.PartsRead.{Found, byte_at}
 use Rattle.mlk_routine_arguments.specs.Ends.{OneEnds, VariableEnds}
 use Rattle.mlk_syntax.specs.Views.{variable_of}
 use Rattle.mlk_routine_arguments.specs.CommandGrammar.{IsVariable, IsOneOrEnclosed}

@@ -2,7 +2,7 @@ use Rattle.std.proofs.Common.{Some, None, subst, option_map}
 use Rattle.std.proofs.lemmas.Result.{err_from_is_err_and}
 use Rattle.mlk_expr.specs.declared.context.Allows.TheVariants.{Everything}
 use Rattle.mlk_syntax.specs.ExprTrees.{tree_of}
-use Rattle.mlk_routine_arguments.specs.Told.{Found}
+use Rattle.mlk_routine_arguments.specs.PartsRead.{Found}
 use Rattle.mlk_routine_arguments.specs.Ends.{AfterEnds}
 use Rattle.mlk_routine_arguments.specs.CommandGrammar.{IsAfter}
 use Rattle.mlk_routine_arguments.proofs.Sequences.{both_found, denied_first, denied_second}

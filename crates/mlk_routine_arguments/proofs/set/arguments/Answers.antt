@@ -6,7 +6,7 @@ use Rattle.mlk_syntax.specs.ExprTrees.{tree_of, trees}
 use Rattle.mlk_expr.specs.Grammar.{AreNext, IsExprWhere, IsList}
 use Rattle.mlk_expr.specs.Theorem.{ExprEnds}
 use Rattle.mlk_routine_arguments.specs.declared.set.CallFree.{CallFree}
-use Rattle.mlk_routine_arguments.specs.Told.{Found}
+use Rattle.mlk_routine_arguments.specs.PartsRead.{Found}
 use Rattle.mlk_routine_arguments.specs.Ends.{AreEnded, NextEnds}
 use Rattle.mlk_routine_arguments.proofs.Sequences.{turned_found, turned_denied}
 use Rattle.mlk_routine_arguments.proofs.Bytes.{after_found, after_denied}

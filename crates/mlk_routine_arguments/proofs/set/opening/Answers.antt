@@ -2,7 +2,7 @@ use Rattle.mlk_routine_arguments.proofs.Bytes.{byte_before}
 use Rattle.std.proofs.Common.{◌≡◌, ◌+◌, drop, Some, None, inl, inr, refl, sym, subst, ◌∙◌}
 use Rattle.std.specs.Prelude.{◌⊎◌}
 use Rattle.mlk_text.specs.Lexemes.{word_at}
-use Rattle.mlk_routine_arguments.specs.Told.{byte_at}
+use Rattle.mlk_routine_arguments.specs.PartsRead.{byte_at}
 use Rattle.mlk_routine_arguments.specs.Ends.{IsPartOpening, AnyEnds, part_of}
 use Rattle.mlk_routine_arguments.proofs.Outcomes.{denies}
 use Rattle.mlk_routine_arguments.proofs.Targets.{no_opening, opening_found}

@@ -2,7 +2,7 @@ use Rattle.std.proofs.Common.{◌≤◌, ◌+◌, List, length, refl, sym, ap, s
 use Rattle.std.proofs.lemmas.Result.{err_from_is_err_and}
 use Rattle.mlk_syntax.specs.ExprTrees.{Tree, trees}
 use Rattle.mlk_syntax.specs.Trees.{VariableTree, SetPart}
-use Rattle.mlk_routine_arguments.specs.Told.{Found}
+use Rattle.mlk_routine_arguments.specs.PartsRead.{Found}
 use Rattle.mlk_routine_arguments.specs.Ends.{TargetEnds}
 use Rattle.mlk_syntax.specs.Views.{variable_of}
 use Rattle.mlk_routine_arguments.specs.CommandGrammar.{IsTarget}

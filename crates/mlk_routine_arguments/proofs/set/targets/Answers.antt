@@ -1,7 +1,7 @@
 use Rattle.std.proofs.Common.{map, refl, sym, subst}
 use Rattle.std.proofs.lemmas.Result.{err_from_is_err_and}
 use Rattle.mlk_syntax.specs.Views.{target_of}
-use Rattle.mlk_routine_arguments.specs.Told.{Found, byte_at}
+use Rattle.mlk_routine_arguments.specs.PartsRead.{Found, byte_at}
 use Rattle.mlk_routine_arguments.specs.Ends.{OneEnds, TargetEnds}
 use Rattle.mlk_routine_arguments.specs.CommandGrammar.{IsOneOrEnclosed, IsTarget}
 use Rattle.mlk_routine_arguments.proofs.Sequences.{turned_found, turned_denied}

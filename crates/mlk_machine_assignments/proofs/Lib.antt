@@ -1,0 +1,2 @@
+pub mod AssignParts
+pub mod MergeParts

@@ -1,0 +1,5 @@
+pub mod ExprParts
+pub mod TreeParts
+pub mod PartCounts
+pub mod VariableParts
+pub mod Additions

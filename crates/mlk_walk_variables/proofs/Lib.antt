@@ -1,0 +1,5 @@
+pub mod Opened
+pub mod Ordered
+pub mod Steps
+pub mod LocalChanges
+pub mod Worked
