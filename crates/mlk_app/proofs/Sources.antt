@@ -93,10 +93,6 @@ pub events_lost : (holds : Texts) (unreadable : List ℕ → Type 0) (interactiv
 events_lost holds unreadable true path e not lost = cc
 events_lost holds unreadable false path e not lost = loses-front holds unreadable path [] e lost
 
-pub no_events_lost : (holds : Texts) (unreadable : List ℕ → Type 0) (paths : List (List ℕ)) (e : FileError) → e ≡ error.OutOfMemory → LosesFirst holds unreadable paths e
-no_events_lost holds unreadable paths error.OutOfMemory is = record {}
-no_events_lost holds unreadable paths (error.Unread path) is = cc
-
 -- events that are asked for may be any
 any-events : (interactive : Bool) (read : Type 0) (path other : List ℕ) → new_path interactive path ≡ other ∷ [] → AreEvents interactive read
 any-events true read path other named = record {}

@@ -284,7 +284,7 @@ pub record IsUnwritten (program : ProgramRequest) (line : List ℕ) : Type 0 whe
   pub named : program.new_baseline ≡ Some path
   pub printed : line ≡ file_line path.now
 
--- the file can't be written that was to have the events that are asked for
+-- the file of the events that are asked for can't be read or written
 pub record AreUnwritten (program : ProgramRequest) (line : List ℕ) : Type 0 where
   pub path : List ℕ
   pub named : written_path program.asked ≡ path ∷ []

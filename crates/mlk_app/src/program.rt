@@ -1,11 +1,10 @@
 // The program, from its words to its status.
 
-ghost use Rattle.std.specs.Prelude.{◌≡◌, ◌≢◌, IfOk};
+ghost use Rattle.std.specs.Prelude.{◌≡◌, ◌≢◌, ◌∷◌, [], IfOk};
 ghost use Rattle.std.specs.IoError.{error_kind};
 ghost use Rattle.mlk_cli.specs.declared.words.Request.TheVariants as wanted;
 ghost use Rattle.mlk_app.specs.Ran.{style_in, IsErrorLine, IsRefusalLine, PrintsSurvey, TellsRefusal, TellsFault, TellsBaseline, TellsUnread, TellsUnfound, TellsPage, Answers, AnswersFound, AnswersLine, AnswersWords, Ran};
-ghost use Rattle.mlk_app.specs.Files.{AreTexts, LosesPath, given_path, new_path, written_path};
-ghost use Rattle.mlk_app.specs.declared.source.Work.TheVariants as work;
+ghost use Rattle.mlk_app.specs.Files.{AreTexts, LosesPath, written_path};
 ghost use Rattle.mlk_app.specs.Printing.{IsReportAnswer};
 ghost use Rattle.mlk_cli.specs.CommandLine.{bytes_of};
 ghost use Rattle.mlk_forms.specs.Rendering.{IsNoticed};
@@ -14,7 +13,7 @@ ghost use Rattle.mlk_outcome.specs.Refusals.{IsOfOpenGate, IsNotShut};
 use crate::answer::{Answer, REFUSED, YES, print_answer, write_error, write_memory_error};
 use crate::baseline::known_faults;
 use crate::dialect::read_in;
-use crate::dialogue::ask_for_events;
+use crate::dialogue::{ask_for_events, begun_events, with_events, written_path};
 use crate::help::{Explaining, certificate_help, is_refusal_explained, refusal_help, why_unread};
 use crate::notice::notice_of;
 use crate::printed::{
@@ -24,7 +23,7 @@ use crate::printed::{
 use crate::refused::{refused_file, rule_file, spot_in};
 use crate::routines::{all_paths, find_routines, found_paths, list_of, with_routines};
 use crate::source::{
-    FileError, Files, Sources, Work, cert_format, read_file, read_files, read_given, read_sources,
+    FileError, Files, Sources, cert_format, read_file, read_files, read_given, read_sources,
 };
 use crate::stubs::answer_stubs;
 use crate::stuck::render_refusal;
@@ -33,7 +32,7 @@ use crate::work::{Printed, print_sources, style_in};
 use mlk_baseline::BaselineFault;
 use mlk_cert::CertFault;
 use mlk_cli::{
-    Asked, Format, Invocation, ProgramRequest, Request, SurveyRequest, UsageError, read_request,
+    Format, Invocation, ProgramRequest, Request, SurveyRequest, UsageError, read_request,
 };
 use mlk_forms::{render_pages, render_survey};
 use mlk_outcome::{NoReport, convert};
@@ -210,9 +209,9 @@ fn unwritten_answer(alloc: Global, path: &str) -> Answer
     }
 }
 
-// Writes the known faults, if there are any to write.
-fn write_known<F: Files>(files: &F, path: &str, known: &Option<Vec<u8>>) -> io::Result<()> {
-    match known {
+// Writes the file at `path`, if there is a text for it.
+fn write_text<F: Files>(files: &F, path: &str, text: &Option<Vec<u8>>) -> io::Result<()> {
+    match text {
         Some(text) => files.write(path, text.as_slice()),
         None => Ok(()),
     }
@@ -230,7 +229,7 @@ fn report_answer<F: Files>(
     let Some(path) = program.new_baseline else {
         return Answer::Report(printed.text, printed.status);
     };
-    if write_known(files, path, &printed.new_baseline).is_err() {
+    if write_text(files, path, &printed.new_baseline).is_err() {
         return unwritten_answer(alloc, path);
     }
     Answer::Report(printed.text, printed.status)
@@ -259,34 +258,23 @@ fn answer_sources<R: Threads + Wait + Sync, F: Files, W: Watch>(
     }
 }
 
-// The path of events if a person is asked for them; `None` if they are only read.
-fn new_path(is_interactive: bool, path: &str) -> Option<&str>
-    ensures { given_path result ≡ new_path is_interactive path.now }
+// What is answered if the events that the file at `path` has already can't be read, for a reason of the kind `why`.
+fn lost_events_answer<F: Files>(
+    alloc: Global,
+    files: &F,
+    path: &str,
+    why: ErrorKind,
+    is_explained: bool,
+) -> Answer
+    ensures { TellsUnread path.now result }
 {
-    if is_interactive { Some(path) } else { None }
-}
-
-// The path of the events that are asked for and written; `None` if there are none.
-fn written_events<'a>(program: &ProgramRequest<'a>) -> Option<&'a str>
-    ensures { given_path result ≡ written_path program.now.asked }
-{
-    match &program.asked {
-        Asked::Replay { events, style } => new_path(style.is_interactive, *events),
-        Asked::Check { .. } | Asked::Make { .. } | Asked::Verify { .. } => None,
+    if why == ErrorKind::OutOfMemory {
+        return Answer::OutOfMemory;
     }
+    unread_answer(alloc, files, path, is_explained)
 }
 
-// The texts of the files of a program with these events, which are asked for.
-fn with_events<'a>(sources: Sources<'a>, events: Vec<u8>) -> Sources<'a>
-    ensures { result ≡ record sources.entry { work = work.Replay events } }
-{
-    Sources {
-        work: Work::Replay(events),
-        ..sources
-    }
-}
-
-// What is answered where a person is asked for the events, which are then written at `path`.
+// What is answered if a person is asked for the events, which are then written at `path`.
 #[tactic(auto, using(crate::proofs::Saying::unwritten_answers, crate::proofs::Sources::asked_texts))]
 fn answer_dialogue<'a, R: Threads + Wait + Sync, F: Files, W: Watch>(
     runner: &Runner<'_, R, W>,
@@ -301,16 +289,20 @@ fn answer_dialogue<'a, R: Threads + Wait + Sync, F: Files, W: Watch>(
     ensures { Answers (F.holds files.now) (F.unreadable files.now) (wanted.Program program.now) result }
 {
     let alloc = runner.alloc;
-    let Work::Replay(given) = &sources.work else {
-        return answer_sources(runner, program, &sources, files, explaining);
+    let begun = match begun_events(alloc, files, path) {
+        Ok(begun) => begun,
+        Err(error) => {
+            let is_explained = is_refusal_explained(program, explaining);
+            return lost_events_answer(alloc, files, path, error.kind(), is_explained);
+        }
     };
-    let Ok(events) = ask_for_events(runner, files, program, &sources, given.as_slice()) else {
+    let Ok(entered) = ask_for_events(runner, files, program, &sources, begun.as_slice()) else {
         return Answer::OutOfMemory;
     };
-    if files.write(path, events.as_slice()).is_err() {
+    if write_text(files, path, &entered).is_err() {
         return unwritten_answer(alloc, path);
     }
-    let sources = with_events(sources, events);
+    let sources = with_events(sources, entered.unwrap_or(begun));
     answer_sources(runner, program, &sources, files, explaining)
 }
 
@@ -325,7 +317,7 @@ fn answer_program<R: Threads + Wait + Sync, F: Files, W: Watch>(
 {
     let alloc = runner.alloc;
     match read_files(alloc, files, program) {
-        Ok(sources) => match written_events(program) {
+        Ok(sources) => match written_path(program) {
             Some(path) => answer_dialogue(runner, program, sources, path, files, explaining),
             None => answer_sources(runner, program, &sources, files, explaining),
         },

@@ -4,7 +4,6 @@ ghost use Rattle.std.specs.Prelude.{◌≡◌, ◌≢◌, List, ℕ, Option, IfO
 ghost use Rattle.std.specs.IoError.{error_kind};
 ghost use Rattle.mlk_app.specs.Files.{IsFileName, IsNameStem, IsPathStem, IsSource, AreSources, IsWork, IsGivenText, AreTexts, cert_format, given_path, work_path, program_paths, texts_below, AreEvents, events_path, Loses, LosesFirst};
 ghost use Rattle.mlk_app.specs.Dialects.{as_read, rests_of};
-ghost use Rattle.mlk_app.specs.declared.source.FileError.TheVariants as error;
 ghost use Rattle.mlk_cli.specs.CommandLine.{bytes_of};
 
 use crate::dialect::{PlainSources, plain_in};
@@ -205,28 +204,8 @@ pub(crate) fn cert_format(format: Format) -> CertFormat
     }
 }
 
-// The events at a path that were entered before; none if there is no such file.
-fn read_begun<'a, F: Files>(
-    alloc: Global,
-    files: &F,
-    path: &'a str,
-) -> Result<Vec<u8>, FileError<'a>>
-    ensures { IfErr result (λ e. e ≡ error.OutOfMemory) }
-{
-    match files.read(alloc, path) {
-        Ok(text) => Ok(text),
-        Err(error) => {
-            if error.kind() == ErrorKind::OutOfMemory {
-                Err(FileError::OutOfMemory)
-            } else {
-                Ok(Vec::new(alloc))
-            }
-        }
-    }
-}
-
-// The events at a path; if a person is asked for them, those that were entered before.
-#[tactic(auto, using(crate::proofs::Sources::events_lost, crate::proofs::Sources::no_events_lost))]
+// The events at a path; none yet if a person is asked for them.
+#[tactic(auto, using(crate::proofs::Sources::events_lost))]
 fn read_events<'a, F: Files>(
     alloc: Global,
     files: &F,
@@ -237,8 +216,7 @@ fn read_events<'a, F: Files>(
     ensures lost { IfErr result (LosesFirst (F.holds files.now) (F.unreadable files.now) (events_path is_interactive path.now)) }
 {
     if is_interactive {
-        let begun = read_begun(alloc, files, path)?;
-        return Ok(begun);
+        return Ok(Vec::new(alloc));
     }
     let text = read_file(alloc, files, path)?;
     Ok(text)

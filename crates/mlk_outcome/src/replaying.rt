@@ -26,8 +26,8 @@ fn entry_missing(alloc: Global, entry: &[u8]) -> NoReport
     }
 }
 
-// The entries that `texts` name; refuses the first text that names none.
-fn declared_entries(
+/// The entries that `texts` name; refuses the first text that names none (901).
+pub fn declared_entries(
     alloc: Global,
     program: &Program<'_>,
     texts: &[Value],
