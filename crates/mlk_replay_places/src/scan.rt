@@ -1,6 +1,6 @@
 // The tokens of an expression, and the parts of a command, in the text of a line.
 
-use mlk_excerpts::split_at_most;
+use mlk_excerpts::{is_of_word, split_at_most};
 use mlk_expr_tokens::lexeme::{is_match, op_at};
 use mlk_expr_tokens::numeral::numeral_at;
 
@@ -18,11 +18,6 @@ fn is_mark(byte: u8) -> bool {
 // The rest of `text` after the marks at its front.
 fn after_marks(text: &[u8]) -> &[u8] {
     rest_at(text, text.iter().take_while(|byte| is_mark(**byte)).count())
-}
-
-// Whether `byte` may be in a word: a name with the marks in front of it, or a label and a routine.
-fn is_of_word(byte: u8) -> bool {
-    byte.is_ascii_alphanumeric() || matches!(byte, b'%' | b'^' | b'$')
 }
 
 // The rest of `text` after the word at its front, whose first byte is skipped in any case.

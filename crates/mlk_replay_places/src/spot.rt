@@ -59,8 +59,8 @@ fn size_of_pending(alloc: Global, item: &Pending<'_>) -> Result<usize, AllocErro
     }
 }
 
-// The stages of `items`, which come after `next`; the innermost first. If `next` decides on a condition of `$SELECT`, no step of the
-// condition is left.
+// The stages after the first step of `next`, which is before `items`; the innermost first. If `next` decides on a condition of
+// `$SELECT`, no step of the condition is left.
 fn stages_of(
     alloc: Global,
     next: &Pending<'_>,
@@ -74,7 +74,7 @@ fn stages_of(
         };
         push_sparing(&mut stages, stage)?;
     }
-    let mut left: usize = 0;
+    let mut left = size_of_pending(alloc, next)?.saturating_sub(1);
     for item in items.iter().rev() {
         if let Pending::Task(Task::Value(ValueTask::Selected(_, others))) = item {
             let branches = Some(others.len());
