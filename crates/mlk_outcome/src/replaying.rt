@@ -4,7 +4,8 @@ ghost use Rattle.std.specs.Prelude.{◌≡◌, IfOk, IfErr, map};
 ghost use Rattle.mlk_syntax.specs.Views.{routine_of};
 ghost use Rattle.mlk_machine.specs.Systems.{jobs_in, routines_in};
 ghost use Rattle.mlk_machine_view.specs.Printed.{system_text};
-ghost use Rattle.mlk_outcome.specs.Replaying.{AreDeclared, ReportsEntry, IsUndeclared, IsShown, IsShownAs, IsStopped, IsReplayed, IsUnreplayed, has_notes};
+ghost use Rattle.mlk_outcome.specs.Replaying.{AreDeclared, ReportsEntry, IsUndeclared, IsShown, IsShownAs};
+ghost use Rattle.mlk_outcome.specs.Replaying.{IsStopped, IsReplayed, IsUnreplayed, has_notes};
 
 use crate::refusal::NoReport;
 use mlk_machine::{System, replay_events};
@@ -63,7 +64,8 @@ fn shown_text(
     system: &System<'_>,
     showing: Showing<'_>,
 ) -> Result<Vec<u8>, AllocError>
-    ensures { IfOk result (λ text. IsShownAs (has_notes showing.entry) (system_text (routines_in system.now) (jobs_in system.now)) text.items) }
+    ensures { IfOk result (λ text. IsShownAs (has_notes showing.entry)
+        (system_text (routines_in system.now) (jobs_in system.now)) text.items) }
 {
     match showing {
         Showing::Plain => {
@@ -82,7 +84,8 @@ fn text_after<'a>(
     events: &[u8],
     showing: Showing<'_>,
 ) -> Result<Vec<u8>, NoReport>
-    ensures ok { IfOk result (λ text. IsShown (has_notes showing.entry) program.now entries.now events.now text.items) }
+    ensures ok { IfOk result
+        (λ text. IsShown (has_notes showing.entry) program.now entries.now events.now text.items) }
     ensures refused { IfErr result (IsStopped program.now entries.now events.now) }
 {
     let system = replay_events(alloc, program, entries, events)?;
@@ -102,7 +105,8 @@ pub fn jobs_text(
     events: &[u8],
     showing: Showing<'_>,
 ) -> Result<Vec<u8>, NoReport>
-    ensures ok { IfOk result (λ text. IsReplayed (has_notes showing.entry) (map routine_of program.now) rules.now events.now text.items) }
+    ensures ok { IfOk result (λ text. IsReplayed (has_notes showing.entry)
+        (map routine_of program.now) rules.now events.now text.items) }
     ensures refused { IfErr result (IsUnreplayed (map routine_of program.now) rules.now events.now) }
 {
     let listed = declared_entries(alloc, program, entries(rules))?;

@@ -17,7 +17,7 @@ pub struct Entered<'a> {
     pub reply: Reply,
 }
 
-/// What a line does that a person enters.
+/// The effect of a line that a person enters.
 #[derive(Clone, Copy, Debug, Drop, PartialEq, Eq)]
 pub enum Reply {
     /// it is one event more
@@ -80,7 +80,7 @@ fn length_before_last(events: &[u8]) -> usize {
     }
 }
 
-// What comes of other events: they and `reply`, or `entered` and why they can't be followed.
+// The jobs after other events, with `reply`; `entered`, with the reason, if these events can't be followed.
 fn follow_or_keep<'a>(
     alloc: Global,
     program: &'a Program<'a>,
@@ -101,8 +101,8 @@ fn follow_or_keep<'a>(
     }
 }
 
-/// What comes of `line`: an event, a choice of the job that went last, nothing for the event that is offered, or `undo`. The jobs
-/// are always those after the events.
+/// Takes `line`: an event, a choice for the job of the last event, an empty line for the event that is offered, `undo`, or a
+/// comment. The jobs are always those after the events.
 pub fn enter<'a>(
     alloc: Global,
     program: &'a Program<'a>,

@@ -41,7 +41,7 @@ pub(crate) fn last_job(alloc: Global, events: &[u8]) -> Result<Option<u32>, Allo
     }
 }
 
-// Whether `line` is only what a job chooses.
+// Whether `line` is only a choice: a truth, or a value.
 fn is_choice(line: &[u8]) -> bool {
     line == b"yes".as_slice() || line == b"no".as_slice() || line.starts_with(b"\"")
 }
@@ -51,8 +51,8 @@ fn is_word(line: &[u8]) -> bool {
     line == b"go".as_slice() || line == b"run".as_slice() || line == b"abort".as_slice()
 }
 
-/// The line of a file of events that `line` stands for: what is offered if it is empty, else what it says of the job that went
-/// last, or the line itself; `None` if it is empty and nothing is offered.
+/// The line of a file of events that `line` abbreviates: the event that is offered if it is empty, `line` with the job of the last
+/// event if it has none, or `line` itself; `None` if it is empty and nothing is offered.
 pub(crate) fn whole_line(
     alloc: Global,
     program: &Program<'_>,

@@ -17,7 +17,7 @@ use mlk_report_text::push_all;
 use mlk_text::Value;
 use std::alloc::{AllocError, Global};
 
-// The value that the next step of a job can only have, if it is known.
+// The only value that the next step of a job can have, if that is known.
 fn next_value(alloc: Global, job: &Job<'_>) -> Result<Option<Value>, AllocError> {
     let Some(place) = place_of(job) else {
         return Ok(None);
@@ -29,7 +29,7 @@ fn next_value(alloc: Global, job: &Job<'_>) -> Result<Option<Value>, AllocError>
     }
 }
 
-// The event of a step with a value that is known.
+// The event of a step that asks for a value, if only one is possible and that is known.
 fn valued_line(
     alloc: Global,
     program: &Program<'_>,
@@ -82,7 +82,7 @@ fn plain_step_line(
     plain_line(alloc, "go", job)
 }
 
-// The event that is offered for a job: what can only happen next.
+// The event that is offered for a job: the only one that can happen next; `None` if there is a choice.
 fn offer_for(
     alloc: Global,
     program: &Program<'_>,
@@ -99,7 +99,7 @@ fn offer_for(
     }
 }
 
-/// The event that is offered: for the job of the last event, what can only happen next; `None` if there is a choice.
+/// The event that is offered for the job of the last event: the only one that can happen next; `None` if there is a choice.
 pub(crate) fn offered_line(
     alloc: Global,
     program: &Program<'_>,
@@ -114,7 +114,7 @@ pub(crate) fn offered_line(
     }
 }
 
-// Why a line is refused.
+// The reason why a line is refused, in words.
 fn refused_words(why: EventsRefusal) -> &'static str {
     match why {
         EventsRefusal::Form => "refused: this is no event, or the entry is not in the routines\n",
@@ -130,7 +130,7 @@ fn refused_words(why: EventsRefusal) -> &'static str {
     }
 }
 
-// What is said of a line.
+// A reply in words.
 fn words_of(reply: Reply) -> &'static str {
     match reply {
         Reply::Taken | Reply::Ignored => "",

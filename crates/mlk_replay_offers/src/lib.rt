@@ -1,4 +1,4 @@
-//! Values that a job's next step can only have: those of operators and functions whose operands are known.
+//! The only value that a job's next step can have: that of an operator or a function whose operands are known.
 #![tactic(auto)]
 
 mod function;

@@ -1,4 +1,4 @@
-// The value that a job's next step can only have.
+// The only value that a job's next step can have.
 
 use crate::function::value_of_function;
 use crate::operator::value_between;

@@ -338,7 +338,7 @@ fn add_action<'a>(
     }
 }
 
-/// The parts of `command`, which is in `line`; whether there is a block below the line.
+/// The parts of `command`, which is in `line`. `has_block` says whether the line has a block below it.
 pub(crate) fn command_items<'a, 't>(
     alloc: Global,
     command: &'a Command,

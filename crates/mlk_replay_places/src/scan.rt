@@ -96,7 +96,7 @@ fn after_token(text: &[u8]) -> &[u8] {
     after_operator(text)
 }
 
-/// How many bytes of `text` are before its token number `token`, from 0; `None` if there are not so many tokens.
+/// How many bytes of `text` are before its token number `token`, from 0; `None` if there are fewer tokens.
 pub(crate) fn token_place(text: &[u8], token: usize) -> Option<usize> {
     let mut rest = after_marks(text);
     for _ in 0..token {
