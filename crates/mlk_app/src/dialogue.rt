@@ -2,7 +2,6 @@
 
 ghost use Rattle.std.specs.Prelude.{◌≡◌};
 ghost use Rattle.mlk_app.specs.Files.{given_path, new_path, written_path};
-ghost use Rattle.mlk_app.specs.declared.source.Work.TheVariants as work;
 
 use crate::source::{Files, Sources, Work};
 use crate::work::routine_texts_of;
@@ -47,7 +46,7 @@ pub(crate) fn written_path<'a>(program: &ProgramRequest<'a>) -> Option<&'a str>
 
 /// `sources` with these events, which a person was asked for.
 pub(crate) fn with_events<'a>(sources: Sources<'a>, events: Vec<u8>) -> Sources<'a>
-    ensures { result ≡ record sources.entry { work = work.Replay events } }
+    ensures { result ≡ record sources.entry { work = Work.Replay events } }
 {
     Sources {
         work: Work::Replay(events),
