@@ -3,7 +3,7 @@
 ghost use Rattle.std.specs.Prelude.{IfOk, IfSome};
 ghost use Rattle.mlk_replay_dialogue.specs.Entering.{AreReplayed};
 
-use crate::line::whole_line;
+use crate::line::{last_line_start, whole_line};
 use mlk_machine::{EventsRefusal, System, replay_events};
 use mlk_program::{EntryId, Program};
 use mlk_text::Failure;
@@ -69,17 +69,6 @@ pub fn resume<'a>(
     }
 }
 
-// The number of bytes of `events` without its last line.
-fn length_before_last(events: &[u8]) -> usize {
-    let Some((_, front)) = events.split_last() else {
-        return 0;
-    };
-    match front.iter().rposition(|byte| *byte == b'\n') {
-        Some(place) => place.saturating_add(1),
-        None => 0,
-    }
-}
-
 // The jobs after other events, with `reply`; `entered`, with the reason, if these events can't be followed.
 fn follow_or_keep<'a>(
     alloc: Global,
@@ -121,7 +110,7 @@ pub fn enter<'a>(
     }
     let mut events = Vec::from_slice(alloc, entered.events.as_slice())?;
     if line == b"undo".as_slice() {
-        let kept = length_before_last(events.as_slice());
+        let kept = last_line_start(events.as_slice());
         events.truncate(kept);
         return follow_or_keep(alloc, program, entries, entered, events, Reply::Undone);
     }

@@ -2,6 +2,7 @@
 
 use crate::dialogue::Entered;
 use crate::offer::offered_line;
+use mlk_excerpts::split_at_most;
 use mlk_machine::{EventLine, read_line};
 use mlk_program::Program;
 use mlk_report_text::Piece::{Bytes, Number, Words};
@@ -9,16 +10,20 @@ use mlk_report_text::push_all;
 use mlk_text::Failure;
 use std::alloc::{AllocError, Global};
 
-// The last line of `events`, with its end.
-fn last_line(events: &[u8]) -> &[u8] {
+/// The index at which the last line of `events` begins.
+pub(crate) fn last_line_start(events: &[u8]) -> usize {
     let Some((_, front)) = events.split_last() else {
-        return &[];
+        return 0;
     };
-    let start = match front.iter().rposition(|byte| *byte == b'\n') {
+    match front.iter().rposition(|byte| *byte == b'\n') {
         Some(place) => place.saturating_add(1),
         None => 0,
-    };
-    let (_, line) = events.split_at(start.min(events.len()));
+    }
+}
+
+// The last line of `events`, with its end.
+fn last_line(events: &[u8]) -> &[u8] {
+    let (_, line) = split_at_most(events, last_line_start(events));
     line
 }
 
