@@ -135,4 +135,4 @@ loses-behind holds unreadable [] [] more e read lost = lost
 loses-behind holds unreadable [] (source ∷ sources) more e read lost = absurd read
 loses-behind holds unreadable (path ∷ paths) [] more e read lost = absurd read
 loses-behind holds unreadable (path ∷ paths) (source ∷ sources) more e read lost =
-    loses-after holds unreadable path.now source.text.items (bytes_of paths ++ more) e read.0.1 (loses-behind holds unreadable paths sources more e read.1 lost)
+    loses-after holds unreadable path.now source.text.items (bytes_of paths ++ more) e read.0.2 (loses-behind holds unreadable paths sources more e read.1 lost)

@@ -10,7 +10,7 @@ returns-in_err-source-clause-lost g c =
 pub loop-path-preserved : goal.loop-path-preserved
 loop-path-preserved g c = record {
   read = read-more (g.F.Files.holds c.args.files.now) c.args.paths.now c.loop-path.path-index _ c.in_ok-source.source c.loop-path.sources.items c.push.new.self.items c.loop-path-test.true (grind rules) c.in_ok-source.ensures.ok c.loop-path.invariant.read;
-  held = held-more (g.F.Files.holds c.args.files.now) c.args.paths.now c.loop-path.path-index _ c.in_ok-source.source.text.items c.loop-path-test.true c.loop-path.invariant.held c.in_ok-source.ensures.ok.1;
+  held = held-more (g.F.Files.holds c.args.files.now) c.args.paths.now c.loop-path.path-index _ c.in_ok-source.source.text.items c.loop-path-test.true c.loop-path.invariant.held c.in_ok-source.ensures.ok.2;
 }
 
 pub returns-clause-ok : goal.returns-clause-ok
