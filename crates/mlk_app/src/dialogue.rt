@@ -4,13 +4,13 @@ ghost use Rattle.std.specs.Prelude.{◌≡◌};
 ghost use Rattle.mlk_app.specs.Files.{given_path, new_path, written_path};
 
 use crate::source::{Files, Sources, Work};
-use crate::work::routine_texts_of;
+use crate::work::shown_routines;
 use mlk_cli::{Asked, ProgramRequest};
 use mlk_outcome::{NoReport, declared_entries};
 use mlk_pool::{CheckError, read_routines};
 use mlk_program::{EntryId, Program, link};
 use mlk_replay_dialogue::{enter, prompt_for, resume};
-use mlk_replay_text::RoutineText;
+use mlk_replay_text::ShownRoutine;
 use mlk_rules::entries;
 use mlk_rules_file::read_rules;
 use mlk_syntax::Routine;
@@ -73,7 +73,7 @@ pub(crate) fn begun_events<F: Files>(alloc: Global, files: &F, path: &str) -> io
 struct Subject<'a> {
     program: &'a Program<'a>,
     entries: &'a [EntryId],
-    texts: &'a [RoutineText<'a>],
+    texts: &'a [ShownRoutine<'a>],
 }
 
 // Asks for events after those of `begun`, until the input ends; `None` if a line of `begun` can't be followed.
@@ -121,7 +121,7 @@ fn ask_about_routines<F: Files>(
     let program = link(alloc, routines)?;
     let rules = read_rules(alloc, sources.rules.as_slice())?;
     let declared = declared_entries(alloc, &program, entries(&rules))?;
-    let texts = routine_texts_of(alloc, request, sources)?;
+    let texts = shown_routines(alloc, request, sources)?;
     let subject = Subject {
         program: &program,
         entries: declared.as_slice(),

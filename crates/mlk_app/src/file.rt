@@ -15,7 +15,8 @@ const TOO_LONG: u64 = (128 << 20) + 1;
 // The longest line that is read from a person, in bytes.
 const LONGEST_LINE: u32 = 65_536;
 
-/// The next line of a reader, without its end; `None` at the end of the input. What is after the line is left to the reader.
+/// The next line of a reader, without its line feed; `None` at the end of the input. What is after the line is left to the
+/// reader. A line of more than 65,536 bytes is read in parts.
 pub fn read_line<R: Read>(alloc: Global, reader: &mut R) -> io::Result<Option<Vec<u8>>> {
     let mut line: Vec<u8> = Vec::new(alloc);
     for _ in 0..LONGEST_LINE {

@@ -26,7 +26,7 @@ use mlk_outcome::{
 use mlk_output::ReportSources;
 use mlk_pool::{ReportText, read_routines};
 use mlk_program::{Program, link};
-use mlk_replay_text::RoutineText;
+use mlk_replay_text::ShownRoutine;
 use mlk_rules::Rules;
 use mlk_rules_file::read_rules;
 use mlk_syntax::Routine;
@@ -272,16 +272,16 @@ fn print_certificate<W: Watch>(
     })
 }
 
-/// The texts of the routines, as they are and as they are read, with their paths.
-pub(crate) fn routine_texts_of<'t>(
+/// The routines, as their lines are shown.
+pub(crate) fn shown_routines<'t>(
     alloc: Global,
     request: &'t ProgramRequest<'t>,
     sources: &'t Sources<'t>,
-) -> Result<Vec<RoutineText<'t>>, AllocError> {
+) -> Result<Vec<ShownRoutine<'t>>, AllocError> {
     let mut texts = Vec::new(alloc);
-    let shown = sources.routines.iter().zip(sources.as_read().iter());
-    for ((source, read), path) in shown.zip(request.routines.iter()) {
-        texts.push(RoutineText {
+    let texts_read = sources.routines.iter().zip(sources.as_read().iter());
+    for ((source, read), path) in texts_read.zip(request.routines.iter()) {
+        texts.push(ShownRoutine {
             path: *path,
             text: source.text.as_slice(),
             plain: read.text.as_slice(),
@@ -291,7 +291,7 @@ pub(crate) fn routine_texts_of<'t>(
 }
 
 // How jobs are shown, with these texts of the routines.
-fn showing_of<'t>(with_notes: bool, texts: &'t [RoutineText<'t>]) -> Showing<'t>
+fn showing_of<'t>(with_notes: bool, texts: &'t [ShownRoutine<'t>]) -> Showing<'t>
     ensures { has_notes result ≡ with_notes }
 {
     if with_notes {
@@ -306,7 +306,7 @@ fn print_jobs(alloc: Global, subject: &Subject<'_>, events: &[u8]) -> Result<Pri
     ensures ok { IfOk result (λ p. IsReplayed (style_in subject.now.request.now.asked).is_explained (map routine_of subject.now.program.now) subject.now.rules.now events.now p.text × (p.status ≡ 0)) }
     ensures refused { IfErr result (IsUnreplayed (map routine_of subject.now.program.now) subject.now.rules.now events.now) }
 {
-    let texts = routine_texts_of(alloc, subject.request, subject.sources)?;
+    let texts = shown_routines(alloc, subject.request, subject.sources)?;
     let showing = showing_of(
         style_in(&subject.request.asked).is_explained,
         texts.as_slice(),

@@ -12,7 +12,7 @@ use mlk_machine::{System, replay_events};
 use mlk_machine_view::system_text;
 use mlk_pool::CheckError;
 use mlk_program::{EntryId, Program};
-use mlk_replay_text::{RoutineText, explained_text};
+use mlk_replay_text::{ShownRoutine, explained_text};
 use mlk_rules::{Rules, entries};
 use mlk_text::Value;
 use std::alloc::{AllocError, Global};
@@ -55,7 +55,7 @@ pub fn declared_entries(
 pub enum Showing<'t> {
     Plain,
     /// with notes on where they are, in these texts of the routines
-    Explained(&'t [RoutineText<'t>]),
+    Explained(&'t [ShownRoutine<'t>]),
 }
 
 // The text that shows the jobs of `system`.

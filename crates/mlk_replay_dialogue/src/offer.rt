@@ -11,7 +11,7 @@ use mlk_machine_view::{State, state};
 use mlk_program::Program;
 use mlk_replay_offers::known_value;
 use mlk_replay_places::{place_of, spot_of};
-use mlk_replay_text::{RoutineText, explained_text};
+use mlk_replay_text::{ShownRoutine, explained_text};
 use mlk_report_text::Piece::{Bytes, Number, Words};
 use mlk_report_text::push_all;
 use mlk_text::Value;
@@ -145,7 +145,7 @@ pub fn prompt_for(
     alloc: Global,
     program: &Program<'_>,
     entered: &Entered<'_>,
-    texts: &[RoutineText<'_>],
+    texts: &[ShownRoutine<'_>],
 ) -> Result<Vec<u8>, AllocError> {
     let mut text = Vec::new(alloc);
     text.extend_from_slice(words_of(entered.reply).as_bytes())?;

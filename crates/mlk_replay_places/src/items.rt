@@ -277,12 +277,15 @@ fn add_target<'a>(items: &mut Items<'a, '_>, target: &'a Target) -> Result<(), A
     }
 }
 
-// Adds the parts of each argument, and what ends it. The first argument begins at `at`.
+// Adds the parts of each argument, and the step that ends it; a single step if there are none. The first argument begins at `at`.
 fn add_each<'a, T: HasItems>(
     items: &mut Items<'a, '_>,
     arguments: &'a [T],
     at: usize,
 ) -> Result<(), AllocError> {
+    if arguments.is_empty() {
+        return items.add_steps(1, column_at(at));
+    }
     let mut start = at;
     for argument in arguments {
         argument.add_to(items, start)?;
@@ -292,12 +295,15 @@ fn add_each<'a, T: HasItems>(
     Ok(())
 }
 
-// Adds the conditions of IF.
+// Adds the conditions of IF; a single step if there are none.
 fn add_conditions<'a>(
     items: &mut Items<'a, '_>,
     conditions: &'a [Expr],
     at: usize,
 ) -> Result<(), AllocError> {
+    if conditions.is_empty() {
+        return items.add_steps(1, column_at(at));
+    }
     let mut start = at;
     for condition in conditions {
         items.add_value(condition, start)?;
@@ -305,6 +311,19 @@ fn add_conditions<'a>(
         start = items.after(start, b',');
     }
     Ok(())
+}
+
+// Adds the calls of DO; if there are none, the step into the block, if there is one.
+fn add_calls<'a>(
+    items: &mut Items<'a, '_>,
+    calls: &'a [DoArgument],
+    has_block: bool,
+    at: usize,
+) -> Result<(), AllocError> {
+    if calls.is_empty() && !has_block {
+        return Ok(());
+    }
+    add_each(items, calls, at)
 }
 
 // Adds the parts of what a command does; its arguments begin at `at`.
@@ -315,21 +334,14 @@ fn add_action<'a>(
     at: usize,
 ) -> Result<(), AllocError> {
     match action {
-        Action::Do(calls) if calls.is_empty() => {
-            items.add_steps(if has_block { 1 } else { 0 }, column_at(at))
-        }
-        Action::Do(calls) => add_each(items, calls.as_slice(), at),
+        Action::Do(calls) => add_calls(items, calls.as_slice(), has_block, at),
         Action::Else | Action::Halt | Action::Quit(None) => items.add_steps(1, column_at(at)),
         Action::Hang(times) => add_each(items, times.as_slice(), at),
-        Action::If(conditions) if conditions.is_empty() => items.add_steps(1, column_at(at)),
         Action::If(conditions) => add_conditions(items, conditions.as_slice(), at),
         Action::Job(calls) => add_each(items, calls.as_slice(), at),
-        Action::Kill(kills) if kills.is_empty() => items.add_steps(1, column_at(at)),
         Action::Kill(kills) => add_each(items, kills.as_slice(), at),
-        Action::Lock(locks) if locks.is_empty() => items.add_steps(1, column_at(at)),
         Action::Lock(locks) => add_each(items, locks.as_slice(), at),
         Action::Merge(merges) => add_each(items, merges.as_slice(), at),
-        Action::New(news) if news.is_empty() => items.add_steps(1, column_at(at)),
         Action::New(news) => add_each(items, news.as_slice(), at),
         Action::Quit(Some(value)) => items.add_used(value, at),
         Action::Read(reads) => add_each(items, reads.as_slice(), at),

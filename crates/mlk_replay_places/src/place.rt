@@ -4,13 +4,13 @@ use mlk_machine_jobs::{Job, LineTask, Pending, Rest, Task};
 use mlk_syntax::{Command, Commands, For, Line};
 use mlk_text::Column;
 
-/// What of its line a job is in.
+/// The part of its line that a job is in.
 #[derive(Clone, Copy, Drop)]
 pub(crate) enum Work<'a> {
-    /// it begins what is at a column
+    /// what is at a column, which it is about to begin
     Begins(Column),
     Command(&'a Command),
-    /// the parameters of a FOR: how many are left after the one that is computed, if that is known
+    /// the parameters of a FOR: how many are left after the one that it computes, if that is known
     Parameters(&'a For, Option<usize>),
 }
 
@@ -53,8 +53,8 @@ fn is_after(rest: &Rest<'_>, next: &For) -> bool {
     }
 }
 
-// The commands of `commands`, which are after the FOR `before`, among which `rest` begins.
-fn stretch_of<'a>(before: Option<&'a For>, commands: &'a Commands, rest: &Rest<'a>) -> Stretch<'a> {
+// The stretch of `commands`, which are after the FOR `before`, in which `rest` begins.
+fn stretch_of<'a>(commands: &'a Commands, before: Option<&'a For>, rest: &Rest<'a>) -> Stretch<'a> {
     let here = Stretch {
         before,
         commands: commands.before.as_slice(),
@@ -66,7 +66,7 @@ fn stretch_of<'a>(before: Option<&'a For>, commands: &'a Commands, rest: &Rest<'
         return here;
     }
     let next: &'a For = next;
-    stretch_of(Some(next), &next.rest, rest)
+    stretch_of(&next.rest, Some(next), rest)
 }
 
 // The column of a FOR's variable, or of its word if it has none.
@@ -109,7 +109,7 @@ fn next_work<'a>(task: &LineTask<'a>, rest: &Rest<'a>) -> Work<'a> {
     if let LineTask::RunCommands(_) = task {
         return Work::Begins(column_of_rest(rest));
     }
-    match stretch_of(None, &rest.line.commands, rest).before {
+    match stretch_of(&rest.line.commands, None, rest).before {
         Some(found) => Work::Begins(column_of_loop(found)),
         None => Work::Begins(rest.line.end),
     }
@@ -124,7 +124,7 @@ fn command_before<'a>(stretch: &Stretch<'a>, rest: &Rest<'a>) -> Option<&'a Comm
 
 // What a job does that has items before the one that continues the line with `rest`, which is at the index `at`.
 fn work_before<'a>(pending: &[Pending<'a>], at: usize, rest: &Rest<'a>) -> Work<'a> {
-    let stretch = stretch_of(None, &rest.line.commands, rest);
+    let stretch = stretch_of(&rest.line.commands, None, rest);
     if let Some(command) = command_before(&stretch, rest) {
         return Work::Command(command);
     }

@@ -20,7 +20,8 @@ pub struct Spot<'a> {
     pub part: Option<Part<'a>>,
 }
 
-// Steps that are left, up to the end of a command or of a condition of `$SELECT`; there, how many branches are left after it.
+// The number of steps that are left to the end of a command, or to the end of a condition of `$SELECT` that has this number of
+// branches after it.
 #[derive(Clone, Copy, Drop)]
 struct Stage {
     left: usize,

@@ -10,9 +10,10 @@ use mlk_machine::System;
 use mlk_machine_view::system_text;
 use std::alloc::{AllocError, Global};
 
-/// The path of a routine, its text, and the text that is read: the same, or one with other words of the same length.
+/// A routine as its lines are shown: its path, its text, and the text that is read, which is the same or has other words of the
+/// same length.
 #[derive(Clone, Copy, Drop)]
-pub struct RoutineText<'t> {
+pub struct ShownRoutine<'t> {
     pub path: &'t str,
     pub text: &'t [u8],
     pub plain: &'t [u8],
@@ -29,7 +30,7 @@ fn line_length(text: &[u8]) -> usize
 fn notes_of(
     alloc: Global,
     system: &System<'_>,
-    texts: &[RoutineText<'_>],
+    texts: &[ShownRoutine<'_>],
 ) -> Result<Vec<Vec<u8>>, AllocError> {
     let mut notes = Vec::new(alloc);
     for job in system.jobs() {
@@ -84,7 +85,7 @@ fn with_notes(alloc: Global, plain: &[u8], notes: &[Vec<u8>]) -> Result<Vec<u8>,
 pub fn explained_text(
     alloc: Global,
     system: &System<'_>,
-    texts: &[RoutineText<'_>],
+    texts: &[ShownRoutine<'_>],
 ) -> Result<Vec<u8>, AllocError>
     ensures { IfOk result (λ text. IsExplained (system_text (routines_in system.now) (jobs_in system.now)) text.items) }
 {

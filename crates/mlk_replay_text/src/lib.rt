@@ -4,4 +4,4 @@
 mod explained;
 mod note;
 
-pub use explained::{RoutineText, explained_text};
+pub use explained::{ShownRoutine, explained_text};

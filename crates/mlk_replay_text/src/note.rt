@@ -1,6 +1,6 @@
 // A note on a job: where it is, and what its next step asks for.
 
-use crate::explained::RoutineText;
+use crate::explained::ShownRoutine;
 use mlk_excerpts::{Excerpt, TextLines, margin_of, push_excerpt, push_labelled, token_at};
 use mlk_machine_asks::{Question, question_of};
 use mlk_machine_jobs::{Job, LineTask, Pending, Task};
@@ -121,7 +121,7 @@ fn push_place(
     program: &Program<'_>,
     job: &Job<'_>,
     place: &Place<'_>,
-    given: &RoutineText<'_>,
+    given: &ShownRoutine<'_>,
 ) -> Result<Column, AllocError> {
     let number = place.line.number;
     let lines = TextLines::of(alloc, given.text)?;
@@ -144,7 +144,7 @@ pub(crate) fn note_of(
     alloc: Global,
     program: &Program<'_>,
     job: &Job<'_>,
-    texts: &[RoutineText<'_>],
+    texts: &[ShownRoutine<'_>],
 ) -> Result<Vec<u8>, AllocError> {
     let mut text = Vec::new(alloc);
     let Some(place) = place_of(job) else {

@@ -1,16 +1,16 @@
 //! Runs command lines of `mlock` over files given beside them in one text, and prints what each answers.
 //!
 //! The text comes on standard input, as `mlk_case_text` reads it. For each command line its words are printed and what it shows,
-//! then what it prints, then what it writes to the error stream, then what it shows before it reads a line of the file `stdin`, with
-//! that line, and the files that it writes, each after `-- ` and its path, then
-//! `= ` and its status. A path that ends with a slash is that of a folder.
+//! then what it prints, then what it writes to the error stream, then what it shows to a person, with the lines of the file `stdin`,
+//! which that person enters, and the files that it writes, each after `-- ` and its path, then `= ` and its status. A path that ends
+//! with a slash is that of a folder.
 #![tactic(auto)]
 
 use bstr::ByteSlice;
 use mlk_app::{Explaining, Files, Runner, Unwatched, run};
 use mlk_case_text::{Case, cases_of};
 use std::alloc::{AllocError, Global};
-use std::cell::RefCell;
+use std::cell::{Cell, RefCell};
 use std::io::{self, Read, Write};
 use std::sync::Wait;
 use std::thread::Threads;
@@ -20,16 +20,16 @@ use std::thread::Threads;
 struct CaseFiles<'a> {
     case: &'a Case<'a>,
     written: RefCell<Vec<u8>>,
-    // how many lines of the file `stdin` were entered
-    asked: RefCell<usize>,
+    // the number of lines of the file `stdin` that were entered
+    entered: Cell<usize>,
 }
 
-// The line number `count`, from 0, of the file `stdin`, which a person enters; `None` after the last one.
-fn nth_line(alloc: Global, case: &Case<'_>, count: usize) -> io::Result<Option<Vec<u8>>> {
+// The line number `number`, from 0, of the file `stdin`; `None` after the last one.
+fn nth_line(alloc: Global, case: &Case<'_>, number: usize) -> io::Result<Option<Vec<u8>>> {
     let Ok(text) = case.read(alloc, "stdin") else {
         return Ok(None);
     };
-    match text.as_slice().lines().nth(count) {
+    match text.as_slice().lines().nth(number) {
         Some(line) => Ok(Some(Vec::from_slice(alloc, line)?)),
         None => Ok(None),
     }
@@ -77,9 +77,8 @@ impl Files for CaseFiles<'_> {
     fn ask(&self, alloc: Global, shown: &[u8]) -> io::Result<Option<Vec<u8>>> {
         let mut written = self.written.try_borrow_mut()?;
         written.extend_from_slice(shown)?;
-        let mut asked = self.asked.try_borrow_mut()?;
-        let line = nth_line(alloc, self.case, *asked)?;
-        *asked = asked.saturating_add(1);
+        let line = nth_line(alloc, self.case, self.entered.get())?;
+        self.entered.set(self.entered.get().saturating_add(1));
         if let Some(line) = &line {
             written.extend_from_slice(line.as_slice())?;
         }
@@ -101,7 +100,7 @@ fn push_answer<R: Threads + Wait + Sync>(
     let files = CaseFiles {
         case,
         written: RefCell::new(Vec::new(alloc)),
-        asked: RefCell::new(0),
+        entered: Cell::new(0),
     };
     let runner = Runner {
         rt,
