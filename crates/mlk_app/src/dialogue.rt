@@ -22,7 +22,7 @@ use std::thread::Threads;
 
 // What is shown at the begin of a dialogue.
 const WELCOME: &[u8] =
-    b"Enter an event: begin JOB ENTRY TEST VALUE.., go, run or abort; or what is asked for: a value in quotes, yes or no.\nAn empty line enters the event in brackets, `undo` removes the last event, `end` writes the file.\n";
+    b"Enter an event: begin JOB ENTRY TEST VALUE.., go, run or abort; or the answer to what is asked for: yes, no, a number, or a value in quotes.\nAn empty line enters the event in brackets, `undo` removes the last event, `end` writes the file.\n";
 
 // What ends a dialogue.
 const END: &[u8] = b"end";

@@ -28,7 +28,7 @@ pub enum Reply {
     Refused(EventsRefusal),
     /// it asks for what is offered, and nothing is
     NothingOffered,
-    /// it is a comment
+    /// it is a comment, or there is no event to remove
     Ignored,
 }
 
@@ -90,6 +90,16 @@ fn follow_or_keep<'a>(
     }
 }
 
+// Whether `line` is `undo`, which removes the last event.
+fn is_undo(line: &[u8]) -> bool {
+    line == b"undo".as_slice()
+}
+
+// Whether `line` is a comment, or removes the last of `events`, which has none.
+fn has_no_effect(line: &[u8], events: &[u8]) -> bool {
+    line.starts_with(b"#") || (is_undo(line) && events.is_empty())
+}
+
 /// Takes `line`: an event, a choice for the job of the last event, an empty line for the event that is offered, `undo`, or a
 /// comment. The jobs are always those after the events.
 pub fn enter<'a>(
@@ -102,14 +112,14 @@ pub fn enter<'a>(
     requires { AreReplayed program.now entries.now entered }
     ensures { IfOk result (AreReplayed program.now entries.now) }
 {
-    if line.starts_with(b"#") {
+    if has_no_effect(line, entered.events.as_slice()) {
         return Ok(Entered {
             reply: Reply::Ignored,
             ..entered
         });
     }
     let mut events = Vec::from_slice(alloc, entered.events.as_slice())?;
-    if line == b"undo".as_slice() {
+    if is_undo(line) {
         let kept = last_line_start(events.as_slice());
         events.truncate(kept);
         return follow_or_keep(alloc, program, entries, entered, events, Reply::Undone);

@@ -4,9 +4,10 @@ use crate::dialogue::Entered;
 use crate::offer::offered_line;
 use mlk_excerpts::split_at_most;
 use mlk_machine::{EventLine, read_line};
+use mlk_numbers::whole_number;
 use mlk_program::Program;
 use mlk_report_text::Piece::{Bytes, Number, Words};
-use mlk_report_text::push_all;
+use mlk_report_text::text_of;
 use mlk_text::Failure;
 use std::alloc::{AllocError, Global};
 
@@ -46,7 +47,7 @@ pub(crate) fn last_job(alloc: Global, events: &[u8]) -> Result<Option<u32>, Allo
     }
 }
 
-// Whether `line` is only a choice: a truth, or a value.
+// Whether `line` is only a choice, as a file of events has it: a truth, or a value in quotes.
 fn is_choice(line: &[u8]) -> bool {
     line == b"yes".as_slice() || line == b"no".as_slice() || line.starts_with(b"\"")
 }
@@ -54,6 +55,33 @@ fn is_choice(line: &[u8]) -> bool {
 // Whether `line` is the word of an event without its job.
 fn is_word(line: &[u8]) -> bool {
     line == b"go".as_slice() || line == b"run".as_slice() || line == b"abort".as_slice()
+}
+
+// The event of `job` that `line` abbreviates; `line` itself if it abbreviates none.
+fn event_of(alloc: Global, job: u32, line: &[u8]) -> Result<Vec<u8>, AllocError> {
+    let number = job as usize;
+    if is_choice(line) {
+        return text_of(
+            alloc,
+            &[Words("go "), Number(number), Words(" "), Bytes(line)],
+        );
+    }
+    if whole_number(line).is_some() {
+        return text_of(
+            alloc,
+            &[
+                Words("go "),
+                Number(number),
+                Words(" \""),
+                Bytes(line),
+                Words("\""),
+            ],
+        );
+    }
+    if is_word(line) {
+        return text_of(alloc, &[Bytes(line), Words(" "), Number(number)]);
+    }
+    Vec::from_slice(alloc, line)
 }
 
 /// The line of a file of events that `line` abbreviates: the event that is offered if it is empty, `line` with the job of the last
@@ -67,18 +95,9 @@ pub(crate) fn whole_line(
     if line.is_empty() {
         return offered_line(alloc, program, entered);
     }
-    let mut whole = Vec::new(alloc);
-    match last_job(alloc, entered.events.as_slice())? {
-        Some(job) if is_choice(line) => {
-            push_all(
-                &mut whole,
-                &[Words("go "), Number(job as usize), Words(" "), Bytes(line)],
-            )?;
-        }
-        Some(job) if is_word(line) => {
-            push_all(&mut whole, &[Bytes(line), Words(" "), Number(job as usize)])?;
-        }
-        _ => whole.extend_from_slice(line)?,
-    }
+    let whole = match last_job(alloc, entered.events.as_slice())? {
+        Some(job) => event_of(alloc, job, line)?,
+        None => Vec::from_slice(alloc, line)?,
+    };
     Ok(Some(whole))
 }
