@@ -39,7 +39,7 @@ _mlock() {
             check) words="--files-from --dialect --workers --output --strict --explain --quiet --exit-zero --baseline --write-baseline --help" ;;
             make) words="--files-from --dialect --format --help" ;;
             verify) words="--files-from --dialect --workers --output --strict --explain --quiet --exit-zero --baseline --write-baseline --help" ;;
-            replay) words="--files-from --dialect --help" ;;
+            replay) words="--files-from --dialect --explain --interactive --help" ;;
             convert) words="--format --help" ;;
             survey) words="--files-from --dialect --output --help" ;;
             suggest) words="--files-from --dialect --beside --stubs --help" ;;

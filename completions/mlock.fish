@@ -41,6 +41,8 @@ complete -c mlock -n '__fish_seen_subcommand_from verify' -l write-baseline -r -
 complete -c mlock -n '__fish_seen_subcommand_from verify' -s h -l help -d 'Print help'
 complete -c mlock -n '__fish_seen_subcommand_from replay' -l files-from -r -d 'A file that lists more routines, a path a line, read after the others; with it, ROUTINE may be left out'
 complete -c mlock -n '__fish_seen_subcommand_from replay' -l dialect -x -a 'standard extended' -d 'How much of M is read: standard, or extended, which reads words of vendors as any value too; a `yes` then says on how many of them it rests [default: standard]'
+complete -c mlock -n '__fish_seen_subcommand_from replay' -l explain -d 'Shows below each job the line where it is, and what is asked for its next step; and below a refusal its line and what helps'
+complete -c mlock -n '__fish_seen_subcommand_from replay' -l interactive -d 'Shows the jobs and asks for the next event, until the input ends or `end` is entered; then writes EVENTS'
 complete -c mlock -n '__fish_seen_subcommand_from replay' -s h -l help -d 'Print help'
 complete -c mlock -n '__fish_seen_subcommand_from convert' -l format -x -a '1 2' -d 'The format of the text: 1, which has the cases of each point in full, or 2, which has their numbers [default: 2]'
 complete -c mlock -n '__fish_seen_subcommand_from convert' -s h -l help -d 'Print help'

@@ -1,5 +1,5 @@
 -- What is answered to a request.
-use Rattle.std.proofs.Common.{◌≡◌, ◌∙◌, ℕ, List, [], Bool, true, false, Option, None, Some, inl, inr, refl, sym, subst, arith}
+use Rattle.std.proofs.Common.{◌≡◌, ◌∙◌, ◌∷◌, ℕ, List, [], Bool, true, false, Option, None, Some, inl, inr, refl, sym, subst, arith}
 use Rattle.std.specs.Prelude.{◌||◌, Vec, is_some}
 use Rattle.std.specs.Global.{Global}
 use Rattle.mlk_baseline.specs.declared.baseline.Baseline.{Baseline}
@@ -25,7 +25,7 @@ use Rattle.mlk_pool.specs.declared.source.Source.{Source}
 use Rattle.mlk_app.specs.declared.answer.Answer.{Answer}
 use Rattle.mlk_app.specs.declared.answer.Answer.TheVariants as answer
 use Rattle.mlk_app.specs.declared.source.FileError.TheVariants as error
-use Rattle.mlk_app.specs.Files.{AreSources, Texts, AreTexts, IsGivenText, Loses, LosesFirst, cert_format}
+use Rattle.mlk_app.specs.Files.{AreSources, Texts, AreTexts, written_path, IsGivenText, Loses, LosesFirst, cert_format}
 use Rattle.mlk_app.proofs.Sources.{loses-front}
 use Rattle.mlk_cli.specs.CommandLine.{bytes_of}
 use Rattle.mlk_outcome.specs.Conversion.{IsUnconverted}
@@ -131,9 +131,18 @@ pub report-answers : (holds : Texts) (unreadable : List ℕ → Type 0) (program
     → Answers holds unreadable (request.Program program) a
 report-answers holds unreadable program text status (answer.Report said ended) reported told = subst (λ t. IsProgramReported holds program t ended) (sym told.0) (subst (IsProgramReported holds program text) (sym told.1) reported)
 report-answers holds unreadable program text status (answer.Refused line notice help) reported told = absurd told
-report-answers holds unreadable program text status (answer.Unread line help) reported told = inr told
+report-answers holds unreadable program text status (answer.Unread line help) reported told = inr (inl told)
 report-answers holds unreadable program text status (answer.Usage said) reported told = absurd told
 report-answers holds unreadable program text status answer.OutOfMemory reported told = record {}
+
+-- what is answered where events can't be written
+pub unwritten_answers : (holds : Texts) (unreadable : List ℕ → Type 0) (program : ProgramRequest) (path : List ℕ) (a : Answer) → written_path program.asked ≡ path ∷ [] → TellsUnread path a
+    → Answers holds unreadable (request.Program program) a
+unwritten_answers holds unreadable program path (answer.Report said status) named told = absurd told
+unwritten_answers holds unreadable program path (answer.Refused line notice help) named told = absurd told
+unwritten_answers holds unreadable program path (answer.Unread line help) named told = inr (inr (record { path = path; named = named; printed = told }))
+unwritten_answers holds unreadable program path (answer.Usage said) named told = absurd told
+unwritten_answers holds unreadable program path answer.OutOfMemory named told = record {}
 
 -- what is answered where a certificate can't be read, or is not converted
 pub unread-answers : (holds : Texts) (unreadable : List ℕ → Type 0) (certificate : Bor (List ℕ)) (format : Format) (path : Bor (List ℕ)) (a : Answer) → Loses unreadable certificate.now (error.Unread path)

@@ -1,14 +1,18 @@
 -- Reading files in the order of their paths.
-use Rattle.std.proofs.Common.{◌≡◌, ℕ, ◌<◌, ◌≤◌, ◌+◌, ◌++◌, List, [], ◌∷◌, length, take, drop, slice_index_or, sym, ap, ◌∙◌, subst, Bor, take-append-drop, append_assoc, append-nil}
+use Rattle.std.proofs.Common.{◌≡◌, ℕ, Bool, true, false, ◌<◌, ◌≤◌, ◌+◌, ◌++◌, List, [], ◌∷◌, length, take, drop, slice_index_or, sym, ap, ◌∙◌, subst, Bor, take-append-drop, append_assoc, append-nil}
+use Rattle.std.specs.Prelude.{Vec}
+use Rattle.std.specs.Global.{Global}
 use Rattle.std.proofs.lemmas.List.{drop_all, drop_more, take_more, map-append}
 use Rattle.mlk_app.specs.declared.source.FileError.{FileError}
 use Rattle.mlk_app.specs.declared.source.FileError.TheVariants as error
 use Rattle.mlk_pool.specs.declared.source.Source.{Source}
+use Rattle.mlk_app.specs.declared.source.Sources.{Sources}
 use Rattle.mlk_app.specs.declared.source.Work.{Work}
 use Rattle.mlk_app.specs.declared.source.Work.TheVariants as work
 use Rattle.mlk_cli.specs.declared.words.Asked.{Asked}
 use Rattle.mlk_cli.specs.declared.words.Asked.TheVariants as asked
-use Rattle.mlk_app.specs.Files.{Texts, IsSource, AreSources, AreHeld, IsWork, Loses, LosesFirst, work_path}
+use Rattle.mlk_cli.specs.declared.words.ProgramRequest.{ProgramRequest}
+use Rattle.mlk_app.specs.Files.{Texts, IsSource, AreSources, AreTexts, AreHeld, AreEvents, IsWork, Loses, LosesFirst, events_path, new_path, work_path, written_path}
 use Rattle.mlk_cli.specs.CommandLine.{bytes_of}
 
 -- what comes before a path, the path, and what comes after it
@@ -78,6 +82,38 @@ loses-within holds unreadable paths more (error.Unread path) lost = record {
   lost = lost.lost;
 }
 
+-- what is lost after the events were had, or if they are asked for
+loses-past-events : (holds : Texts) (unreadable : List ℕ → Type 0) (interactive : Bool) (path text : List ℕ) (paths : List (List ℕ)) (e : FileError) → AreEvents interactive (holds path text) → LosesFirst holds unreadable paths e
+    → LosesFirst holds unreadable (events_path interactive path ++ paths) e
+loses-past-events holds unreadable true path text paths e held lost = lost
+loses-past-events holds unreadable false path text paths e held lost = loses-after holds unreadable path text paths e held lost
+
+-- what is lost of events alone
+pub events_lost : (holds : Texts) (unreadable : List ℕ → Type 0) (interactive : Bool) (path : List ℕ) (e : FileError) → interactive ≡ false → Loses unreadable path e → LosesFirst holds unreadable (events_path interactive path) e
+events_lost holds unreadable true path e not lost = cc
+events_lost holds unreadable false path e not lost = loses-front holds unreadable path [] e lost
+
+-- events that are asked for may be any
+any-events : (interactive : Bool) (read : Type 0) (path other : List ℕ) → new_path interactive path ≡ other ∷ [] → AreEvents interactive read
+any-events true read path other named = record {}
+any-events false read path other named = cc
+
+asked-work : (holds : Texts) (a : Asked) (path : List ℕ) (events : Vec ℕ Global) → written_path a ≡ path ∷ [] → IsWork holds a (work.Replay events)
+asked-work holds (asked.Check given workers style) path events named = cc
+asked-work holds (asked.Make format) path events named = cc
+asked-work holds (asked.Verify workers style) path events named = cc
+asked-work holds (asked.Replay given style) path events named = any-events style.is_interactive (holds given.now events.items) given.now path named
+
+pub asked_texts : (holds : Texts) (program : ProgramRequest) (sources : Sources) (path : List ℕ) (events : Vec ℕ Global) → written_path program.asked ≡ path ∷ [] → AreTexts holds program sources
+    → AreTexts holds program (record sources { work = work.Replay events })
+asked_texts holds program sources path events named texts = record {
+  rules = texts.rules;
+  work = asked-work holds program.asked path events named;
+  routines = texts.routines;
+  plain = texts.plain;
+  baseline = texts.baseline;
+}
+
 -- what is lost after the text of the certificate, or of the events, was had
 pub loses-past : (holds : Texts) (unreadable : List ℕ → Type 0) (a : Asked) (w : Work) (paths : List (List ℕ)) (e : FileError) → IsWork holds a w → LosesFirst holds unreadable paths e
     → LosesFirst holds unreadable (work_path a ++ paths) e
@@ -87,10 +123,10 @@ loses-past holds unreadable (asked.Check path workers style) (work.Verify given)
 loses-past holds unreadable (asked.Check path workers style) (work.Replay text) paths e held lost = absurd held
 loses-past holds unreadable (asked.Make format) w paths e held lost = lost
 loses-past holds unreadable (asked.Verify workers style) w paths e held lost = lost
-loses-past holds unreadable (asked.Replay path) (work.Check text given) paths e held lost = absurd held
-loses-past holds unreadable (asked.Replay path) (work.Make format) paths e held lost = absurd held
-loses-past holds unreadable (asked.Replay path) (work.Verify given) paths e held lost = absurd held
-loses-past holds unreadable (asked.Replay path) (work.Replay text) paths e held lost = loses-after holds unreadable path.now text.items paths e held lost
+loses-past holds unreadable (asked.Replay path style) (work.Check text given) paths e held lost = absurd held
+loses-past holds unreadable (asked.Replay path style) (work.Make format) paths e held lost = absurd held
+loses-past holds unreadable (asked.Replay path style) (work.Verify given) paths e held lost = absurd held
+loses-past holds unreadable (asked.Replay path style) (work.Replay text) paths e held lost = loses-past-events holds unreadable style.is_interactive path.now text.items paths e held lost
 
 -- what is lost after the texts of routines were had
 pub loses-behind : (holds : Texts) (unreadable : List ℕ → Type 0) (paths : List (Bor (List ℕ))) (sources : List Source) (more : List (List ℕ)) (e : FileError) → AreSources holds paths sources → LosesFirst holds unreadable more e

@@ -1,6 +1,6 @@
 -- The texts that a command reads: those of the files that it names, and a routine's name from its file's. This
 -- project's own choice.
-use Rattle.std.specs.Prelude.{Option, None, Some, option_map, map, String, string_bytes, Vec, ℕ, ◌≡◌, ◌<◌, ◌⊎◌, List, [], ◌∷◌, ◌++◌, length, slice_index}
+use Rattle.std.specs.Prelude.{Bool, true, false, Option, None, Some, option_map, map, String, string_bytes, Vec, ℕ, ◌≡◌, ◌<◌, ◌⊎◌, List, [], ◌∷◌, ◌++◌, length, slice_index}
 use Rattle.std.specs.Borrow.{Bor}
 use Rattle.std.specs.Global.{Global}
 use Rattle.mlk_app.specs.Dialects.{ArePlainIn}
@@ -65,6 +65,11 @@ abbrev pub cert_format : Format → CertFormat
 cert_format named.First = format.First
 cert_format named.Second = format.Second
 
+-- The events are those of a file, or a person is asked for them: nothing says which.
+abbrev pub AreEvents : Bool → Type 0 → Type 0
+AreEvents true read = Unit {0}
+AreEvents false read = read
+
 -- the text of the certificate, or of the events, where one is named, and the number of workers or the format
 abbrev pub IsWork : Texts → Asked → Work → Type 0
 IsWork holds (asked.Check path workers style) (work.Check text given) = holds path.now text.items × (given ≡ workers)
@@ -73,10 +78,10 @@ IsWork holds (asked.Check path workers style) (work.Verify given) = ⊥
 IsWork holds (asked.Check path workers style) (work.Replay text) = ⊥
 IsWork holds (asked.Make format) w = w ≡ work.Make (cert_format format)
 IsWork holds (asked.Verify workers style) w = w ≡ work.Verify workers
-IsWork holds (asked.Replay path) (work.Check text given) = ⊥
-IsWork holds (asked.Replay path) (work.Make format) = ⊥
-IsWork holds (asked.Replay path) (work.Verify given) = ⊥
-IsWork holds (asked.Replay path) (work.Replay text) = holds path.now text.items
+IsWork holds (asked.Replay path style) (work.Check text given) = ⊥
+IsWork holds (asked.Replay path style) (work.Make format) = ⊥
+IsWork holds (asked.Replay path style) (work.Verify given) = ⊥
+IsWork holds (asked.Replay path style) (work.Replay text) = AreEvents style.is_interactive (holds path.now text.items)
 
 -- the path of a file that may be given
 abbrev pub given_path : Option (Bor (List ℕ)) → List (List ℕ)
@@ -98,11 +103,27 @@ pub record AreTexts (holds : Texts) (program : ProgramRequest) (sources : Source
   pub plain : ArePlainIn program.dialect sources.routines.items sources.plain
   pub baseline : IsGivenText holds program.baseline sources.baseline
 
+-- the path of events that are read: none if a person is asked for them
+abbrev pub events_path : Bool → List ℕ → List (List ℕ)
+events_path true path = []
+events_path false path = path ∷ []
+
 abbrev pub work_path : Asked → List (List ℕ)
 work_path (asked.Check path workers style) = path.now ∷ []
 work_path (asked.Make format) = []
 work_path (asked.Verify workers style) = []
-work_path (asked.Replay path) = path.now ∷ []
+work_path (asked.Replay path style) = events_path style.is_interactive path.now
+
+-- the path of the events that are asked for and written
+abbrev pub new_path : Bool → List ℕ → List (List ℕ)
+new_path true path = path ∷ []
+new_path false path = []
+
+abbrev pub written_path : Asked → List (List ℕ)
+written_path (asked.Check path workers style) = []
+written_path (asked.Make format) = []
+written_path (asked.Verify workers style) = []
+written_path (asked.Replay path style) = new_path style.is_interactive path.now
 
 -- the paths that a command names, in the order of its words, and that of the known faults last
 abbrev pub program_paths : ProgramRequest → List (List ℕ)

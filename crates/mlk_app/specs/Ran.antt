@@ -41,7 +41,7 @@ use Rattle.mlk_baseline.specs.Known.{IsComparison}
 use Rattle.mlk_forms.specs.Rendering.{IsRendered, IsNoticed, printed_rows}
 use Rattle.mlk_app.specs.Printed.{fault_line, rules_line, certificate_line, missing_line, workers_line, stuck_line, events_line, baseline_line, file_line, no_page_line}
 use Rattle.mlk_app.specs.Dialects.{as_read, rests_of}
-use Rattle.mlk_app.specs.Files.{Texts, Folders, AreFound, AreTexts, AreSources, IsFirstLost, given_path, cert_format, paths_of, program_paths}
+use Rattle.mlk_app.specs.Files.{Texts, Folders, AreFound, AreTexts, AreSources, IsFirstLost, given_path, written_path, cert_format, paths_of, program_paths}
 use Rattle.mlk_cli.specs.CommandLine.{IsRequest, AsksNothing, bytes_of}
 use Rattle.mlk_program.specs.Program.{IsProgram}
 use Rattle.mlk_rules.specs.declared.rules.RuleLists.{RuleLists}
@@ -55,14 +55,14 @@ use Rattle.mlk_outcome.specs.Replaying.{IsReplayed, IsUnreplayed}
 use Rattle.mlk_outcome.specs.Conversion.{IsConverted, IsUnconverted}
 
 -- how a report is printed: as text, without hazards and explanations, unless the words say otherwise
-abbrev pub plain_style : ReportStyle
-plain_style = record { output = Plain; is_strict = false; is_explained = false; is_quiet = false; exits_zero = false }
+abbrev pub text_style : Bool → ReportStyle
+text_style explained = record { output = Plain; is_strict = false; is_explained = explained; is_quiet = false; exits_zero = false }
 
 abbrev pub style_in : Asked → ReportStyle
 style_in (asked.Check certificate workers style) = style
-style_in (asked.Make format) = plain_style
+style_in (asked.Make format) = text_style false
 style_in (asked.Verify workers style) = style
-style_in (asked.Replay path) = plain_style
+style_in (asked.Replay path style) = text_style style.is_explained
 
 abbrev pub output_in : Request → Output
 output_in (request.Program program) = (style_in program.asked).output
@@ -147,7 +147,7 @@ abbrev pub IsPrinted : ReportRequest → List RoutineTree → RuleLists → Work
 IsPrinted asked trees rules (work.Check given workers) text status = IsReportByText asked trees rules given.items text status
 IsPrinted asked trees rules (work.Verify workers) text status = IsReportOfMade asked trees rules text status
 IsPrinted asked trees rules (work.Make format) text status = IsMade trees rules format text × (status ≡ 0)
-IsPrinted asked trees rules (work.Replay events) text status = IsReplayed trees rules events.items text × (status ≡ 0)
+IsPrinted asked trees rules (work.Replay events) text status = IsReplayed (style_in asked.program.asked).is_explained trees rules events.items text × (status ≡ 0)
 
 -- why there is no report by a certificate that is made
 abbrev pub RefusesMade : ℕ → List RoutineTree → RuleLists → NoReport → Type 0
@@ -284,6 +284,12 @@ pub record IsUnwritten (program : ProgramRequest) (line : List ℕ) : Type 0 whe
   pub named : program.new_baseline ≡ Some path
   pub printed : line ≡ file_line path.now
 
+-- the file of the events that are asked for can't be read or written
+pub record AreUnwritten (program : ProgramRequest) (line : List ℕ) : Type 0 where
+  pub path : List ℕ
+  pub named : written_path program.asked ≡ path ∷ []
+  pub printed : line ≡ file_line path
+
 -- the text in this format of the certificate whose text is at the path
 pub record IsConvertedThere (holds : Texts) (path : List ℕ) (format : CertFormat) (text : List ℕ) : Type 0 where
   pub given : List ℕ
@@ -362,7 +368,7 @@ IsRefusedSo holds request line notice = IsRefusedThere holds request line × IsN
 
 -- the first path of a request that can't be read; of a program also the one that can't be written
 abbrev pub IsUnread : Texts → (List ℕ → Type 0) → Request → List ℕ → Type 0
-IsUnread holds unreadable (request.Program program) line = IsFirstUnread holds unreadable (program_paths program) line ⊎ IsUnwritten program line
+IsUnread holds unreadable (request.Program program) line = IsFirstUnread holds unreadable (program_paths program) line ⊎ (IsUnwritten program line ⊎ AreUnwritten program line)
 IsUnread holds unreadable (request.Convert certificate format) line = IsFirstUnread holds unreadable (paths_of (request.Convert certificate format)) line
 IsUnread holds unreadable (request.Survey survey) line = IsFirstUnread holds unreadable (paths_of (request.Survey survey)) line
 IsUnread holds unreadable (request.Suggest suggestion) line = IsFirstUnread holds unreadable (paths_of (request.Suggest suggestion)) line

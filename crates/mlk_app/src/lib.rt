@@ -6,6 +6,7 @@ mod answer;
 mod baseline;
 mod behind;
 mod dialect;
+mod dialogue;
 mod file;
 mod help;
 mod notice;
@@ -19,7 +20,7 @@ mod stuck;
 mod suggestion;
 mod work;
 
-pub use file::{LONGEST_FILE, read_whole};
+pub use file::{LONGEST_FILE, read_line, read_whole};
 pub use help::Explaining;
 pub use mlk_watch::{Runner, Stage, Unwatched, Watch};
 pub use program::{run, wrong_words};

@@ -1,10 +1,10 @@
 // The program, from its words to its status.
 
-ghost use Rattle.std.specs.Prelude.{◌≡◌, ◌≢◌, IfOk};
+ghost use Rattle.std.specs.Prelude.{◌≡◌, ◌≢◌, ◌∷◌, [], IfOk};
 ghost use Rattle.std.specs.IoError.{error_kind};
 ghost use Rattle.mlk_cli.specs.declared.words.Request.TheVariants as wanted;
 ghost use Rattle.mlk_app.specs.Ran.{style_in, IsErrorLine, IsRefusalLine, PrintsSurvey, TellsRefusal, TellsFault, TellsBaseline, TellsUnread, TellsUnfound, TellsPage, Answers, AnswersFound, AnswersLine, AnswersWords, Ran};
-ghost use Rattle.mlk_app.specs.Files.{AreTexts, LosesPath};
+ghost use Rattle.mlk_app.specs.Files.{AreTexts, LosesPath, written_path};
 ghost use Rattle.mlk_app.specs.Printing.{IsReportAnswer};
 ghost use Rattle.mlk_cli.specs.CommandLine.{bytes_of};
 ghost use Rattle.mlk_forms.specs.Rendering.{IsNoticed};
@@ -13,6 +13,7 @@ ghost use Rattle.mlk_outcome.specs.Refusals.{IsOfOpenGate, IsNotShut};
 use crate::answer::{Answer, REFUSED, YES, print_answer, write_error, write_memory_error};
 use crate::baseline::known_faults;
 use crate::dialect::read_in;
+use crate::dialogue::{ask_for_events, begun_events, with_events, written_path};
 use crate::help::{Explaining, certificate_help, is_refusal_explained, refusal_help, why_unread};
 use crate::notice::notice_of;
 use crate::printed::{
@@ -30,9 +31,7 @@ use crate::suggestion::answer_suggestion;
 use crate::work::{Printed, print_sources, style_in};
 use mlk_baseline::BaselineFault;
 use mlk_cert::CertFault;
-use mlk_cli::{
-    Format, Invocation, ProgramRequest, Request, SurveyRequest, UsageError, read_request,
-};
+use mlk_cli::{Format, Invocation, ProgramRequest, Request, SurveyRequest, UsageError, read_request};
 use mlk_forms::{render_pages, render_survey};
 use mlk_outcome::{NoReport, convert};
 use mlk_pool::{CheckError, ReportText, Source};
@@ -208,9 +207,9 @@ fn unwritten_answer(alloc: Global, path: &str) -> Answer
     }
 }
 
-// Writes the known faults, if there are any to write.
-fn write_known<F: Files>(files: &F, path: &str, known: &Option<Vec<u8>>) -> io::Result<()> {
-    match known {
+// Writes the file at `path`, if there is a text for it.
+fn write_text<F: Files>(files: &F, path: &str, text: &Option<Vec<u8>>) -> io::Result<()> {
+    match text {
         Some(text) => files.write(path, text.as_slice()),
         None => Ok(()),
     }
@@ -228,7 +227,7 @@ fn report_answer<F: Files>(
     let Some(path) = program.new_baseline else {
         return Answer::Report(printed.text, printed.status);
     };
-    if write_known(files, path, &printed.new_baseline).is_err() {
+    if write_text(files, path, &printed.new_baseline).is_err() {
         return unwritten_answer(alloc, path);
     }
     Answer::Report(printed.text, printed.status)
@@ -257,6 +256,54 @@ fn answer_sources<R: Threads + Wait + Sync, F: Files, W: Watch>(
     }
 }
 
+// What is answered if the events that the file at `path` has already can't be read, for a reason of the kind `why`.
+fn lost_events_answer<F: Files>(
+    alloc: Global,
+    files: &F,
+    path: &str,
+    why: ErrorKind,
+    is_explained: bool,
+) -> Answer
+    ensures { TellsUnread path.now result }
+{
+    if why == ErrorKind::OutOfMemory {
+        return Answer::OutOfMemory;
+    }
+    unread_answer(alloc, files, path, is_explained)
+}
+
+// What is answered if a person is asked for the events, which are then written at `path`.
+#[tactic(auto, using(crate::proofs::Saying::unwritten_answers, crate::proofs::Sources::asked_texts))]
+fn answer_dialogue<'a, R: Threads + Wait + Sync, F: Files, W: Watch>(
+    runner: &Runner<'_, R, W>,
+    program: &ProgramRequest<'a>,
+    sources: Sources<'a>,
+    path: &str,
+    files: &F,
+    explaining: Explaining,
+) -> Answer
+    requires texts { AreTexts (F.holds files.now) program.now sources }
+    requires written { written_path program.now.asked ≡ path.now ∷ [] }
+    ensures { Answers (F.holds files.now) (F.unreadable files.now) (wanted.Program program.now) result }
+{
+    let alloc = runner.alloc;
+    let begun = match begun_events(alloc, files, path) {
+        Ok(begun) => begun,
+        Err(error) => {
+            let is_explained = is_refusal_explained(program, explaining);
+            return lost_events_answer(alloc, files, path, error.kind(), is_explained);
+        }
+    };
+    let Ok(entered) = ask_for_events(runner, files, program, &sources, begun.as_slice()) else {
+        return Answer::OutOfMemory;
+    };
+    if write_text(files, path, &entered).is_err() {
+        return unwritten_answer(alloc, path);
+    }
+    let sources = with_events(sources, entered.unwrap_or(begun));
+    answer_sources(runner, program, &sources, files, explaining)
+}
+
 // What is answered to a request for a program, from the texts of its files.
 fn answer_program<R: Threads + Wait + Sync, F: Files, W: Watch>(
     runner: &Runner<'_, R, W>,
@@ -268,7 +315,10 @@ fn answer_program<R: Threads + Wait + Sync, F: Files, W: Watch>(
 {
     let alloc = runner.alloc;
     match read_files(alloc, files, program) {
-        Ok(sources) => answer_sources(runner, program, &sources, files, explaining),
+        Ok(sources) => match written_path(program) {
+            Some(path) => answer_dialogue(runner, program, sources, path, files, explaining),
+            None => answer_sources(runner, program, &sources, files, explaining),
+        },
         Err(FileError::OutOfMemory) => Answer::OutOfMemory,
         Err(FileError::Unread(path)) => {
             let is_explained = is_refusal_explained(program, explaining);

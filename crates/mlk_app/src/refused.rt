@@ -75,7 +75,7 @@ fn routine_file<'a>(
 fn work_file<'a>(program: &ProgramRequest<'a>, sources: &'a Sources<'a>) -> Option<GivenFile<'a>> {
     let path = match &program.asked {
         Asked::Check { certificate, .. } => *certificate,
-        Asked::Replay(path) => *path,
+        Asked::Replay { events, .. } => *events,
         Asked::Make { .. } | Asked::Verify { .. } => return None,
     };
     let text = match &sources.work {

@@ -2,7 +2,7 @@
 
 ghost use Rattle.std.specs.Prelude.{◌≡◌, ◌≢◌, List, ℕ, Option, IfOk, IfErr};
 ghost use Rattle.std.specs.IoError.{error_kind};
-ghost use Rattle.mlk_app.specs.Files.{IsFileName, IsNameStem, IsPathStem, IsSource, AreSources, IsWork, IsGivenText, AreTexts, cert_format, given_path, work_path, program_paths, texts_below, Loses, LosesFirst};
+ghost use Rattle.mlk_app.specs.Files.{IsFileName, IsNameStem, IsPathStem, IsSource, AreSources, IsWork, IsGivenText, AreTexts, cert_format, given_path, work_path, program_paths, texts_below, AreEvents, events_path, Loses, LosesFirst};
 ghost use Rattle.mlk_app.specs.Dialects.{as_read, rests_of};
 ghost use Rattle.mlk_cli.specs.CommandLine.{bytes_of};
 
@@ -41,6 +41,10 @@ pub trait Files {
 
     /// Writes a file at a path. Nothing says what it holds then.
     fn write(&self, path: &str, text: &[u8]) -> io::Result<()>;
+
+    /// Shows a text to a person, and returns the line that is entered, without its end; `None` at the end of the input. Nothing
+    /// says which line it is.
+    fn ask(&self, alloc: Global, shown: &[u8]) -> io::Result<Option<Vec<u8>>>;
 }
 
 /// What is to be done with a program, with the texts that it takes.
@@ -200,6 +204,24 @@ pub(crate) fn cert_format(format: Format) -> CertFormat
     }
 }
 
+// The events at a path; none yet if a person is asked for them.
+#[tactic(auto, using(crate::proofs::Sources::events_lost))]
+fn read_events<'a, F: Files>(
+    alloc: Global,
+    files: &F,
+    path: &'a str,
+    is_interactive: bool,
+) -> Result<Vec<u8>, FileError<'a>>
+    ensures ok { IfOk result (λ text. AreEvents is_interactive (F.holds files.now path.now text.items)) }
+    ensures lost { IfErr result (LosesFirst (F.holds files.now) (F.unreadable files.now) (events_path is_interactive path.now)) }
+{
+    if is_interactive {
+        return Ok(Vec::new(alloc));
+    }
+    let text = read_file(alloc, files, path)?;
+    Ok(text)
+}
+
 // The text of the certificate, or of the events, where one is named, and the number of workers or the format.
 fn read_work<'a, F: Files>(
     alloc: Global,
@@ -222,7 +244,12 @@ fn read_work<'a, F: Files>(
             format: cert_format(*format),
         }),
         Asked::Verify { workers, .. } => Ok(Work::Verify { workers: *workers }),
-        Asked::Replay(path) => Ok(Work::Replay(read_file(alloc, files, *path)?)),
+        Asked::Replay { events, style } => Ok(Work::Replay(read_events(
+            alloc,
+            files,
+            *events,
+            style.is_interactive,
+        )?)),
     }
 }
 

@@ -5,9 +5,9 @@ ghost use Rattle.mlk_syntax.specs.Views.{routine_of};
 ghost use Rattle.mlk_soundness_walk.specs.Forms.{AreFormed};
 ghost use Rattle.mlk_pool.specs.Headline.{RefusesReport, RefusesByText, RefusesTrees};
 ghost use Rattle.mlk_outcome.specs.Making.{IsMade, IsUnmade};
-ghost use Rattle.mlk_outcome.specs.Replaying.{IsReplayed, IsUnreplayed};
+ghost use Rattle.mlk_outcome.specs.Replaying.{IsReplayed, IsUnreplayed, has_notes};
 ghost use Rattle.mlk_outcome.specs.declared.refusal.NoReport.TheVariants as refusal;
-ghost use Rattle.mlk_app.specs.Ran.{style_in, status_in, IsPrintedBeside, IsReportPrinted, IsReportOfBlocks, IsReportByText, IsReportOfMade, IsPrinted, RefusesMade, IsRefusedFor};
+ghost use Rattle.mlk_app.specs.Ran.{style_in, text_style, status_in, IsPrintedBeside, IsReportPrinted, IsReportOfBlocks, IsReportByText, IsReportOfMade, IsPrinted, RefusesMade, IsRefusedFor};
 ghost use Rattle.mlk_app.specs.Printing.{asked_of, IsPrintedOfTrees, IsPrintedOfTexts, IsRefusedSources};
 
 use crate::answer::{NO, YES};
@@ -20,10 +20,13 @@ use mlk_cli::{Asked, Output, ProgramRequest, ReportStyle};
 use mlk_coverage::{Coverage, coverage_of};
 use mlk_explain::{Grounds, free_reads};
 use mlk_forms::{Explanations, render_report};
-use mlk_outcome::{NoReport, certificate_for, certificate_text, jobs_text, report_by_certificate};
+use mlk_outcome::{
+    NoReport, Showing, certificate_for, certificate_text, jobs_text, report_by_certificate,
+};
 use mlk_output::ReportSources;
 use mlk_pool::{ReportText, read_routines};
 use mlk_program::{Program, link};
+use mlk_replay_text::ShownRoutine;
 use mlk_rules::Rules;
 use mlk_rules_file::read_rules;
 use mlk_syntax::Routine;
@@ -42,19 +45,27 @@ pub(crate) struct Printed {
     pub(crate) new_baseline: Option<Vec<u8>>,
 }
 
+// Text alone, explained or not.
+fn text_style(is_explained: bool) -> ReportStyle
+    ensures { result ≡ text_style is_explained }
+{
+    ReportStyle {
+        output: Output::Text,
+        is_strict: false,
+        is_explained,
+        is_quiet: false,
+        exits_zero: false,
+    }
+}
+
 /// The style of the report that is asked for.
 pub(crate) fn style_in(asked: &Asked<'_>) -> ReportStyle
     ensures { result ≡ style_in asked.now }
 {
     match asked {
         Asked::Check { style, .. } | Asked::Verify { style, .. } => *style,
-        Asked::Make { .. } | Asked::Replay(_) => ReportStyle {
-            output: Output::Text,
-            is_strict: false,
-            is_explained: false,
-            is_quiet: false,
-            exits_zero: false,
-        },
+        Asked::Make { .. } => text_style(false),
+        Asked::Replay { style, .. } => text_style(style.is_explained),
     }
 }
 
@@ -261,14 +272,48 @@ fn print_certificate<W: Watch>(
     })
 }
 
-// Prints what is shown of the jobs of a program after `events`.
+/// The routines, as their lines are shown.
+pub(crate) fn shown_routines<'t>(
+    alloc: Global,
+    request: &'t ProgramRequest<'t>,
+    sources: &'t Sources<'t>,
+) -> Result<Vec<ShownRoutine<'t>>, AllocError> {
+    let mut texts = Vec::new(alloc);
+    let texts_read = sources.routines.iter().zip(sources.as_read().iter());
+    for ((source, read), path) in texts_read.zip(request.routines.iter()) {
+        texts.push(ShownRoutine {
+            path: *path,
+            text: source.text.as_slice(),
+            plain: read.text.as_slice(),
+        })?;
+    }
+    Ok(texts)
+}
+
+// How jobs are shown, with these texts of the routines.
+fn showing_of<'t>(with_notes: bool, texts: &'t [ShownRoutine<'t>]) -> Showing<'t>
+    ensures { has_notes result ≡ with_notes }
+{
+    if with_notes {
+        Showing::Explained(texts)
+    } else {
+        Showing::Plain
+    }
+}
+
+// Prints what is shown of the jobs of a program after `events`, with notes on where they are if that is asked for.
 fn print_jobs(alloc: Global, subject: &Subject<'_>, events: &[u8]) -> Result<Printed, NoReport>
-    ensures ok { IfOk result (λ p. IsReplayed (map routine_of subject.now.program.now) subject.now.rules.now events.now p.text × (p.status ≡ 0)) }
+    ensures ok { IfOk result (λ p. IsReplayed (style_in subject.now.request.now.asked).is_explained (map routine_of subject.now.program.now) subject.now.rules.now events.now p.text × (p.status ≡ 0)) }
     ensures refused { IfErr result (IsUnreplayed (map routine_of subject.now.program.now) subject.now.rules.now events.now) }
 {
-    let text = jobs_text(alloc, subject.program, subject.rules, events)?;
+    let texts = shown_routines(alloc, subject.request, subject.sources)?;
+    let showing = showing_of(
+        style_in(&subject.request.asked).is_explained,
+        texts.as_slice(),
+    );
+    let text = jobs_text(alloc, subject.program, subject.rules, events, showing)?;
     Ok(Printed {
-        text: ReportText::of(text.into_bytes()),
+        text: ReportText::of(text),
         status: YES,
         new_baseline: None,
     })

@@ -15,6 +15,7 @@ use Rattle.mlk_dialect.specs.declared.dialect.Dialect.{Dialect}
 use Rattle.mlk_cli.specs.declared.words.SurveyOutput.{SurveyOutput}
 use Rattle.mlk_cli.specs.declared.words.SurveyOutput.TheVariants as surveyed
 use Rattle.mlk_cli.specs.declared.words.ReportStyle.{ReportStyle}
+use Rattle.mlk_cli.specs.declared.words.ReplayStyle.{ReplayStyle}
 use Rattle.mlk_cli.specs.declared.words.SurveyRequest.{SurveyRequest}
 use Rattle.mlk_cli.specs.declared.words.SuggestRequest.{SuggestRequest}
 use Rattle.mlk_cli.specs.declared.words.WantedStubs.{WantedStubs}
@@ -23,7 +24,7 @@ use Rattle.mlk_cli.specs.declared.words.StubsRequest.{StubsRequest}
 use Rattle.mlk_cli.specs.declared.words.Request.{Request}
 use Rattle.mlk_cli.specs.declared.words.Request.TheVariants as request
 use Rattle.mlk_cli.specs.declared.words.ProgramRequest.{ProgramRequest}
-use Rattle.mlk_cli.specs.CommandLine.{IsAsked, IsNumber, IsNumberOf, IsFormat, IsWalk, IsOutput, output_word, NamesOutput, GivesOutput, NamesDialect, GivesDialect, IsFlag, GivesFlag, IsExplained, IsQuiet, goes_together, IsStyle, IsSurveyOutput, IsSurvey, IsSuggestion, IsWanted, IsStubs, IsConversion, IsProgramGiven, IsGiven, GivesNumber}
+use Rattle.mlk_cli.specs.CommandLine.{IsAsked, IsNumber, IsNumberOf, IsFormat, IsWalk, IsOutput, output_word, NamesOutput, GivesOutput, NamesDialect, GivesDialect, IsFlag, GivesFlag, IsExplained, IsQuiet, goes_together, IsStyle, IsSurveyOutput, IsReplay, IsSurvey, IsSuggestion, IsWanted, IsStubs, IsConversion, IsProgramGiven, IsGiven, GivesNumber}
 
 -- a number of workers, after a plus and zeros
 plus_and_zeros : IsNumber (codes "+004") 4
@@ -184,43 +185,43 @@ no-survey-output rows none surveyed.Json h = none output.Json h
 
 -- A command of another name asks for nothing, nor does a check without the path of a certificate or a number of workers,
 -- a certificate that is made without a format, a check by it without a number of workers, or a replay without the path of
--- events.
+-- events or without its style.
 pub asks-nothing : (name : Text) (rows : List Row) → (name ≡ codes "make" → ⊥) → (name ≡ codes "verify" → ⊥) → (name ≡ codes "replay" → ⊥) → None ≡ first_of (codes "CERT") rows → (a : Asked) → IsAsked name rows a → ⊥
 asks-nothing name rows no-make no-verify no-replay none (asked.Check path workers style) h = let bad = none ∙ h.1 in cc bad
 asks-nothing name rows no-make no-verify no-replay none (asked.Make format) h = no-make h.0
 asks-nothing name rows no-make no-verify no-replay none (asked.Verify workers style) h = no-verify h.0
-asks-nothing name rows no-make no-verify no-replay none (asked.Replay path) h = no-replay h.0
+asks-nothing name rows no-make no-verify no-replay none (asked.Replay events style) h = no-replay h.0
 
 pub checks-nothing : (name : Text) (rows : List Row) → (name ≡ codes "make" → ⊥) → (name ≡ codes "verify" → ⊥) → (name ≡ codes "replay" → ⊥) → ((workers : ℕ) (style : ReportStyle) → IsWalk rows workers style → ⊥) → (a : Asked) → IsAsked name rows a → ⊥
 checks-nothing name rows no-make no-verify no-replay none (asked.Check path workers style) h = none workers style h.2
 checks-nothing name rows no-make no-verify no-replay none (asked.Make format) h = no-make h.0
 checks-nothing name rows no-make no-verify no-replay none (asked.Verify workers style) h = no-verify h.0
-checks-nothing name rows no-make no-verify no-replay none (asked.Replay path) h = no-replay h.0
+checks-nothing name rows no-make no-verify no-replay none (asked.Replay events style) h = no-replay h.0
 
 pub makes-nothing : (name : Text) (rows : List Row) → name ≡ codes "make" → ((format : Format) → IsFormat rows format → ⊥) → (a : Asked) → IsAsked name rows a → ⊥
 makes-nothing name rows is none (asked.Check path workers style) h = let bad = sym is ∙ h.0 in cc bad
 makes-nothing name rows is none (asked.Make format) h = none format h.1
 makes-nothing name rows is none (asked.Verify workers style) h = let bad = sym is ∙ h.0 in cc bad
-makes-nothing name rows is none (asked.Replay path) h = let bad = sym is ∙ h.0 in cc bad
+makes-nothing name rows is none (asked.Replay events style) h = let bad = sym is ∙ h.0 in cc bad
 
 pub verifies-nothing : (name : Text) (rows : List Row) → name ≡ codes "verify" → ((workers : ℕ) (style : ReportStyle) → IsWalk rows workers style → ⊥) → (a : Asked) → IsAsked name rows a → ⊥
 verifies-nothing name rows is none (asked.Check path workers style) h = let bad = sym is ∙ h.0 in cc bad
 verifies-nothing name rows is none (asked.Make format) h = let bad = sym is ∙ h.0 in cc bad
 verifies-nothing name rows is none (asked.Verify workers style) h = none workers style h.1
-verifies-nothing name rows is none (asked.Replay path) h = verify-not-replay (sym is ∙ h.0)
+verifies-nothing name rows is none (asked.Replay events style) h = verify-not-replay (sym is ∙ h.0)
 
-pub replays-nothing : (name : Text) (rows : List Row) → (name ≡ codes "make" → ⊥) → (name ≡ codes "verify" → ⊥) → name ≡ codes "replay" → None ≡ first_of (codes "EVENTS") rows → (a : Asked) → IsAsked name rows a → ⊥
+pub replays-nothing : (name : Text) (rows : List Row) → (name ≡ codes "make" → ⊥) → (name ≡ codes "verify" → ⊥) → name ≡ codes "replay" → ((events : Bor (List ℕ)) (style : ReplayStyle) → IsReplay rows events style → ⊥) → (a : Asked) → IsAsked name rows a → ⊥
 replays-nothing name rows no-make no-verify is none (asked.Check path workers style) h = let bad = sym is ∙ h.0 in cc bad
 replays-nothing name rows no-make no-verify is none (asked.Make format) h = no-make h.0
 replays-nothing name rows no-make no-verify is none (asked.Verify workers style) h = no-verify h.0
-replays-nothing name rows no-make no-verify is none (asked.Replay path) h = let bad = none ∙ h.1 in cc bad
+replays-nothing name rows no-make no-verify is none (asked.Replay events style) h = none events style h.1
 
 -- `convert` asks for nothing of a program,
 no-program : (name : Text) (rows : List Row) → name ≡ codes "convert" → (a : Asked) → IsAsked name rows a → ⊥
 no-program name rows is (asked.Check path workers style) h = let bad = sym is ∙ h.0 in cc bad
 no-program name rows is (asked.Make format) h = let bad = sym is ∙ h.0 in cc bad
 no-program name rows is (asked.Verify workers style) h = let bad = sym is ∙ h.0 in cc bad
-no-program name rows is (asked.Replay path) h = let bad = sym is ∙ h.0 in cc bad
+no-program name rows is (asked.Replay events style) h = let bad = sym is ∙ h.0 in cc bad
 
 no-stubs-of-convert : (name : Text) (rows : List Row) → name ≡ codes "convert" → (w : WantedStubs) → IsWanted name rows w → ⊥
 no-stubs-of-convert name rows is wanted.Missing h = let bad = sym is ∙ h.0 in cc bad
@@ -241,7 +242,7 @@ no-survey-of-program : (name : Text) (rows : List Row) → name ≡ codes "surve
 no-survey-of-program name rows is (asked.Check path workers style) h = let bad = sym is ∙ h.0 in cc bad
 no-survey-of-program name rows is (asked.Make format) h = let bad = sym is ∙ h.0 in cc bad
 no-survey-of-program name rows is (asked.Verify workers style) h = survey-not-verify (sym is ∙ h.0)
-no-survey-of-program name rows is (asked.Replay path) h = survey-not-replay (sym is ∙ h.0)
+no-survey-of-program name rows is (asked.Replay events style) h = survey-not-replay (sym is ∙ h.0)
 
 pub surveys-nothing : (name : Text) (rows : List Row) → ((stubs : StubsRequest) → IsStubs name rows stubs → ⊥) → name ≡ codes "survey" → ((survey : SurveyRequest) → IsSurvey rows survey → ⊥)
     → (r : Request) → IsGiven name rows r → ⊥
@@ -256,7 +257,7 @@ no-suggestion-of-program : (name : Text) (rows : List Row) → name ≡ codes "s
 no-suggestion-of-program name rows is (asked.Check path workers style) h = let bad = sym is ∙ h.0 in cc bad
 no-suggestion-of-program name rows is (asked.Make format) h = let bad = sym is ∙ h.0 in cc bad
 no-suggestion-of-program name rows is (asked.Verify workers style) h = let bad = sym is ∙ h.0 in cc bad
-no-suggestion-of-program name rows is (asked.Replay path) h = let bad = sym is ∙ h.0 in cc bad
+no-suggestion-of-program name rows is (asked.Replay events style) h = let bad = sym is ∙ h.0 in cc bad
 
 pub suggests-nothing : (name : Text) (rows : List Row) → ((stubs : StubsRequest) → IsStubs name rows stubs → ⊥) → name ≡ codes "suggest" → ((suggestion : SuggestRequest) → IsSuggestion rows suggestion → ⊥)
     → (r : Request) → IsGiven name rows r → ⊥
@@ -283,7 +284,7 @@ no-explained-program : (name : Text) (rows : List Row) → name ≡ codes "expla
 no-explained-program name rows is (asked.Check path workers style) h = let bad = sym is ∙ h.0 in cc bad
 no-explained-program name rows is (asked.Make format) h = let bad = sym is ∙ h.0 in cc bad
 no-explained-program name rows is (asked.Verify workers style) h = let bad = sym is ∙ h.0 in cc bad
-no-explained-program name rows is (asked.Replay path) h = let bad = sym is ∙ h.0 in cc bad
+no-explained-program name rows is (asked.Replay events style) h = let bad = sym is ∙ h.0 in cc bad
 
 no-stubs-of-explain : (name : Text) (rows : List Row) → name ≡ codes "explain" → (w : WantedStubs) → IsWanted name rows w → ⊥
 no-stubs-of-explain name rows is wanted.Missing h = let bad = sym is ∙ h.0 in cc bad

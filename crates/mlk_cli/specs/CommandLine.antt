@@ -18,6 +18,7 @@ use Rattle.mlk_dialect.specs.declared.dialect.Dialect.TheVariants as dialect
 use Rattle.mlk_cli.specs.declared.words.SurveyOutput.{SurveyOutput}
 use Rattle.mlk_cli.specs.declared.words.SurveyOutput.TheVariants as surveyed
 use Rattle.mlk_cli.specs.declared.words.ReportStyle.{ReportStyle}
+use Rattle.mlk_cli.specs.declared.words.ReplayStyle.{ReplayStyle}
 use Rattle.mlk_cli.specs.declared.words.ProgramRequest.{ProgramRequest}
 use Rattle.mlk_cli.specs.declared.words.SurveyRequest.{SurveyRequest}
 use Rattle.mlk_cli.specs.declared.words.SuggestRequest.{SuggestRequest}
@@ -150,12 +151,29 @@ abbrev pub GivesSurveyOutput : List Row → Option SurveyOutput → Type 0
 GivesSurveyOutput rows None = (output : SurveyOutput) → IsSurveyOutput rows output → ⊥
 GivesSurveyOutput rows (Some output) = IsSurveyOutput rows output
 
+-- how events are replayed
+pub record IsReplayStyle (rows : List Row) (style : ReplayStyle) : Type 0 where
+  pub explained : IsFlag (codes "explain") rows style.is_explained
+  pub interactive : IsFlag (codes "interactive") rows style.is_interactive
+
+abbrev pub GivesReplayStyle : List Row → Option ReplayStyle → Type 0
+GivesReplayStyle rows None = (style : ReplayStyle) → IsReplayStyle rows style → ⊥
+GivesReplayStyle rows (Some style) = IsReplayStyle rows style
+
+-- the path of the events, and how they are replayed
+abbrev pub IsReplay : List Row → Bor (List ℕ) → ReplayStyle → Type 0
+IsReplay rows events style = (first_of (codes "EVENTS") rows ≡ Some events.now) × IsReplayStyle rows style
+
+abbrev pub GivesReplay : List Row → Option (Bor (List ℕ) × ReplayStyle) → Type 0
+GivesReplay rows None = (events : Bor (List ℕ)) (style : ReplayStyle) → IsReplay rows events style → ⊥
+GivesReplay rows (Some r) = IsReplay rows r.0 r.1
+
 -- what the command of a name is to do with a program, by what it was given
 abbrev pub IsAsked : Text → List Row → Asked → Type 0
 IsAsked name rows (asked.Check certificate workers style) = (name ≡ codes "check") × (first_of (codes "CERT") rows ≡ Some certificate.now) × IsWalk rows workers style
 IsAsked name rows (asked.Make format) = (name ≡ codes "make") × IsFormat rows format
 IsAsked name rows (asked.Verify workers style) = (name ≡ codes "verify") × IsWalk rows workers style
-IsAsked name rows (asked.Replay path) = (name ≡ codes "replay") × (first_of (codes "EVENTS") rows ≡ Some path.now)
+IsAsked name rows (asked.Replay events style) = (name ≡ codes "replay") × IsReplay rows events style
 
 abbrev pub GivesAsked : Text → List Row → Option Asked → Type 0
 GivesAsked name rows None = (a : Asked) → IsAsked name rows a → ⊥

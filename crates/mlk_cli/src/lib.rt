@@ -4,6 +4,7 @@
 mod words;
 
 pub use words::{
-    Asked, Format, Invocation, Output, ProgramRequest, ReportStyle, Request, StubsRequest,
-    SuggestRequest, SurveyOutput, SurveyRequest, UsageError, WantedStubs, read_request,
+    Asked, Format, Invocation, Output, ProgramRequest, ReplayStyle, ReportStyle, Request,
+    StubsRequest, SuggestRequest, SurveyOutput, SurveyRequest, UsageError, WantedStubs,
+    read_request,
 };

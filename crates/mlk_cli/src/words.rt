@@ -6,7 +6,7 @@ ghost use Rattle.clap.specs.Takes.{takes};
 ghost use Rattle.clap.specs.declared.error.kind.ErrorKind.TheVariants.{OutOfMemory};
 ghost use Rattle.clap.specs.Simple.{subcommand_rows_of};
 ghost use Rattle.mlk_cli_grammar.specs.Grammar.{mlock_app};
-ghost use Rattle.mlk_cli.specs.CommandLine.{GivesNumber, GivesFormat, NamesOutput, GivesOutput, NamesDialect, GivesDialect, GivesFlag, goes_together, GivesStyle, GivesWalk, GivesSurveyOutput, GivesAsked, GivesRoutines, GivesProgram, GivesSurvey, GivesSuggestion, IsWanted, GivesWanted, GivesStubs, GivesConversion, GivesPaths, GivesLine, texts_of, names_list, lists_routines, Asks, IsRequest, LacksRequest};
+ghost use Rattle.mlk_cli.specs.CommandLine.{GivesNumber, GivesFormat, NamesOutput, GivesOutput, NamesDialect, GivesDialect, GivesFlag, goes_together, GivesStyle, GivesWalk, GivesSurveyOutput, GivesReplayStyle, GivesReplay, GivesAsked, GivesRoutines, GivesProgram, GivesSurvey, GivesSuggestion, IsWanted, GivesWanted, GivesStubs, GivesConversion, GivesPaths, GivesLine, texts_of, names_list, lists_routines, Asks, IsRequest, LacksRequest};
 
 use clap::error::ErrorKind;
 use clap::{ArgMatches, Error};
@@ -59,6 +59,13 @@ pub struct ReportStyle {
     pub exits_zero: bool,
 }
 
+/// Whether it is explained where jobs are, and whether the events are asked for and then written.
+#[derive(Clone, Copy, Debug, PartialEq, Eq)]
+pub struct ReplayStyle {
+    pub is_explained: bool,
+    pub is_interactive: bool,
+}
+
 /// What is to be done with routines and rules.
 #[derive(Drop, Debug)]
 pub enum Asked<'a> {
@@ -78,7 +85,10 @@ pub enum Asked<'a> {
         style: ReportStyle,
     },
     /// the events at this path are replayed
-    Replay(&'a str),
+    Replay {
+        events: &'a str,
+        style: ReplayStyle,
+    },
 }
 
 /// What is asked for of a program, with the paths of its rules and its routines.
@@ -289,6 +299,34 @@ fn survey_output_of(matches: &ArgMatches<'_>) -> Option<SurveyOutput>
     }
 }
 
+fn replay_style_of(matches: &ArgMatches<'_>) -> Option<ReplayStyle>
+    ensures { GivesReplayStyle (rows_of (found_of matches.now)) result }
+{
+    let Some(is_explained) = flag_of(matches, "explain") else {
+        return None;
+    };
+    let Some(is_interactive) = flag_of(matches, "interactive") else {
+        return None;
+    };
+    Some(ReplayStyle {
+        is_explained,
+        is_interactive,
+    })
+}
+
+// The path of the events, and how they are replayed.
+fn replay_of<'a>(matches: &ArgMatches<'a>) -> Option<(&'a str, ReplayStyle)>
+    ensures { GivesReplay (rows_of (found_of matches.now)) result }
+{
+    let Some(events) = matches.get_str("EVENTS") else {
+        return None;
+    };
+    let Some(style) = replay_style_of(matches) else {
+        return None;
+    };
+    Some((events, style))
+}
+
 // What the command of this name is to do with a program.
 fn asked_by<'a>(name: &str, matches: &ArgMatches<'a>) -> Option<Asked<'a>>
     ensures { GivesAsked name.now (rows_of (found_of matches.now)) result }
@@ -306,10 +344,10 @@ fn asked_by<'a>(name: &str, matches: &ArgMatches<'a>) -> Option<Asked<'a>>
         return Some(Asked::Verify { workers, style });
     }
     if name == "replay" {
-        let Some(path) = matches.get_str("EVENTS") else {
+        let Some((events, style)) = replay_of(matches) else {
             return None;
         };
-        return Some(Asked::Replay(path));
+        return Some(Asked::Replay { events, style });
     }
     if name != "check" {
         return None;

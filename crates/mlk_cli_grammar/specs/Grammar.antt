@@ -68,9 +68,13 @@ make_app listed = with_rule (with_routines listed (with_rule (new_app (codes "ma
 abbrev pub verify_app : Bool → App
 verify_app listed = with_report (with_routines listed (with_rule (new_app (codes "verify")) (path_rule (codes "RULES"))))
 
--- `replay RULES EVENTS ROUTINE..`
+-- a command with the options for the way in which events are replayed
+abbrev pub with_replaying : App → App
+with_replaying app = with_rule (with_rule app (flag_rule (codes "explain"))) (flag_rule (codes "interactive"))
+
+-- `replay RULES EVENTS ROUTINE..`, and how the events are replayed
 abbrev pub replay_app : Bool → App
-replay_app listed = with_routines listed (with_rule (with_rule (new_app (codes "replay")) (path_rule (codes "RULES"))) (path_rule (codes "EVENTS")))
+replay_app listed = with_replaying (with_routines listed (with_rule (with_rule (new_app (codes "replay")) (path_rule (codes "RULES"))) (path_rule (codes "EVENTS"))))
 
 -- `convert CERT`, and the format that it is to have, the second where it is left out
 abbrev pub convert_app : App

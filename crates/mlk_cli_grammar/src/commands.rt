@@ -2,15 +2,16 @@
 
 ghost use Rattle.std.specs.Prelude.{◌≡◌, IfOk, true, false};
 ghost use Rattle.clap.specs.Words.{app_of, rule_of, with_rule, with_subcommand};
-ghost use Rattle.mlk_cli_grammar.specs.Grammar.{path_rule, routines_rule, workers_rule, format_rule, output_rule, flag_rule, file_rule, dialect_rule, with_routines, with_style, with_baseline, with_report, check_app, make_app, verify_app, replay_app, convert_app, survey_app, suggest_app, for_rule, stubs_app, explain_app, no_command_app, mlock_app};
+ghost use Rattle.mlk_cli_grammar.specs.Grammar.{path_rule, routines_rule, workers_rule, format_rule, output_rule, flag_rule, file_rule, dialect_rule, with_routines, with_style, with_baseline, with_report, with_replaying, check_app, make_app, verify_app, replay_app, convert_app, survey_app, suggest_app, for_rule, stubs_app, explain_app, no_command_app, mlock_app};
 
 use crate::help::{
     ABOUT, BASELINE_HELP, BESIDE_HELP, CERT_HELP, CHECK_HELP, CHECK_MORE, CODE_HELP, CONVERT_HELP,
     CONVERT_MORE, DIALECT_HELP, EVENTS_HELP, EXIT_ZERO_HELP, EXPLAIN_HELP, FILES_HELP, FOR_HELP,
-    FORMAT_HELP, INSTEAD_HELP, MAKE_HELP, MAKE_MORE, OUTPUT_HELP, PAGE_HELP, PAGE_MORE, QUIET_HELP,
-    REPLAY_HELP, REPLAY_MORE, ROUTINE_HELP, RULES_HELP, STRICT_HELP, STUBS_HELP, STUBS_MORE,
-    SUGGEST_HELP, SUGGEST_MORE, SURVEY_HELP, SURVEY_MORE, SURVEY_OUTPUT_HELP, VERIFY_HELP,
-    VERIFY_MORE, VERSION, WORKERS_HELP, WRITE_BASELINE_HELP,
+    FORMAT_HELP, INSTEAD_HELP, INTERACTIVE_HELP, MAKE_HELP, MAKE_MORE, OUTPUT_HELP, PAGE_HELP,
+    PAGE_MORE, QUIET_HELP, REPLAY_HELP, REPLAY_MORE, ROUTINE_HELP, RULES_HELP, STRICT_HELP,
+    STUBS_HELP, STUBS_MORE, SUGGEST_HELP, SUGGEST_MORE, SURVEY_HELP, SURVEY_MORE,
+    SURVEY_OUTPUT_HELP, VERIFY_HELP, VERIFY_MORE, VERSION, WHERE_HELP, WORKERS_HELP,
+    WRITE_BASELINE_HELP,
 };
 use clap::builder::ValueParser;
 use clap::{Arg, ArgAction, Command, value_parser};
@@ -191,6 +192,15 @@ fn verify_command<'a>(alloc: Global, is_listed: bool) -> Result<Command<'a>, All
     with_report(alloc, command)
 }
 
+// A command with the options for the way in which events are replayed.
+fn with_replaying<'a>(alloc: Global, command: Command<'a>) -> Result<Command<'a>, AllocError>
+    ensures { IfOk result (λ c. app_of c ≡ with_replaying (app_of command.entry)) }
+{
+    command
+        .arg(flag(alloc, "explain", WHERE_HELP))?
+        .arg(flag(alloc, "interactive", INTERACTIVE_HELP))
+}
+
 fn replay_command<'a>(alloc: Global, is_listed: bool) -> Result<Command<'a>, AllocError>
     ensures { IfOk result (λ c. app_of c ≡ replay_app is_listed) }
 {
@@ -199,7 +209,8 @@ fn replay_command<'a>(alloc: Global, is_listed: bool) -> Result<Command<'a>, All
         .long_about(REPLAY_MORE)
         .arg(path(alloc, "RULES", RULES_HELP))?
         .arg(path(alloc, "EVENTS", EVENTS_HELP))?;
-    with_routines(alloc, command, is_listed)
+    let command = with_routines(alloc, command, is_listed)?;
+    with_replaying(alloc, command)
 }
 
 fn convert_command<'a>(alloc: Global) -> Result<Command<'a>, AllocError>

@@ -90,7 +90,13 @@ Status: 0 yes or known, 1 no, or a hazard with --strict, 2 refused input or give
 be read or written.";
 
 pub(crate) const EVENTS_HELP: &str =
-    "The events, a line each: which job begins, takes steps or is aborted";
+    "The events, a line each: which job begins, takes steps or is aborted; with --interactive, the file that is written";
+
+pub(crate) const WHERE_HELP: &str =
+    "Shows below each job the line where it is, and what is asked for its next step; and below a refusal its line and what helps";
+
+pub(crate) const INTERACTIVE_HELP: &str =
+    "Shows the jobs and asks for the next event, until the input ends or `end` is entered; then writes EVENTS";
 
 pub(crate) const REPLAY_HELP: &str = "Replays events of jobs and shows where each job is";
 
@@ -100,6 +106,11 @@ The jobs run the routines from the declared entries, by the events of the file i
 0 \"A\" \"5\"`, `run 1`, `go 1` and `abort 1`. Prints a line for each job, with what it does next and what it holds, such as
 `job 1 claims ^LOG holds ^ACCT(\"A\")*1`; a line for each two jobs that are about to touch one node that one of them writes,
 and for each job that waits for another; and `ring yes` if jobs wait for each other in a ring, otherwise `ring no`.
+
+With --explain the line of M where a job is follows the job's line, with what its next step asks for.
+
+With --interactive the events are asked for one after another. The jobs are shown on the error stream before each, and an event
+is offered where there is one. In the end the events are written to EVENTS, and the jobs are printed.
 
 Example: mlock replay rules.toml incident.events BANK.m
 

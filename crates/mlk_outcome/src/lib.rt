@@ -14,4 +14,4 @@ pub use conversion::convert;
 pub use gate::OpenGate;
 pub use making::{certificate_for, certificate_text};
 pub use refusal::NoReport;
-pub use replaying::jobs_text;
+pub use replaying::{Showing, declared_entries, jobs_text};

@@ -2,17 +2,20 @@
 
 ghost use Rattle.std.specs.Prelude.{◌≡◌, IfOk, IfErr, map};
 ghost use Rattle.mlk_syntax.specs.Views.{routine_of};
-ghost use Rattle.mlk_outcome.specs.Replaying.{AreDeclared, ReportsEntry, IsUndeclared, IsShown, IsStopped, IsReplayed, IsUnreplayed};
+ghost use Rattle.mlk_machine.specs.Systems.{jobs_in, routines_in};
+ghost use Rattle.mlk_machine_view.specs.Printed.{system_text};
+ghost use Rattle.mlk_outcome.specs.Replaying.{AreDeclared, ReportsEntry, IsUndeclared, IsShown, IsShownAs};
+ghost use Rattle.mlk_outcome.specs.Replaying.{IsStopped, IsReplayed, IsUnreplayed, has_notes};
 
 use crate::refusal::NoReport;
-use mlk_cert_lexemes::WrittenText;
-use mlk_machine::replay_events;
+use mlk_machine::{System, replay_events};
 use mlk_machine_view::system_text;
 use mlk_pool::CheckError;
 use mlk_program::{EntryId, Program};
+use mlk_replay_text::{ShownRoutine, explained_text};
 use mlk_rules::{Rules, entries};
 use mlk_text::Value;
-use std::alloc::Global;
+use std::alloc::{AllocError, Global};
 
 // Reports `entry`, which is not in the routines.
 fn entry_missing(alloc: Global, entry: &[u8]) -> NoReport
@@ -24,8 +27,8 @@ fn entry_missing(alloc: Global, entry: &[u8]) -> NoReport
     }
 }
 
-// The entries that `texts` name; refuses the first text that names none.
-fn declared_entries(
+/// The entries that `texts` name; refuses the first text that names none (901).
+pub fn declared_entries(
     alloc: Global,
     program: &Program<'_>,
     texts: &[Value],
@@ -47,22 +50,51 @@ fn declared_entries(
     Ok(found)
 }
 
+/// How jobs are shown.
+#[derive(Clone, Copy, Drop)]
+pub enum Showing<'t> {
+    Plain,
+    /// with notes on where they are, in these texts of the routines
+    Explained(&'t [ShownRoutine<'t>]),
+}
+
+// The text that shows the jobs of `system`.
+fn shown_text(
+    alloc: Global,
+    system: &System<'_>,
+    showing: Showing<'_>,
+) -> Result<Vec<u8>, AllocError>
+    ensures { IfOk result (λ text. IsShownAs (has_notes showing.entry)
+        (system_text (routines_in system.now) (jobs_in system.now)) text.items) }
+{
+    match showing {
+        Showing::Plain => {
+            let text = system_text(alloc, system)?;
+            Ok(text.into_bytes())
+        }
+        Showing::Explained(texts) => explained_text(alloc, system, texts),
+    }
+}
+
 // The text that shows the jobs of `program` after all lines of `events`, begun at `entries`.
 fn text_after<'a>(
     alloc: Global,
     program: &'a Program<'a>,
     entries: &'a [EntryId],
     events: &[u8],
-) -> Result<WrittenText, NoReport>
-    ensures ok { IfOk result (IsShown program.now entries.now events.now) }
+    showing: Showing<'_>,
+) -> Result<Vec<u8>, NoReport>
+    ensures ok { IfOk result
+        (λ text. IsShown (has_notes showing.entry) program.now entries.now events.now text.items) }
     ensures refused { IfErr result (IsStopped program.now entries.now events.now) }
 {
     let system = replay_events(alloc, program, entries, events)?;
-    let text = system_text(alloc, &system)?;
+    let text = shown_text(alloc, &system, showing)?;
     Ok(text)
 }
 
-/// The text that shows the jobs of `program` after all lines of `events`. Jobs begin at the entries that its rules declare.
+/// The text that shows the jobs of `program` after all lines of `events`, as `showing` says. Jobs begin at the entries that its
+/// rules declare.
 ///
 /// Refuses the first declared entry that is not in `program` (901), and the first line of `events` that can't be followed (501 to
 /// 504).
@@ -71,10 +103,12 @@ pub fn jobs_text(
     program: &Program<'_>,
     rules: &Rules,
     events: &[u8],
-) -> Result<WrittenText, NoReport>
-    ensures ok { IfOk result (IsReplayed (map routine_of program.now) rules.now events.now) }
+    showing: Showing<'_>,
+) -> Result<Vec<u8>, NoReport>
+    ensures ok { IfOk result (λ text. IsReplayed (has_notes showing.entry)
+        (map routine_of program.now) rules.now events.now text.items) }
     ensures refused { IfErr result (IsUnreplayed (map routine_of program.now) rules.now events.now) }
 {
     let listed = declared_entries(alloc, program, entries(rules))?;
-    text_after(alloc, program, listed.as_slice(), events)
+    text_after(alloc, program, listed.as_slice(), events, showing)
 }

@@ -6,10 +6,10 @@ mod progress;
 
 use crate::folder::{is_folder, routines_below};
 use crate::progress::Progress;
-use mlk_app::{Explaining, Files, Runner, read_whole, run, wrong_words};
+use mlk_app::{Explaining, Files, Runner, read_line, read_whole, run, wrong_words};
 use std::alloc::Global;
 use std::fs::{self, File};
-use std::io::{self, IsTerminal};
+use std::io::{self, IsTerminal, Write};
 use std::process::ExitCode;
 
 // The files of the system.
@@ -33,6 +33,25 @@ impl Files for Disk<'_> {
     fn write(&self, path: &str, text: &[u8]) -> io::Result<()> {
         fs::write(self.rt, path, text)
     }
+
+    fn ask(&self, alloc: Global, shown: &[u8]) -> io::Result<Option<Vec<u8>>> {
+        self.rt.stderr().write_all(shown)?;
+        let line = read_line(alloc, &mut self.rt.stdin())?;
+        show_entered(self.rt, &line)?;
+        Ok(line)
+    }
+}
+
+// Shows the line that was entered, unless a terminal has shown it, or that the input has ended.
+fn show_entered(rt: &HostRuntime, line: &Option<Vec<u8>>) -> io::Result<()> {
+    let mut err = rt.stderr();
+    if let Some(line) = line {
+        if rt.stdin().is_terminal() {
+            return Ok(());
+        }
+        err.write_all(line.as_slice())?;
+    }
+    err.write_all(b"\n")
 }
 
 // The words of the command line; one that is no UTF-8 is refused as a whole.

@@ -1,14 +1,16 @@
 //! Runs command lines of `mlock` over files given beside them in one text, and prints what each answers.
 //!
 //! The text comes on standard input, as `mlk_case_text` reads it. For each command line its words are printed and what it shows,
-//! then what it prints, then what it writes to the error stream, then the files that it writes, each after `-- ` and its path, then
-//! `= ` and its status. A path that ends with a slash is that of a folder.
+//! then what it prints, then what it writes to the error stream, then what it shows to a person, with the lines of the file `stdin`,
+//! which that person enters, and the files that it writes, each after `-- ` and its path, then `= ` and its status. A path that ends
+//! with a slash is that of a folder.
 #![tactic(auto)]
 
+use bstr::ByteSlice;
 use mlk_app::{Explaining, Files, Runner, Unwatched, run};
 use mlk_case_text::{Case, cases_of};
 use std::alloc::{AllocError, Global};
-use std::cell::RefCell;
+use std::cell::{Cell, RefCell};
 use std::io::{self, Read, Write};
 use std::sync::Wait;
 use std::thread::Threads;
@@ -18,6 +20,19 @@ use std::thread::Threads;
 struct CaseFiles<'a> {
     case: &'a Case<'a>,
     written: RefCell<Vec<u8>>,
+    // the number of lines of the file `stdin` that were entered
+    entered: Cell<usize>,
+}
+
+// The line number `number`, from 0, of the file `stdin`; `None` after the last one.
+fn nth_line(alloc: Global, case: &Case<'_>, number: usize) -> io::Result<Option<Vec<u8>>> {
+    let Ok(text) = case.read(alloc, "stdin") else {
+        return Ok(None);
+    };
+    match text.as_slice().lines().nth(number) {
+        Some(line) => Ok(Some(Vec::from_slice(alloc, line)?)),
+        None => Ok(None),
+    }
 }
 
 // Adds the paths of the routines below a folder.
@@ -58,6 +73,18 @@ impl Files for CaseFiles<'_> {
         written.extend_from_slice(text)?;
         Ok(())
     }
+
+    fn ask(&self, alloc: Global, shown: &[u8]) -> io::Result<Option<Vec<u8>>> {
+        let mut written = self.written.try_borrow_mut()?;
+        written.extend_from_slice(shown)?;
+        let line = nth_line(alloc, self.case, self.entered.get())?;
+        self.entered.set(self.entered.get().saturating_add(1));
+        if let Some(line) = &line {
+            written.extend_from_slice(line.as_slice())?;
+        }
+        written.push(b'\n')?;
+        Ok(line)
+    }
 }
 
 // Adds what a command line answers.
@@ -73,6 +100,7 @@ fn push_answer<R: Threads + Wait + Sync>(
     let files = CaseFiles {
         case,
         written: RefCell::new(Vec::new(alloc)),
+        entered: Cell::new(0),
     };
     let runner = Runner {
         rt,

@@ -55,6 +55,10 @@ impl Files for Memory<'_> {
     fn write(&self, _path: &str, _text: &[u8]) -> io::Result<()> {
         Err(io::Error::from(io::ErrorKind::ReadOnlyFilesystem))
     }
+
+    fn ask(&self, _alloc: Global, _shown: &[u8]) -> io::Result<Option<Vec<u8>>> {
+        Ok(None)
+    }
 }
 
 pub(crate) fn texts(alloc: Global, words: &[&str]) -> Result<Vec<String>, AllocError> {

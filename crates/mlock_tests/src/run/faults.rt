@@ -51,6 +51,10 @@ impl Files for Broken<'_> {
     fn write(&self, _path: &str, _text: &[u8]) -> io::Result<()> {
         Err(io::Error::from(self.kind))
     }
+
+    fn ask(&self, _alloc: Global, _shown: &[u8]) -> io::Result<Option<Vec<u8>>> {
+        Err(io::Error::from(self.kind))
+    }
 }
 
 // Whether the words are refused with a text that tells why, and nothing is printed.

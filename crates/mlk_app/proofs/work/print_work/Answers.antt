@@ -5,7 +5,7 @@ use Rattle.mlk_pool.specs.Headline.{RefusesByText}
 use Rattle.mlk_outcome.specs.declared.refusal.NoReport.TheVariants as refusal
 use Rattle.mlk_outcome.specs.Replaying.{IsReplayed, IsUnreplayed}
 use Rattle.mlk_app.specs.Printing.{asked_of}
-use Rattle.mlk_app.specs.Ran.{IsReportByText}
+use Rattle.mlk_app.specs.Ran.{IsReportByText, style_in}
 use Rattle.mlk_app.proofs.work.print_work.Goals as goal
 
 pub returns-in-Check-clause-ok : goal.returns-in-Check-clause-ok
@@ -35,7 +35,7 @@ returns-in-Make-clause-refused g c = rw c.in-Make.is c.print_certificate.ensures
 pub returns-in-Replay-clause-ok : goal.returns-in-Replay-clause-ok
 returns-in-Replay-clause-ok g c =
     let subject = c.args.subject.now in
-    rw c.in-Replay.is (subst (λ (events : List ℕ). IfOk c.print_jobs.result (λ p. IsReplayed (map routine_of subject.program.now) subject.rules.now events p.text × (p.status ≡ 0)))
+    rw c.in-Replay.is (subst (λ (events : List ℕ). IfOk c.print_jobs.result (λ p. IsReplayed (style_in subject.request.now.asked).is_explained (map routine_of subject.program.now) subject.rules.now events p.text × (p.status ≡ 0)))
     c.as_slice-in-Replay.ensures.value c.print_jobs.ensures.ok)
 
 pub returns-in-Replay-clause-refused : goal.returns-in-Replay-clause-refused

@@ -1,6 +1,6 @@
 use Rattle.std.proofs.Common.{refl, inr, map, subst}
 use Rattle.mlk_syntax.specs.Views.{routine_of}
-use Rattle.mlk_outcome.specs.Replaying.{AreDeclared, IsShown, IsStopped}
+use Rattle.mlk_outcome.specs.Replaying.{AreDeclared, IsShown, IsStopped, has_notes}
 use Rattle.std.proofs.lemmas.Result.{IfOk-weaker, IfErr-weaker}
 use Rattle.mlk_outcome.proofs.replaying.jobs_text.Goals as goal
 
@@ -13,7 +13,7 @@ returns-clause-ok c =
       are = refl;
       entries = listed;
       declared = declared;
-      shown = subst (λ l. IsShown c.args.program.now l c.args.events.now text) c.as_slice.ensures.value h;
+      shown = subst (λ l. IsShown (has_notes c.args.showing) c.args.program.now l c.args.events.now text.items) c.as_slice.ensures.value h;
     }) c.text_after.ensures.ok
 
 pub returns-clause-refused : goal.returns-clause-refused
