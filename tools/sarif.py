@@ -9,8 +9,8 @@ the program doesn't write are not listed, and refused: whoever writes one adds i
 date-time, guid) and what the schema says in words alone.
 
 Besides the schema it compares, with what is computed here: columns in characters and the ends of tokens, URIs with paths, hashes
-of lines with those that GitHub's `upload-sarif` computes, statuses, and rules. What GitLab asks of a code quality report is in
-`quality_faults`.
+of lines with those that GitHub's `upload-sarif` computes, statuses, rules, and the places of some refusals. What GitLab asks of
+a code quality report is in `quality_faults`.
 """
 import json
 import os
@@ -39,7 +39,7 @@ SCHEMA = {
     'sarifLog': {'$schema': 'string', 'version!': ('in', ['2.1.0']), 'runs!': ['run']},
     'run': {'tool!': 'tool', 'invocations': ['invocation'], 'originalUriBaseIds': ('map', 'artifactLocation'), 'results': ['result'],
             'columnKind': ('in', ['utf16CodeUnits', 'unicodeCodePoints']), 'properties': 'propertyBag'},
-    'propertyBag': {'behind': ['object'], 'coverage': 'object'},
+    'propertyBag': {'behind': ['object'], 'coverage': 'object', 'faults': ['object']},
     'tool': {'driver!': 'toolComponent'},
     'toolComponent': {'name!': 'string', 'version': 'string', 'semanticVersion': 'string', 'rules': ['reportingDescriptor']},
     'reportingDescriptor': {'id!': 'string', 'name': 'string', 'shortDescription': 'multiformatMessageString',
@@ -179,10 +179,10 @@ def path_of(artifact):
 
 
 class Run:
-    """What the program writes for words, as text, as JSON and as SARIF."""
+    """What the program writes for words, as text, as JSON and as SARIF; and where it must refuse them, if that is known."""
 
-    def __init__(self, program, room, words):
-        self.words, self.room = words, room
+    def __init__(self, program, room, words, refused_at=None):
+        self.words, self.room, self.refused_at = words, room, refused_at
         self.text, self.json, self.sarif = (
             subprocess.run([program, *words, '--output', form], cwd=room, stdin=subprocess.DEVNULL, stdout=subprocess.PIPE,
                            stderr=subprocess.PIPE, timeout=60, check=False) for form in ('text', 'json', 'sarif'))
@@ -240,9 +240,14 @@ class Run:
             yield f'status {self.sarif.returncode}, and exitCode {ended["exitCode"]}'
         if ended['executionSuccessful'] != (self.report['answer'] != 'refused'):
             yield 'executionSuccessful'
-        for name, what in (('behind', 'the faults behind those of the report'), ('coverage', 'how much the report is about')):
-            if run.get('properties', {}).get(name) != self.report.get(name):
+        given_up = self.report.get('faults') if self.report['answer'] == 'refused' else None
+        for name, wanted_there, what in (('behind', self.report.get('behind'), 'the faults behind those of the report'),
+                                         ('coverage', self.report.get('coverage'), 'how much the report is about'),
+                                         ('faults', given_up, 'the faults of entries where the maker gave up')):
+            if run.get('properties', {}).get(name) != wanted_there:
                 yield what
+        if self.refused_at and self.report.get('refusal', {}).get('place') != dict(zip(('path', 'line', 'column'), self.refused_at)):
+            yield f'refused at {self.report.get("refusal", {}).get("place")} in place of {self.refused_at}'
         if len(results) != len(wanted):
             yield f'{len(results)} results in place of {len(wanted)}'
             return
@@ -264,8 +269,8 @@ def runs(program, room):
         path.write_bytes(text if isinstance(text, bytes) else text.encode())
         return name
 
-    def of(*words):
-        return Run(program, room, words)
+    def of(*words, refused_at=None):
+        return Run(program, room, words, refused_at)
 
     shutil.copytree(TOP / 'examples', f'{room}/examples')
     yield of('verify', 'examples/ward/rules.toml', 'examples/ward/ADMIT.m')
@@ -296,6 +301,28 @@ def runs(program, room):
     yield of('verify', write('key.toml', '[[lock]]\nname = "^A"\nrank = "1"\n'), 'ONE.m')
     yield of('verify', '--workers', '65', rules, 'ONE.m')
     yield of('check', rules, write('bad.cert', 'mlock-cert 1\nentry\n'), 'ONE.m')
+    yield from refused_routines(of, write)
+
+
+def refused_routines(of, write):
+    """Refusals of routines whose file is not known by its name alone: a `%` is a `_` of the file's name, or two have one name."""
+    rules = write('two.toml', RULES % 'TWO')
+    well, ill = 'TAKE QUIT\n', 'TAKE ;\n XECUTE X\n'
+    yield of('verify', rules, write('_UTIL.m', ill), refused_at=('_UTIL.m', 2, 2))
+    yield of('verify', rules, write('a/X.m', ill), write('b/X.m', well), refused_at=('a/X.m', 2, 2))
+    yield of('verify', rules, 'b/X.m', 'a/X.m', refused_at=('a/X.m', 2, 2))
+    yield of('verify', rules, 'a/X.m', write('c/X.m', ill), refused_at=('a/X.m', 2, 2))
+    yield of('verify', rules, write('a/9.m', well), write('b/9.m', well), refused_at=('a/9.m', 1, 1))
+    yield of('verify', rules, 'b/X.m', write('d/X.m', well), write('e/X.m', well), refused_at=('d/X.m', 1, 1))
+    yield of('verify', rules, write('a/_X.m', well), write('a/%X.m', well), refused_at=('a/%X.m', 1, 1))
+    yield of('verify', rules, 'b/X.m', write('_CALL.m', 'TAKE DO NONE\n'), refused_at=('_CALL.m', 1, 9))
+    yield of('verify', rules, 'b/X.m', write('_MORE.m', 'TAKE DO B(1) QUIT\nB QUIT\n'), refused_at=('_MORE.m', 1, 9))
+    names = [f'many/R{number:05}.m' for number in range(65536)]
+    for name in names:
+        write(name, '')
+    yield of('verify', rules, 'many', refused_at=(names[-1], 1, 1))
+    gives_up = write('_GROW.m', 'TAKE DO B LOCK  QUIT\nB IF $RANDOM(2) QUIT\n DO B LOCK +^ACCT(1) QUIT\n')
+    yield of('verify', write('grow.toml', RULES % '%GROW'), gives_up, refused_at=(gives_up, 3, 22))
 
 
 def quality_faults(report, found):

@@ -3,11 +3,11 @@
 
     sweeps.py PROGRAM
 
-For each of some command lines over examples/, with one worker and with four where that can be said, the calls of each kind
-are counted. Then the program is run once for each of them, and that one call is refused; or it and all later ones; or all
-memory of one thread from then on, while the others go on. Whatever was refused, the answer must be the usual one, or status 3,
-a line of `error memory` or `error file PATH` on standard error, with explanations below it only if they are asked for, and on
-standard output a beginning of the usual text. Where threads are refused it must be the usual one.
+For each of some command lines over examples/ and over small files of its own, with one worker and with four where that can
+be said, the calls of each kind are counted. Then the program is run once for each of them, and that one call is refused; or it
+and all later ones; or all memory of one thread from then on, while the others go on. Whatever was refused, the answer must be
+the usual one, or status 3, a line of `error memory` or `error file PATH` on standard error, with explanations below it only if
+they are asked for, and on standard output a beginning of the usual text. Where threads are refused it must be the usual one.
 The library that refuses (refuse.c) needs a C compiler on the PATH: cc, gcc or clang. Where there is none it fails.
 """
 import pathlib
@@ -20,6 +20,71 @@ from running import TOP, answer, tell, wrong_of
 
 WARD = ['examples/ward/rules.toml', 'examples/ward/ADMIT.m']
 TRANSFER = ['examples/transfer/rules.toml', 'examples/transfer/BANK.m']
+
+# The files of its own.
+RULES = '''lock = [{name = "^ACCT", rank = 10}, {name = "^LOG", rank = 20}]
+cover = [{global = "^ACCT(id,...)", lock = "^ACCT(id)"}, {global = "^LOG(...)", lock = "^LOG"}]
+private = [{global = "^TMP($J,...)"}]
+readonly = [{global = "^CONF(...)"}]
+'''
+DEPOSIT = 'DEP(ID,AMT) LOCK +^ACCT(ID) SET ^ACCT(ID,"bal")=$GET(^ACCT(ID,"bal"))+AMT LOCK -^ACCT(ID) QUIT\n'
+WRAPPER = '''USE(ID) DO GRAB(ID) SET ^ACCT(ID)=1 LOCK -^ACCT(ID) QUIT
+GRAB(K) LOCK +^ACCT(K) QUIT
+'''
+CALLER = '''entry USE^WRAP
+need -
+low 10
+drops 0
+mods -
+exit T=* H=- K=ID
+at 1.0 T=* H=- O=1:ID K=ID S=-
+'''
+CALLEE = '''entry GRAB^WRAP
+need -
+low 10
+drops 0
+mods -
+exit T=* H=^ACCT(K) K=K
+at 2.0 T=* H=- O=1:K K=K S=-
+'''
+EVENTS = '''begin 1 DEP^BANK 0 "A" "5"
+begin 2 DEP^BANK 0 "A" "6"
+begin 3 DEP^BANK 0 "B" "7"
+run 1
+go 1
+run 2
+run 3
+go 3
+run 3
+go 3 "10"
+run 3
+abort 1
+go 2
+run 2
+'''
+
+
+def declaring(*labels):
+    """The rules, with these entries."""
+    return RULES + ''.join(f'[[entry]]\nlabel = "{it}"\n' for it in labels)
+
+
+FILES = {
+    'bank.toml': declaring('DEP^BANK'),
+    'BANK.m': DEPOSIT,
+    'events': EVENTS,
+    'wrap.toml': declaring('USE^WRAP'),
+    'WRAP.m': WRAPPER,
+    'whole': f'mlock-cert 1\n{CALLER}{CALLEE}end\n',
+    'believed': f'mlock-cert 1\n{CALLER}{CALLEE}end\n'.replace('H=^ACCT(K) ', 'H=- '),
+    'uncertified': f'mlock-cert 1\n{CALLER}end\n',
+    'empty': '',
+    'head': 'mlock-cert 1\n',
+    'twelve.toml': declaring(*(f'E{n}^TWELVE' for n in range(1, 13))),
+    'TWELVE.m': ''.join(f'E{n} SET ^ACCT({n})=1 QUIT\n' if n < 6 else f'E{n} QUIT\n' for n in range(1, 13)),
+    'first/TWICE.m': 'A QUIT\n',
+    'second/TWICE.m': 'A QUIT\n',
+}
 # What is run, and whether it takes workers.
 COMMANDS = [
     (['verify', *WARD], True),
@@ -36,6 +101,18 @@ COMMANDS = [
     (['check', 'examples/ward/rules.toml', 'examples/ward/ward.cert', 'examples/ward/ADMIT.m'], True),
     (['check', 'examples/transfer/rules.toml', 'examples/transfer/bank.cert', 'examples/transfer/BANK.m'], True),
     (['replay', 'examples/night/rules.toml', 'examples/night/ring', 'examples/night/WARD.m'], False),
+    (['verify', 'bank.toml', 'BANK.m'], True),
+    (['make', 'bank.toml', 'BANK.m'], False),
+    (['replay', 'bank.toml', 'events', 'BANK.m'], False),
+    # a call that claims: by a certificate that is right, with an exit that it only believes, without the callee, and two that are refused
+    (['check', 'wrap.toml', 'whole', 'WRAP.m'], True),
+    (['check', 'wrap.toml', 'believed', 'WRAP.m'], True),
+    (['check', 'wrap.toml', 'uncertified', 'WRAP.m'], True),
+    (['check', 'wrap.toml', 'empty', 'WRAP.m'], True),
+    (['check', 'wrap.toml', 'head', 'WRAP.m'], True),
+    (['verify', 'twelve.toml', 'TWELVE.m'], True),
+    # which of two files is refused, as another program reads it
+    (['verify', '--output', 'json', 'bank.toml', 'first/TWICE.m', 'second/TWICE.m'], False),
 ]
 KINDS = ('memory', 'beside', 'thread', 'read', 'write')
 # Each run has calls of these kinds.
@@ -54,15 +131,23 @@ def command_lines():
             yield words
 
 
-class Sweep:
-    """The runs of one program with calls refused."""
+def lay(room):
+    """Lays the files into a folder, with examples/ below it."""
+    for name, text in FILES.items():
+        (room / name).parent.mkdir(parents=True, exist_ok=True)
+        (room / name).write_text(text)
+    (room / 'examples').symlink_to(TOP / 'examples')
 
-    def __init__(self, program, library, folder):
-        self.program, self.library, self.folder = program, library, folder
+
+class Sweep:
+    """The runs of one program in a folder with calls refused."""
+
+    def __init__(self, program, library, room, folder):
+        self.program, self.library, self.room, self.folder = program, library, room, folder
 
     def run(self, words, **settings):
         """Status, standard output and standard error of a run."""
-        return answer(self.program, words, LD_PRELOAD=str(self.library), **settings)
+        return answer(self.program, words, self.room, LD_PRELOAD=str(self.library), **settings)
 
     def calls(self, words, kind):
         """How many calls of a kind a run makes, at most."""
@@ -114,7 +199,8 @@ def main():
         folder = pathlib.Path(folder)
         library = folder / 'refuse.so'
         subprocess.run([compiler, '-O2', '-shared', '-fPIC', '-o', library, TOP / 'tools/refuse.c', '-ldl'], check=True)
-        count, wrong = Sweep(program, library, folder).all()
+        lay(folder / 'room')
+        count, wrong = Sweep(program, library, folder / 'room', folder).all()
     sys.exit(tell('sweeps', count, wrong))
 
 

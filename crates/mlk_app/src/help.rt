@@ -1,6 +1,6 @@
 // What explains a refusal to people.
 
-use crate::refused::{refusal_code, refused_file, refused_spot};
+use crate::refused::{Refused, refusal_code, refused_spot};
 use crate::source::{Files, Sources};
 use crate::stuck::push_faults;
 use crate::work::style_in;
@@ -21,7 +21,7 @@ use std::sync::Wait;
 use std::thread::Threads;
 
 /// How much is explained to whoever reads the error stream.
-#[derive(Clone, Copy, Debug, PartialEq, Eq)]
+#[derive(Clone, Copy, PartialEq, Eq)]
 pub enum Explaining {
     /// what the words ask for
     AsAsked,
@@ -75,18 +75,18 @@ fn explanation(
 /// explanations.
 pub(crate) fn refusal_help<R: Threads + Wait + Sync, W: Watch>(
     runner: &Runner<'_, R, W>,
-    refusal: &NoReport,
+    refused: &Refused<'_>,
     program: &ProgramRequest<'_>,
     sources: &Sources<'_>,
     explaining: Explaining,
 ) -> Result<Vec<u8>, AllocError> {
     let alloc = runner.alloc;
-    let code = match refusal_code(refusal) {
+    let code = match refusal_code(refused.why) {
         Some(code) if is_refusal_explained(program, explaining) => code,
         _ => return Ok(Vec::new(alloc)),
     };
-    let mut help = match refused_file(refusal, program, sources) {
-        Some(file) => explanation(alloc, code, refusal, sources.dialect(), &file)?,
+    let mut help = match refused.file(program, sources) {
+        Some(file) => explanation(alloc, code, refused.why, sources.dialect(), &file)?,
         None => code_help(alloc, code)?,
     };
     if code == Code::GaveUp && style_in(&program.asked).is_explained {

@@ -20,7 +20,7 @@ use crate::printed::{
     baseline_line, certificate_line, events_line, fault_line, file_line, missing_line,
     no_page_line, rules_line, stuck_line, workers_line,
 };
-use crate::refused::{refused_file, rule_file, spot_in};
+use crate::refused::{Refused, rule_file, spot_in};
 use crate::routines::{all_paths, find_routines, found_paths, list_of, with_routines};
 use crate::source::{
     FileError, Files, Sources, cert_format, read_file, read_files, read_given, read_sources,
@@ -75,7 +75,7 @@ fn refusal_line(alloc: Global, refusal: &NoReport) -> Result<ReportText, AllocEr
 // What is printed beside the line of a refusal that is at `spot`.
 fn notice_at<R: Threads + Wait + Sync, W: Watch>(
     runner: &Runner<'_, R, W>,
-    refusal: &NoReport,
+    refused: &Refused<'_>,
     program: &ProgramRequest<'_>,
     sources: &Sources<'_>,
     line: &ReportText,
@@ -83,9 +83,9 @@ fn notice_at<R: Threads + Wait + Sync, W: Watch>(
 ) -> Result<Option<ReportText>, AllocError>
     ensures { IfOk result (IsNoticed (style_in program.now.asked).output) }
 {
-    let refused = refused_file(refusal, program, sources);
-    let file = refused.unwrap_or(rule_file(program, sources));
-    match notice_of(refusal, program, line.as_bytes(), file, spot) {
+    let file = refused.file(program, sources);
+    let file = file.unwrap_or(rule_file(program, sources));
+    match notice_of(refused.why, program, line.as_bytes(), file, spot) {
         Some(notice) => render_refusal(runner, &notice, program, sources),
         None => Ok(None),
     }
@@ -94,16 +94,16 @@ fn notice_at<R: Threads + Wait + Sync, W: Watch>(
 // What is printed of a refusal beside its line.
 fn notice<R: Threads + Wait + Sync, W: Watch>(
     runner: &Runner<'_, R, W>,
-    refusal: &NoReport,
+    refused: &Refused<'_>,
     program: &ProgramRequest<'_>,
     sources: &Sources<'_>,
     line: &ReportText,
 ) -> Result<Option<ReportText>, AllocError>
     ensures { IfOk result (IsNoticed (style_in program.now.asked).output) }
 {
-    let refused = refused_file(refusal, program, sources);
-    match spot_in(runner.alloc, refusal, &refused) {
-        Ok(spot) => notice_at(runner, refusal, program, sources, line, spot),
+    let file = refused.file(program, sources);
+    match spot_in(runner.alloc, refused.why, &file) {
+        Ok(spot) => notice_at(runner, refused, program, sources, line, spot),
         Err(AllocError) => Err(AllocError),
     }
 }
@@ -122,10 +122,13 @@ fn refusal_answer<R: Threads + Wait + Sync, W: Watch>(
     let Ok(line) = refusal_line(alloc, refusal) else {
         return Answer::OutOfMemory;
     };
-    let Ok(beside) = notice(runner, refusal, program, sources, &line) else {
+    let Ok(refused) = Refused::of(alloc, refusal, sources.as_read()) else {
         return Answer::OutOfMemory;
     };
-    match refusal_help(runner, refusal, program, sources, explaining) {
+    let Ok(beside) = notice(runner, &refused, program, sources, &line) else {
+        return Answer::OutOfMemory;
+    };
+    match refusal_help(runner, &refused, program, sources, explaining) {
         Ok(help) => Answer::Refused(line, beside, help),
         Err(AllocError) => Answer::OutOfMemory,
     }

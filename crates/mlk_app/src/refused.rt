@@ -1,11 +1,13 @@
 // What is refused, and where.
 
 use crate::printed::events_code;
-use crate::source::{Sources, Work, stem_of};
+use crate::source::{Sources, Work};
+use crate::stuck::none_if_refused;
 use mlk_cli::{Asked, ProgramRequest};
 use mlk_outcome::NoReport;
-use mlk_pool::CheckError;
+use mlk_pool::{CheckError, Source};
 use mlk_refusal_text::{GivenFile, Spot, entry_place, rules_place};
+use mlk_routine::read_routine;
 use mlk_text::Code;
 use std::alloc::{AllocError, Global};
 
@@ -30,9 +32,8 @@ pub(crate) fn refusal_code(refusal: &NoReport) -> Option<Code> {
     }
 }
 
-// Whether the file at a path is that of the routine of this name, in which a leading `%` may be a `_` of the file's name.
-fn is_file_of(path: &str, name: &[u8]) -> bool {
-    let stem = stem_of(path).as_bytes();
+// Whether a file with this stem is that of the routine of this name, in which a leading `%` may be a `_` of the stem.
+fn is_stem_of(stem: &[u8], name: &[u8]) -> bool {
     if stem == name {
         return true;
     }
@@ -45,30 +46,44 @@ fn is_file_of(path: &str, name: &[u8]) -> bool {
     stem == name
 }
 
-// The number of the last of these paths that is that of the routine of this name: if there are two, the second is refused.
-fn last_file_of(paths: &[&str], name: &[u8]) -> Option<usize> {
-    let mut found = None;
-    for (number, path) in paths.iter().enumerate() {
-        if is_file_of(*path, name) {
-            found = Some(number);
-        }
+// Whether `source` is what is refused with this code, where all before it that have its routine's name are not: if the name is
+// refused, the second of that name; otherwise the first that can't be read.
+fn is_refused(
+    alloc: Global,
+    source: &Source<'_>,
+    code: Code,
+    is_second: bool,
+) -> Result<bool, AllocError> {
+    if code == Code::RoutineTwice {
+        return Ok(is_second);
     }
-    found
+    let read = read_routine(
+        alloc,
+        source.dialect,
+        source.stem,
+        source.text.as_slice(),
+    );
+    Ok(none_if_refused(read)?.is_none())
 }
 
-// The file of the routine with this name.
-fn routine_file<'a>(
-    program: &ProgramRequest<'a>,
-    sources: &'a Sources<'a>,
+// The number of the text that is refused with this code, of those of the routine of this name. If all can be read, there is one.
+fn refused_number(
+    alloc: Global,
+    sources: &[Source<'_>],
     name: &[u8],
-) -> Option<GivenFile<'a>> {
-    let number = last_file_of(program.routines.as_slice(), name)?;
-    let path = program.routines.as_slice().get(number).copied()?;
-    let source = sources.routines.as_slice().get(number)?;
-    Some(GivenFile {
-        path,
-        text: source.text.as_slice(),
-    })
+    code: Code,
+) -> Result<Option<usize>, AllocError> {
+    let mut found = None;
+    for (number, source) in sources.iter().enumerate() {
+        if is_stem_of(source.stem, name) {
+            let is_second = found.is_some();
+            found = Some(number);
+            if is_refused(alloc, source, code, is_second)? {
+                break;
+            }
+        }
+    }
+    Ok(found)
 }
 
 // The file of the certificate, if one was given, or of the events.
@@ -105,25 +120,68 @@ fn routine_in(entry: &[u8]) -> &[u8] {
     }
 }
 
-/// Finds the file that is refused; `None` if no file is, or it is not known which.
-pub(crate) fn refused_file<'a>(
-    refusal: &NoReport,
-    program: &ProgramRequest<'a>,
-    sources: &'a Sources<'a>,
-) -> Option<GivenFile<'a>> {
-    match refusal {
-        NoReport::Check(CheckError::Routine(fault)) => {
-            routine_file(program, sources, fault.place.routine.as_bytes())
+/// A refusal, and the number of the routine's text that is refused, if one is.
+#[derive(Drop)]
+pub(crate) struct Refused<'r> {
+    pub(crate) why: &'r NoReport,
+    number: Option<usize>,
+}
+
+impl<'r> Refused<'r> {
+    /// Finds which of these texts of routines is refused.
+    pub(crate) fn of(
+        alloc: Global,
+        why: &'r NoReport,
+        sources: &[Source<'_>],
+    ) -> Result<Refused<'r>, AllocError> {
+        let number = match why {
+            NoReport::Check(CheckError::Routine(fault)) => {
+                let name = fault.place.routine.as_bytes();
+                refused_number(alloc, sources, name, fault.code)?
+            }
+            NoReport::GaveUp(entry, _) => {
+                refused_number(alloc, sources, routine_in(entry.as_bytes()), Code::GaveUp)?
+            }
+            _ => None,
+        };
+        Ok(Refused { why, number })
+    }
+
+    // The file of the routine that is refused.
+    fn routine_file<'a>(
+        &self,
+        program: &ProgramRequest<'a>,
+        sources: &'a Sources<'a>,
+    ) -> Option<GivenFile<'a>> {
+        let number = self.number?;
+        let path = program.routines.as_slice().get(number).copied()?;
+        let source = sources.routines.as_slice().get(number)?;
+        Some(GivenFile {
+            path,
+            text: source.text.as_slice(),
+        })
+    }
+
+    /// The file that is refused; `None` if no file is.
+    pub(crate) fn file<'a>(
+        &self,
+        program: &ProgramRequest<'a>,
+        sources: &'a Sources<'a>,
+    ) -> Option<GivenFile<'a>> {
+        match self.why {
+            NoReport::Check(CheckError::Routine(_)) | NoReport::GaveUp(_, _) => {
+                self.routine_file(program, sources)
+            }
+            NoReport::Check(CheckError::Certificate(_)) | NoReport::Events(_) => {
+                work_file(program, sources)
+            }
+            NoReport::Check(CheckError::Rules(_) | CheckError::Entry(_)) => {
+                Some(rule_file(program, sources))
+            }
+            NoReport::Check(
+                CheckError::OutOfMemory | CheckError::Workers | CheckError::GateShut(_),
+            ) => None,
         }
-        NoReport::GaveUp(entry, _) => routine_file(program, sources, routine_in(entry.as_bytes())),
-        NoReport::Check(CheckError::Certificate(_)) | NoReport::Events(_) => {
-            work_file(program, sources)
-        }
-        NoReport::Check(CheckError::Rules(_) | CheckError::Entry(_)) => {
-            Some(rule_file(program, sources))
-        }
-        NoReport::Check(CheckError::OutOfMemory | CheckError::Workers | CheckError::GateShut(_)) =>
-            None,
     }
 }
 

@@ -25,14 +25,14 @@ For more information, try '--help'.
 ";
 
 /// The format of a certificate's text.
-#[derive(Clone, Copy, Debug, PartialEq, Eq)]
+#[derive(Clone, Copy, PartialEq, Eq)]
 pub enum Format {
     First,
     Second,
 }
 
 /// The form of a report.
-#[derive(Clone, Copy, Debug, PartialEq, Eq)]
+#[derive(Clone, Copy, PartialEq, Eq)]
 pub enum Output {
     Text,
     Json,
@@ -42,7 +42,7 @@ pub enum Output {
 }
 
 /// The form of a survey.
-#[derive(Clone, Copy, Debug, PartialEq, Eq)]
+#[derive(Clone, Copy, PartialEq, Eq)]
 pub enum SurveyOutput {
     Text,
     Json,
@@ -50,7 +50,7 @@ pub enum SurveyOutput {
 
 /// The form of a report, whether hazards are reported with it, whether it is explained, or only its answer is printed, which goes
 /// with text alone, and whether the status is 0 for each report.
-#[derive(Clone, Copy, Debug, PartialEq, Eq)]
+#[derive(Clone, Copy, PartialEq, Eq)]
 pub struct ReportStyle {
     pub output: Output,
     pub is_strict: bool,
@@ -67,7 +67,7 @@ pub struct ReplayStyle {
 }
 
 /// What is to be done with routines and rules.
-#[derive(Drop, Debug)]
+#[derive(Drop)]
 pub enum Asked<'a> {
     /// the check by the certificate at this path, and the number of workers
     Check {
@@ -92,7 +92,7 @@ pub enum Asked<'a> {
 }
 
 /// What is asked for of a program, with the paths of its rules and its routines.
-#[derive(Drop, Debug)]
+#[derive(Drop)]
 pub struct ProgramRequest<'a> {
     pub asked: Asked<'a>,
     pub rules: &'a str,
@@ -105,7 +105,7 @@ pub struct ProgramRequest<'a> {
 }
 
 /// The paths of the routines to survey, and the form of the survey.
-#[derive(Drop, Debug)]
+#[derive(Drop)]
 pub struct SurveyRequest<'a> {
     pub routines: Vec<&'a str>,
     pub dialect: Dialect,
@@ -113,7 +113,7 @@ pub struct SurveyRequest<'a> {
 }
 
 /// The paths of the routines for which rules are suggested, and of the rules that are there already.
-#[derive(Drop, Debug)]
+#[derive(Drop)]
 pub struct SuggestRequest<'a> {
     pub beside: Option<&'a str>,
     pub routines: Vec<&'a str>,
@@ -121,7 +121,7 @@ pub struct SuggestRequest<'a> {
 }
 
 /// Which routines get a stub.
-#[derive(Drop, Debug)]
+#[derive(Drop)]
 pub enum WantedStubs<'a> {
     /// those that are called and not given
     Missing,
@@ -132,7 +132,7 @@ pub enum WantedStubs<'a> {
 }
 
 /// Which routines get a stub, and the paths of the routines that call them.
-#[derive(Drop, Debug)]
+#[derive(Drop)]
 pub struct StubsRequest<'a> {
     pub wanted: WantedStubs<'a>,
     pub routines: Vec<&'a str>,
@@ -140,7 +140,7 @@ pub struct StubsRequest<'a> {
 }
 
 /// What `mlock` is asked for.
-#[derive(Drop, Debug)]
+#[derive(Drop)]
 pub enum Request<'a> {
     Program(ProgramRequest<'a>),
     /// the text in this format of the certificate at this path
@@ -156,7 +156,7 @@ pub enum Request<'a> {
 }
 
 /// What the words ask for, and the path of the file that lists more routines, if it is given.
-#[derive(Drop, Debug)]
+#[derive(Drop)]
 pub struct Invocation<'a> {
     pub request: Request<'a>,
     pub list: Option<&'a str>,

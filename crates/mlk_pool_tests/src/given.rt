@@ -16,7 +16,7 @@ use std::alloc::{AllocError, Global};
 use std::sync::Wait;
 use std::thread::Threads;
 
-/// Twelve entries, the first five of which write a global that no rule names.
+/// Twelve entries, the first five of which write a global without its lock.
 pub(crate) const TWELVE: &[u8] = b"E1 SET ^ACCT(1)=1 QUIT\n\
 E2 SET ^ACCT(2)=1 QUIT\n\
 E3 SET ^ACCT(3)=1 QUIT\n\
@@ -30,10 +30,14 @@ E10 QUIT\n\
 E11 QUIT\n\
 E12 QUIT\n";
 
-/// Each of the twelve is declared.
+/// Each of the twelve is declared, and `^ACCT` has locks.
 pub(crate) const TWELVE_RULES: &[u8] = b"entry = [{label = \"E1^R\"}, {label = \"E2^R\"}, \
 {label = \"E3^R\"}, {label = \"E4^R\"}, {label = \"E5^R\"}, {label = \"E6^R\"}, {label = \"E7^R\"}, {label = \"E8^R\"}, \
-{label = \"E9^R\"}, {label = \"E10^R\"}, {label = \"E11^R\"}, {label = \"E12^R\"}]\n";
+{label = \"E9^R\"}, {label = \"E10^R\"}, {label = \"E11^R\"}, {label = \"E12^R\"}]\n\
+lock = [{name = \"^ACCT\", rank = 10}, {name = \"^LOG\", rank = 20}]\n\
+cover = [{global = \"^ACCT(id,...)\", lock = \"^ACCT(id)\"}, {global = \"^LOG(...)\", lock = \"^LOG\"}]\n\
+private = [{global = \"^TMP($J,...)\"}]\n\
+readonly = [{global = \"^CONF(...)\"}]\n";
 
 const ONE_ENTRY: &[u8] = b"entry = [{label = \"E1^R\"}]\n";
 

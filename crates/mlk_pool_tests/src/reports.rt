@@ -14,11 +14,11 @@ use std::io::Cursor;
 use std::sync::Wait;
 use std::thread::Threads;
 
-const REPORT: &[u8] = b"E1^R 1:8 701 Unruled\n\
-E2^R 2:8 701 Unruled\n\
-E3^R 3:8 701 Unruled\n\
-E4^R 4:8 701 Unruled\n\
-E5^R 5:8 701 Unruled\n\
+const REPORT: &[u8] = b"E1^R 1:8 702 Uncovered\n\
+E2^R 2:8 702 Uncovered\n\
+E3^R 3:8 702 Uncovered\n\
+E4^R 4:8 702 Uncovered\n\
+E5^R 5:8 702 Uncovered\n\
 no 5\n";
 
 /// How a run ends.
