@@ -1,6 +1,7 @@
 -- How reports and refusals are printed. This project's own choice.
 use Rattle.std.specs.Borrow.{Bor}
-use Rattle.std.specs.Prelude.{ℕ, zero, suc, ◌≡◌, ◌+◌, ◌++◌, ◌==◌, ◌&&◌, length, List, [], ◌∷◌, Bool, true, false, Option, None, Some, codes, slice_get}
+use Rattle.std.specs.Prelude.{ℕ, zero, suc, ◌≡◌, ◌+◌, ◌++◌, ◌==◌, ◌&&◌, length, List, [], ◌∷◌, Bool, true, false, Option, None}
+use Rattle.std.specs.Prelude.{Some, codes, slice_get}
 use Rattle.mlk_baseline.specs.declared.baseline.Comparison.{Comparison}
 use Rattle.mlk_syntax.specs.Trees.{RoutineTree}
 use Rattle.mlk_walk.specs.declared.report.Row.{Row}
@@ -75,7 +76,9 @@ ArePlaced trees (r ∷ rows) old new = (place : List ℕ) × IsPlace r place × 
 
 -- `hazard ROUTINE line:column NAME`
 abbrev pub hazard_line : HazardAt → List ℕ
-hazard_line h = codes "hazard " ++ h.position.routine.now ++ space ++ place_text h.position.line h.position.column ++ space ++ hazard_word h.hazard ++ line_end
+hazard_line h =
+    codes "hazard " ++ h.position.routine.now ++ space ++ place_text h.position.line h.position.column ++ space
+    ++ hazard_word h.hazard ++ line_end
 
 abbrev pub hazard_lines : List HazardAt → List ℕ
 hazard_lines [] = []
@@ -119,11 +122,14 @@ IsJson rows known text = (document : List ℕ) × IsJsonReport (length rows) kno
 
 -- The text is one SARIF document on lines, with a result for each fault, each hazard and each gap.
 abbrev pub IsSarif : List Row → List HazardAt → List Gap → List ℕ → Type 0
-IsSarif rows hazards gaps text = (document : List ℕ) × IsSarifReport ((length rows + length hazards) + length gaps) document × (text ≡ document ++ line_end)
+IsSarif rows hazards gaps text =
+    (document : List ℕ) × IsSarifReport ((length rows + length hazards) + length gaps) document × (text ≡ document ++ line_end)
 
 -- the text of a report with the place of each fault before its line
 abbrev pub IsPlacedText : List RoutineTree → List Row → ℕ → List ℕ → List HazardAt → List Gap → List ℕ → Type 0
-IsPlacedText trees rows known below hazards gaps text = (faults : List ℕ) × ArePlaced trees rows [] faults × (text ≡ ((faults ++ answer_line known rows) ++ below) ++ warning_lines hazards gaps)
+IsPlacedText trees rows known below hazards gaps text =
+    (faults : List ℕ) × ArePlaced trees rows [] faults
+    × (text ≡ ((faults ++ answer_line known rows) ++ below) ++ warning_lines hazards gaps)
 
 -- The text of a report, with a line for each hazard and each gap, and with places or without; or it as JSON or SARIF.
 abbrev pub IsReportIn : Output → List RoutineTree → List Row → ℕ → List ℕ → List HazardAt → List Gap → List ℕ → Type 0
@@ -136,7 +142,8 @@ IsReportIn Lines trees rows known below hazards gaps text = IsPlacedText trees r
 -- may list known faults that do not occur, and faults behind these, and say how much was checked, and a line for each hazard and each
 -- gap.
 abbrev pub IsExplained : List Row → ℕ → List HazardAt → List Gap → List ℕ → Type 0
-IsExplained rows known hazards gaps text = (faults note : List ℕ) × (text ≡ ((faults ++ answer_line known rows) ++ note) ++ warning_lines hazards gaps)
+IsExplained rows known hazards gaps text =
+    (faults note : List ℕ) × (text ≡ ((faults ++ answer_line known rows) ++ note) ++ warning_lines hazards gaps)
 
 -- The text where faults are explained or not, and the one that is its answer alone.
 abbrev pub IsReportWith : Bool → Bool → Output → List RoutineTree → List Row → ℕ → List ℕ → List HazardAt → List Gap → List ℕ → Type 0
@@ -145,11 +152,13 @@ IsReportWith false true output trees rows known below hazards gaps text = IsExpl
 IsReportWith false false output trees rows known below hazards gaps text = IsReportIn output trees rows known below hazards gaps text
 
 abbrev pub IsReportAs : ReportStyle → List RoutineTree → List Row → ℕ → List ℕ → List HazardAt → List Gap → List ℕ → Type 0
-IsReportAs style trees rows known below hazards gaps text = IsReportWith style.is_quiet style.is_explained style.output trees rows known below hazards gaps text
+IsReportAs style trees rows known below hazards gaps text =
+    IsReportWith style.is_quiet style.is_explained style.output trees rows known below hazards gaps text
 
 -- A report as it is printed in a style, beside known faults if it is compared with these, and whether it passes: it does if each of its
 -- faults is known.
-pub record IsRendered (style : ReportStyle) (rests : Option ℕ) (comparison : Option (Bor Comparison)) (trees : List RoutineTree) (rows : List Row) (text : List ℕ) (passed : Bool) : Type 0 where
+pub record IsRendered (style : ReportStyle) (rests : Option ℕ) (comparison : Option (Bor Comparison)) (trees : List RoutineTree)
+    (rows : List Row) (text : List ℕ) (passed : Bool) : Type 0 where
   pub hazards : List HazardAt
   pub gaps : List Gap
   pub below : List ℕ

@@ -3,7 +3,8 @@
 ghost use Rattle.std.specs.Prelude.{◌≡◌, ◌++◌, IfOk, map};
 ghost use Rattle.mlk_syntax.specs.Views.{routine_of};
 ghost use Rattle.mlk_output.specs.Documents.{known_in};
-ghost use Rattle.mlk_forms.specs.Rendering.{IsExplained, IsJson, IsPlacedText, IsSarif, IsReportIn, IsReportAs, IsRendered, answer_line, answered_text, warning_lines, passes};
+ghost use Rattle.mlk_forms.specs.Rendering.{IsExplained, IsJson, IsPlacedText, IsSarif, IsReportIn, IsReportAs, IsRendered};
+ghost use Rattle.mlk_forms.specs.Rendering.{answer_line, answered_text, warning_lines, passes};
 
 use crate::answer::{lines_below, push_verdict};
 use crate::coverage::push_coverage;
@@ -53,7 +54,9 @@ fn plain_text(
     shown: &Shown<'_>,
     warnings: &Warnings<'_>,
 ) -> Result<ReportText, AllocError>
-    ensures { IfOk result (λ text. text ≡ answered_text (map routine_of program.now) shown.now.rows.now shown.now.known shown.now.below.now ++ warning_lines warnings.now.hazards.now warnings.now.gaps.now) }
+    ensures { IfOk result (λ text.
+        text ≡ answered_text (map routine_of program.now) shown.now.rows.now shown.now.known shown.now.below.now
+        ++ warning_lines warnings.now.hazards.now warnings.now.gaps.now) }
 {
     let mut text = ReportText::new(alloc);
     push_rows(alloc, &mut text, program, shown.rows)?;
@@ -71,7 +74,9 @@ fn placed_text(
     shown: &Shown<'_>,
     warnings: &Warnings<'_>,
 ) -> Result<ReportText, AllocError>
-    ensures { IfOk result (IsPlacedText (map routine_of program.now) shown.now.rows.now shown.now.known shown.now.below.now warnings.now.hazards.now warnings.now.gaps.now) }
+    ensures { IfOk result
+        (IsPlacedText (map routine_of program.now) shown.now.rows.now shown.now.known shown.now.below.now
+        warnings.now.hazards.now warnings.now.gaps.now) }
 {
     let mut text = ReportText::new(alloc);
     push_placed_rows(alloc, &mut text, program, inputs, shown.rows)?;
@@ -130,7 +135,9 @@ fn text_below(
     shown: &Shown<'_>,
     warnings: &Warnings<'_>,
 ) -> Result<ReportText, AllocError>
-    ensures { IfOk result (λ text. text ≡ ((faults.items ++ answer_line shown.now.known shown.now.rows.now) ++ notes.now) ++ warning_lines warnings.now.hazards.now warnings.now.gaps.now) }
+    ensures { IfOk result (λ text.
+        text ≡ ((faults.items ++ answer_line shown.now.known shown.now.rows.now) ++ notes.now)
+        ++ warning_lines warnings.now.hazards.now warnings.now.gaps.now) }
 {
     let mut text = ReportText::of(faults);
     push_verdict(&mut text, shown.rows, shown.known)?;
@@ -179,7 +186,9 @@ fn findings_of<'a>(
     warnings: &Warnings<'a>,
     style: ReportStyle,
 ) -> Result<Findings<'a>, AllocError>
-    ensures { IfOk result (λ findings. (findings.rows.now ≡ shown.now.rows.now) × (findings.comparison ≡ explanations.now.comparison) × (findings.hazards.now ≡ warnings.now.hazards.now) × (findings.gaps.now ≡ warnings.now.gaps.now)) }
+    ensures { IfOk result (λ findings. (findings.rows.now ≡ shown.now.rows.now)
+        × (findings.comparison ≡ explanations.now.comparison) × (findings.hazards.now ≡ warnings.now.hazards.now)
+        × (findings.gaps.now ≡ warnings.now.gaps.now)) }
 {
     let stories = stories_in(alloc, explanations, shown)?;
     Ok(Findings {
@@ -228,7 +237,10 @@ fn text_in(
     explanations: &Explanations<'_>,
 ) -> Result<ReportText, AllocError>
     requires { shown.now.known ≡ known_in explanations.now.comparison }
-    ensures { IfOk result (IsReportIn style.output (map routine_of explanations.now.grounds.now.program.now) shown.now.rows.now shown.now.known shown.now.below.now warnings.now.hazards.now warnings.now.gaps.now) }
+    ensures { IfOk result
+        (IsReportIn style.output
+        (map routine_of explanations.now.grounds.now.program.now) shown.now.rows.now shown.now.known shown.now.below.now
+        warnings.now.hazards.now warnings.now.gaps.now) }
 {
     let program = explanations.grounds.program;
     match style.output {
@@ -255,7 +267,9 @@ fn styled_text(
     explanations: &Explanations<'_>,
 ) -> Result<ReportText, AllocError>
     requires { shown.now.known ≡ known_in explanations.now.comparison }
-    ensures { IfOk result (IsReportAs style (map routine_of explanations.now.grounds.now.program.now) shown.now.rows.now shown.now.known shown.now.below.now warnings.now.hazards.now warnings.now.gaps.now) }
+    ensures { IfOk result
+        (IsReportAs style (map routine_of explanations.now.grounds.now.program.now) shown.now.rows.now shown.now.known shown.now.below.now
+        warnings.now.hazards.now warnings.now.gaps.now) }
 {
     if style.is_quiet {
         return quiet_text(alloc, shown);
@@ -281,7 +295,9 @@ pub fn render_report(
     style: ReportStyle,
     explanations: &Explanations<'_>,
 ) -> Result<PrintedReport, AllocError>
-    ensures { IfOk result (λ printed. IsRendered style explanations.now.rests explanations.now.comparison (map routine_of explanations.now.grounds.now.program.now) report.now printed.text printed.passes) }
+    ensures { IfOk result (λ printed.
+        IsRendered style explanations.now.rests explanations.now.comparison
+        (map routine_of explanations.now.grounds.now.program.now) report.now printed.text printed.passes) }
 {
     let hazards = reported_hazards(alloc, explanations.grounds, style.is_strict)?;
     let gaps = reported_gaps(alloc, explanations.coverage, style.is_strict)?;

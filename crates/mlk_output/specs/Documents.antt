@@ -19,9 +19,11 @@ answer_word faults known = if faults == 0 then (if known == 0 then codes "yes" e
 -- The text is an object with the answer as `answer`, and a list as `faults` with one item for each fault.
 abbrev pub IsJsonReport : ℕ → ℕ → List ℕ → Type 0
 IsJsonReport faults known text = (items : List Data) × (others : Members) × (length items ≡ faults)
-    × IsInOrder text (object (put (codes "faults") (array (items_of items)) (put (codes "answer") (string (answer_word faults known)) others)))
+    × IsInOrder text (object
+    (put (codes "faults") (array (items_of items)) (put (codes "answer") (string (answer_word faults known)) others)))
 
 -- The text is an object with one run in `runs`, which has a list as `results` with this number of items.
 abbrev pub IsSarifReport : ℕ → List ℕ → Type 0
 IsSarifReport results text = (items : List Data) × (run others : Members) × (length items ≡ results)
-    × IsInOrder text (object (put (codes "runs") (array (item (object (put (codes "results") (array (items_of items)) run)) no_items)) others))
+    × IsInOrder text (object
+    (put (codes "runs") (array (item (object (put (codes "results") (array (items_of items)) run)) no_items)) others))

@@ -148,8 +148,9 @@ fn other_members(
 }
 
 /// Writes `findings` as one JSON object, on lines with indents: `answer`, which is `yes`, `known` or `no`, `faults`, in their order,
-/// each with what is known of it, `known` and `gone`, if they are those of a report that is compared with known faults, `behind`, if there are faults behind these, `coverage`, `hazards`, if these are reported, with the gaps, and
-/// `free_reads`, if rules free reads.
+/// each with what is known of it, `known` and `gone`, if they are those of a report that is compared with known faults, `behind`,
+/// if there are faults behind these, `coverage`, `hazards`, if these are reported, with the gaps, and `free_reads`, if rules free
+/// reads.
 pub fn report_json(
     alloc: Global,
     inputs: &ReportSources<'_>,

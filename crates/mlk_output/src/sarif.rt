@@ -310,7 +310,9 @@ pub fn report_sarif(
     inputs: &ReportSources<'_>,
     findings: &Findings<'_>,
 ) -> Result<String, AllocError>
-    ensures { IfOk result (λ text. IsSarifReport ((length findings.now.rows.now + length findings.now.hazards.now) + length findings.now.gaps.now) (string_bytes text)) }
+    ensures { IfOk result (λ text.
+        IsSarifReport ((length findings.now.rows.now + length findings.now.hazards.now) + length findings.now.gaps.now)
+        (string_bytes text)) }
 {
     let mut lines = ProgramLines::new(alloc, inputs.texts);
     let mut results = fault_values(alloc, inputs, findings, &mut lines)?;
