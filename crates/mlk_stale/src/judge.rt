@@ -106,7 +106,11 @@ pub fn is_stale(rules: &Rules, write: &StaleWrite<'_>) -> bool
     ensures { IsTrue result ↔ IsStale rules.now write.now }
 {
     let source = &write.source.reference;
-    reads_written(source, &write.written)
-        && is_gap(rules, &write.gap, source, &write.written)
-        && is_covered(rules, write.held.as_slice(), &write.written)
+    if !reads_written(source, &write.written) {
+        return false;
+    }
+    if !is_gap(rules, &write.gap, source, &write.written) {
+        return false;
+    }
+    is_covered(rules, write.held.as_slice(), &write.written)
 }

@@ -133,14 +133,11 @@ impl<'a> Walk<'_, 'a> {
     ) -> Result<(), AllocError> {
         let last = path.stack.pop();
         let value = self.namer.known_or_made(last)?;
-        let written = path.take_reference(self.alloc, place, Access::Writes)?;
-        self.check_write(path, place, &written, value.reads.as_slice())?;
+        let mut reference = path.take_reference(self.alloc, place, Access::Writes)?;
+        self.check_write(path, place, &reference, value.reads.as_slice())?;
         if amount == Amount::Part {
-            let read = Reference {
-                access: Access::Reads,
-                ..written
-            };
-            let _ = self.make_read(path, place, read)?;
+            reference.access = Access::Reads;
+            let _ = self.make_read(path, place, reference)?;
         }
         path.put(value)
     }
