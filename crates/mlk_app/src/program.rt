@@ -31,7 +31,9 @@ use crate::suggestion::answer_suggestion;
 use crate::work::{Printed, print_sources, style_in};
 use mlk_baseline::BaselineFault;
 use mlk_cert::CertFault;
-use mlk_cli::{Format, Invocation, ProgramRequest, Request, SurveyRequest, UsageError, read_request};
+use mlk_cli::{
+    Format, Invocation, ProgramRequest, Request, SurveyRequest, UsageError, read_request,
+};
 use mlk_forms::{render_pages, render_survey};
 use mlk_outcome::{NoReport, convert};
 use mlk_pool::{CheckError, ReportText, Source};
