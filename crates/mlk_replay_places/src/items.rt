@@ -10,12 +10,12 @@ use mlk_text::lexeme::letters;
 use mlk_text::{Column, push_sparing};
 use std::alloc::{AllocError, Global};
 
-/// A part of a command, and the column where its text begins.
+/// A part of a command, and the index in the line where its text begins.
 #[derive(Clone, Copy, Drop)]
 pub(crate) enum Item<'a> {
-    Value(&'a Expr, Column),
+    Value(&'a Expr, usize),
     /// steps of the command itself, at most this number
-    Steps(usize, Column),
+    Steps(usize, usize),
 }
 
 /// The parts of a command in the order in which they are computed, and the line that has their text.
@@ -25,14 +25,9 @@ pub(crate) struct Items<'a, 't> {
     line: &'t [u8],
 }
 
-// The index of the byte at `column`.
-fn index_of(column: Column) -> usize {
+/// The index of the byte at `column`.
+pub(crate) fn index_of(column: Column) -> usize {
     (column.number() as usize).saturating_sub(1)
-}
-
-// The column of the byte at the index `at`.
-fn column_at(at: usize) -> Column {
-    Column::at(at.saturating_add(1))
 }
 
 // The index after `count` bytes from `at` on, and one more.
@@ -42,11 +37,11 @@ fn index_after(at: usize, count: usize) -> usize {
 
 impl<'a, 't> Items<'a, 't> {
     fn add_value(&mut self, value: &'a Expr, at: usize) -> Result<(), AllocError> {
-        push_sparing(&mut self.items, Item::Value(value, column_at(at)))
+        push_sparing(&mut self.items, Item::Value(value, at))
     }
 
-    fn add_steps(&mut self, count: usize, column: Column) -> Result<(), AllocError> {
-        push_sparing(&mut self.items, Item::Steps(count, column))
+    fn add_steps(&mut self, count: usize, at: usize) -> Result<(), AllocError> {
+        push_sparing(&mut self.items, Item::Steps(count, at))
     }
 
     // The index after the first `stop` from `at` on; `at` if there is none.
@@ -60,7 +55,7 @@ impl<'a, 't> Items<'a, 't> {
     // A value that is used by a step of its own.
     fn add_used(&mut self, value: &'a Expr, at: usize) -> Result<(), AllocError> {
         self.add_value(value, at)?;
-        self.add_steps(1, column_at(at))
+        self.add_steps(1, at)
     }
 
     // An optional value after the first `stop`.
@@ -139,7 +134,7 @@ impl HasItems for DoArgument {
                 let start = items.after(at, b':');
                 items.add_used(condition, start)
             }
-            None => items.add_steps(1, self.call.column),
+            None => items.add_steps(1, index_of(self.call.column)),
         }
     }
 }
@@ -147,7 +142,7 @@ impl HasItems for DoArgument {
 impl HasItems for Call {
     fn add_to<'a>(&'a self, items: &mut Items<'a, '_>, at: usize) -> Result<(), AllocError> {
         items.add_actuals(&self.actuals, at)?;
-        items.add_steps(1, self.column)
+        items.add_steps(1, index_of(self.column))
     }
 }
 
@@ -167,16 +162,16 @@ impl HasItems for KillArgument {
                     Expr::Global(_, _, _) => 2,
                     _ => 1,
                 };
-                items.add_steps(count, variable.column)
+                items.add_steps(count, index_of(variable.column))
             }
-            KillArgument::AllBut(_) => items.add_steps(1, column_at(at)),
+            KillArgument::AllBut(_) => items.add_steps(1, at),
         }
     }
 }
 
 impl HasItems for NewArgument {
     fn add_to<'a>(&'a self, items: &mut Items<'a, '_>, at: usize) -> Result<(), AllocError> {
-        items.add_steps(1, column_at(at))
+        items.add_steps(1, at)
     }
 }
 
@@ -186,11 +181,11 @@ impl HasItems for LockArgument {
             items.add_variable(name)?;
         }
         items.add_used_after(&self.timeout, at, b':')?;
-        let column = match self.names.first() {
-            Some(name) => name.column,
-            None => column_at(at),
+        let first = match self.names.first() {
+            Some(name) => index_of(name.column),
+            None => at,
         };
-        items.add_steps(MOST_OF_LOCK, column)
+        items.add_steps(MOST_OF_LOCK, first)
     }
 }
 
@@ -198,7 +193,7 @@ impl HasItems for MergeArgument {
     fn add_to<'a>(&'a self, items: &mut Items<'a, '_>, _at: usize) -> Result<(), AllocError> {
         items.add_variable(&self.target)?;
         items.add_variable(&self.source)?;
-        items.add_steps(MOST_OF_MERGE, self.target.column)
+        items.add_steps(MOST_OF_MERGE, index_of(self.target.column))
     }
 }
 
@@ -211,12 +206,12 @@ impl HasItems for ReadArgument {
                 items.add_variable(variable)?;
                 items.add_used_after(most, at, b'#')?;
                 items.add_used_after(timeout, at, b':')?;
-                items.add_steps(steps_of_read(timeout), variable.column)
+                items.add_steps(steps_of_read(timeout), index_of(variable.column))
             }
             ReadArgument::Character(variable, timeout) => {
                 items.add_variable(variable)?;
                 items.add_used_after(timeout, at, b':')?;
-                items.add_steps(steps_of_read(timeout), variable.column)
+                items.add_steps(steps_of_read(timeout), index_of(variable.column))
             }
         }
     }
@@ -230,12 +225,12 @@ impl HasItems for SetArgument {
         }
         let start = items.after(at, b'=');
         items.add_value(&self.value, start)?;
-        let column = match targets.first() {
-            Some(Target::Whole(variable)) => variable.column,
-            Some(Target::Part(_, variable, _)) => variable.column,
-            None => column_at(at),
+        let first = match targets.first() {
+            Some(Target::Whole(variable)) => index_of(variable.column),
+            Some(Target::Part(_, variable, _)) => index_of(variable.column),
+            None => at,
         };
-        items.add_steps(most_of_assign(targets), column)
+        items.add_steps(most_of_assign(targets), first)
     }
 }
 
@@ -284,12 +279,12 @@ fn add_each<'a, T: HasItems>(
     at: usize,
 ) -> Result<(), AllocError> {
     if arguments.is_empty() {
-        return items.add_steps(1, column_at(at));
+        return items.add_steps(1, at);
     }
     let mut start = at;
     for argument in arguments {
         argument.add_to(items, start)?;
-        items.add_steps(1, column_at(start))?;
+        items.add_steps(1, start)?;
         start = items.after(start, b',');
     }
     Ok(())
@@ -302,12 +297,12 @@ fn add_conditions<'a>(
     at: usize,
 ) -> Result<(), AllocError> {
     if conditions.is_empty() {
-        return items.add_steps(1, column_at(at));
+        return items.add_steps(1, at);
     }
     let mut start = at;
     for condition in conditions {
         items.add_value(condition, start)?;
-        items.add_steps(3, column_at(start))?;
+        items.add_steps(3, start)?;
         start = items.after(start, b',');
     }
     Ok(())
@@ -335,7 +330,7 @@ fn add_action<'a>(
 ) -> Result<(), AllocError> {
     match action {
         Action::Do(calls) => add_calls(items, calls.as_slice(), has_block, at),
-        Action::Else | Action::Halt | Action::Quit(None) => items.add_steps(1, column_at(at)),
+        Action::Else | Action::Halt | Action::Quit(None) => items.add_steps(1, at),
         Action::Hang(times) => add_each(items, times.as_slice(), at),
         Action::If(conditions) => add_conditions(items, conditions.as_slice(), at),
         Action::Job(calls) => add_each(items, calls.as_slice(), at),
@@ -409,14 +404,14 @@ pub(crate) fn parameter_items<'a, 't>(
         Parameter::Endless(value, step) => {
             items.add_value(value, start)?;
             items.add_value(step, second)?;
-            items.add_steps(2, column)?;
+            items.add_steps(2, index_of(column))?;
         }
         Parameter::Limited(value, step, limit) => {
             items.add_value(value, start)?;
             items.add_value(step, second)?;
             let third = items.after(second, b':');
             items.add_value(limit, third)?;
-            items.add_steps(2, column)?;
+            items.add_steps(2, index_of(column))?;
         }
     }
     Ok(items)

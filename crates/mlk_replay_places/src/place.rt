@@ -104,6 +104,14 @@ fn parameters_left(task: Option<&Pending<'_>>) -> Option<usize> {
     }
 }
 
+// How many parameters are left after the one of a FOR whose rounds the item at the index `at`, or the one after it, continues.
+fn parameters_left_at(pending: &[Pending<'_>], at: usize) -> Option<usize> {
+    match parameters_left(pending.get(at)) {
+        Some(left) => Some(left),
+        None => parameters_left(pending.get(at.checked_sub(1)?)),
+    }
+}
+
 // What a job does whose next item is `task`, which continues the line with `rest`.
 fn next_work<'a>(task: &LineTask<'a>, rest: &Rest<'a>) -> Work<'a> {
     if let LineTask::RunCommands(_) = task {
@@ -131,9 +139,7 @@ fn work_before<'a>(pending: &[Pending<'a>], at: usize, rest: &Rest<'a>) -> Work<
     let Some(found) = stretch.before else {
         return Work::Begins(rest.line.end);
     };
-    let below = pending.get(..at).unwrap_or(&[]);
-    let left = parameters_left(pending.get(at));
-    Work::Parameters(found, left.or(parameters_left(below.last())))
+    Work::Parameters(found, parameters_left_at(pending, at))
 }
 
 // The place at the item with the index `at`, if that continues a line.

@@ -1,8 +1,8 @@
 // The column of what a job computes next.
 
 use crate::items::{
-    Item, Items, MOST_OF_LOCK, MOST_OF_MERGE, command_items, most_of_assign, parameter_items,
-    size_of_action, size_of_item,
+    Item, Items, MOST_OF_LOCK, MOST_OF_MERGE, command_items, index_of, most_of_assign,
+    parameter_items, size_of_action, size_of_item,
 };
 use crate::place::{Place, Work};
 use crate::scan::{rest_at, token_place};
@@ -12,12 +12,25 @@ use mlk_syntax::{Expr, For};
 use mlk_text::{Column, push_sparing};
 use std::alloc::{AllocError, Global};
 
-/// A column of a line, and what is computed there; `None` for what is no operator, function or global, or where several parts may
-/// be meant.
+/// A byte of a line, and what is computed there; `None` for what is no operator, function or global, or where several parts may be
+/// meant.
 #[derive(Clone, Copy, Drop)]
 pub struct Spot<'a> {
-    pub column: Column,
+    // the index of the byte
+    at: usize,
     pub part: Option<Part<'a>>,
+}
+
+impl<'a> Spot<'a> {
+    /// The column of the byte.
+    pub fn column(&self) -> Column {
+        Column::at(self.at.saturating_add(1))
+    }
+
+    // The byte at the index `at`, without a part.
+    fn unknown(at: usize) -> Spot<'a> {
+        Spot { at, part: None }
+    }
 }
 
 // The number of steps that are left to the end of a command, or to the end of a condition of `$SELECT` that has this number of
@@ -182,38 +195,36 @@ fn fits(part: Part<'_>, item: &Pending<'_>) -> bool {
     }
 }
 
-// The column of the token number `token` of an expression that begins at `column` of `line`.
-fn column_of_token(line: &[u8], column: Column, token: usize) -> Column {
-    let start = (column.number() as usize).saturating_sub(1);
+// The index of the token number `token` of an expression that begins at the index `start` of `line`.
+fn token_index(line: &[u8], start: usize, token: usize) -> usize {
     match token_place(rest_at(line, start), token) {
-        Some(place) => Column::at(start.saturating_add(place).saturating_add(1)),
-        None => column,
+        Some(place) => start.saturating_add(place),
+        None => start,
     }
 }
 
-// The spot in the parts of a command, by the stages that are left; `column` if none is found.
+// The spot in the parts of a command, by the stages that are left; the index `at` if none is found.
 fn spot_within<'a>(
     alloc: Global,
     items: &Items<'a, '_>,
     stages: &[Stage],
     line: &[u8],
-    column: Column,
+    at: usize,
 ) -> Result<Spot<'a>, AllocError> {
-    let unknown = Spot { column, part: None };
     let Some((last, inner)) = stages.split_last() else {
-        return Ok(unknown);
+        return Ok(Spot::unknown(at));
     };
     let Some(within) = part_within(alloc, items, last.left)? else {
-        return Ok(unknown);
+        return Ok(Spot::unknown(at));
     };
     match within.item {
-        Item::Steps(_, column) => Ok(Spot { column, part: None }),
-        Item::Value(expression, column) => {
+        Item::Steps(_, start) => Ok(Spot::unknown(start)),
+        Item::Value(expression, start) => {
             let Some(step) = innermost(alloc, expression, within.left, inner)? else {
-                return Ok(Spot { column, part: None });
+                return Ok(Spot::unknown(start));
             };
             Ok(Spot {
-                column: column_of_token(line, column, step.token),
+                at: token_index(line, start, step.token),
                 part: Some(step.part),
             })
         }
@@ -251,10 +262,10 @@ fn spot_in_parameter<'a>(
     stages: &[Stage],
     line: &[u8],
 ) -> Result<Spot<'a>, AllocError> {
-    let column = found.column;
+    let start = index_of(found.column);
     match items_of_parameter(alloc, found, left, line)? {
-        Some(items) => spot_within(alloc, &items, stages, line, column),
-        None => Ok(Spot { column, part: None }),
+        Some(items) => spot_within(alloc, &items, stages, line, start),
+        None => Ok(Spot::unknown(start)),
     }
 }
 
@@ -266,17 +277,17 @@ fn spot_in_work<'a>(
     line: &[u8],
 ) -> Result<Spot<'a>, AllocError> {
     match place.work {
-        Work::Begins(column) => Ok(Spot { column, part: None }),
+        Work::Begins(column) => Ok(Spot::unknown(index_of(column))),
         Work::Command(command) => {
             let has_block = !place.line.block.is_empty();
             let items = command_items(alloc, command, has_block, line)?;
-            spot_within(alloc, &items, stages, line, command.column)
+            spot_within(alloc, &items, stages, line, index_of(command.column))
         }
         Work::Parameters(found, left) => spot_in_parameter(alloc, found, left, stages, line),
     }
 }
 
-/// The column of what a job at `place` computes next, in `line`, the text of its line.
+/// Where in `line`, the text of its line, a job at `place` computes next, and what. The part does not depend on `line`.
 pub fn spot_of<'a>(
     alloc: Global,
     job: &Job<'a>,
@@ -284,14 +295,13 @@ pub fn spot_of<'a>(
     line: &[u8],
 ) -> Result<Spot<'a>, AllocError> {
     let pending = job.pending.as_slice();
-    let own = pending.get(place.later..).unwrap_or(&[]);
+    let later = place.later.min(pending.len());
+    let own = &pending[later..];
     let Some(next) = own.last() else {
-        return Ok(Spot {
-            column: begin_of(place),
-            part: None,
-        });
+        return Ok(Spot::unknown(index_of(begin_of(place))));
     };
-    let after = own.get(..own.len().saturating_sub(1)).unwrap_or(&[]);
+    let count = own.len().saturating_sub(1);
+    let after = &own[..count];
     let stages = stages_of(alloc, next, after)?;
     let spot = spot_in_work(alloc, place, stages.as_slice(), line)?;
     let Some(part) = spot.part else {
@@ -300,10 +310,7 @@ pub fn spot_of<'a>(
     if fits(part, next) {
         return Ok(spot);
     }
-    Ok(Spot {
-        column: spot.column,
-        part: None,
-    })
+    Ok(Spot::unknown(spot.at))
 }
 
 // The column that a job begins at, if it begins something.

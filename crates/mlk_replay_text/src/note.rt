@@ -128,15 +128,16 @@ fn push_place(
     let line = lines.line(number).unwrap_or(b"");
     let plain_lines = TextLines::of(alloc, given.plain)?;
     let spot = spot_of(alloc, job, place, plain_lines.line(number).unwrap_or(b""))?;
+    let column = spot.column();
     let excerpt = Excerpt {
         number,
         line,
-        column: spot.column,
+        column,
     };
     push_excerpt(text, &excerpt)?;
-    push_question(text, program, job, token_at(line, spot.column))?;
+    push_question(text, program, job, token_at(line, column))?;
     text.push(b'\n')?;
-    Ok(spot.column)
+    Ok(column)
 }
 
 /// The lines that say where a job is and what its next step asks for; empty if it is in no line.
