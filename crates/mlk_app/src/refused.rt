@@ -57,12 +57,7 @@ fn is_refused(
     if code == Code::RoutineTwice {
         return Ok(is_second);
     }
-    let read = read_routine(
-        alloc,
-        source.dialect,
-        source.stem,
-        source.text.as_slice(),
-    );
+    let read = read_routine(alloc, source.dialect, source.stem, source.text.as_slice());
     Ok(none_if_refused(read)?.is_none())
 }
 
