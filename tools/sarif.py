@@ -324,7 +324,8 @@ def refused_routines(of, write):
 def quality_faults(report, found):
     """What is wrong with a code quality report of GitLab: an array of objects with a description, a name of the check, a fingerprint
     that no other has, a severity, a path without `./`, and the line of its begin."""
-    places = [it['place'] for it in [report['refusal']]] if report['answer'] == 'refused' else [*report['faults'], *report.get('hazards', [])]
+    # (with a refusal there are faults where the maker gave up)
+    places = [*report.get('faults', []), *report.get('hazards', []), *(report[it] for it in ['refusal'] if it in report)]
     if len(found) != len(places) or len({it['fingerprint'] for it in found}) != len(found):
         yield f'{len(found)} findings in place of {len(places)}, or two with one fingerprint'
     for it in found:
