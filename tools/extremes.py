@@ -5,6 +5,7 @@ CODES.md and CERTIFICATE.md. Those that take more than some seconds are long: th
 larger stack: lines of 255 FORs or more, each of which takes more than 1 KB of it, and command lines that are longer than a
 small stack holds.
 """
+import json
 import re
 import sys
 import typing
@@ -166,6 +167,15 @@ def many_routines(count):
                    lambda: {'rules.toml': b'', 'cert': NO_ENTRY, **{it: b'' for it in paths}}, wanted, True, WORDS_STACK)
 
 
+def placed(extreme, path):
+    """The same, as another program reads it: the refusal is at the begin of this file."""
+    def wrong(given):
+        place = json.loads(given.out)['refusal']['place']
+        return None if place == {'path': path, 'line': 1, 'column': 1} else f'refused at {place}'
+    command, *others = extreme.words
+    return extreme._replace(said=f'{extreme.said}, in JSON', words=[command, '--output', 'json', *others], wanted=wrong)
+
+
 def many_entries(last):
     paths = routine_names(17)
     texts = lambda: {it: b''.join(b'%d\n' % n for n in range(65535 if it != paths[-1] else last)) for it in paths}
@@ -177,6 +187,7 @@ def many_entries(last):
 def programs():
     yield many_routines(65535)
     yield many_routines(65536)
+    yield placed(many_routines(65536), routine_names(65536)[-1])
     yield many_entries(15)
     yield many_entries(16)
     for workers in '0', '1', '64', '65':

@@ -317,10 +317,6 @@ def refused_routines(of, write):
     yield of('verify', rules, write('a/_X.m', well), write('a/%X.m', well), refused_at=('a/%X.m', 1, 1))
     yield of('verify', rules, 'b/X.m', write('_CALL.m', 'TAKE DO NONE\n'), refused_at=('_CALL.m', 1, 9))
     yield of('verify', rules, 'b/X.m', write('_MORE.m', 'TAKE DO B(1) QUIT\nB QUIT\n'), refused_at=('_MORE.m', 1, 9))
-    names = [f'many/R{number:05}.m' for number in range(65536)]
-    for name in names:
-        write(name, '')
-    yield of('verify', rules, 'many', refused_at=(names[-1], 1, 1))
     gives_up = write('_GROW.m', 'TAKE DO B LOCK  QUIT\nB IF $RANDOM(2) QUIT\n DO B LOCK +^ACCT(1) QUIT\n')
     yield of('verify', write('grow.toml', RULES % '%GROW'), gives_up, refused_at=(gives_up, 3, 22))
 
@@ -328,7 +324,8 @@ def refused_routines(of, write):
 def quality_faults(report, found):
     """What is wrong with a code quality report of GitLab: an array of objects with a description, a name of the check, a fingerprint
     that no other has, a severity, a path without `./`, and the line of its begin."""
-    places = [it['place'] for it in [report['refusal']]] if report['answer'] == 'refused' else [*report['faults'], *report.get('hazards', [])]
+    # (with a refusal there are faults where the maker gave up)
+    places = [*report.get('faults', []), *report.get('hazards', []), *(report[it] for it in ['refusal'] if it in report)]
     if len(found) != len(places) or len({it['fingerprint'] for it in found}) != len(found):
         yield f'{len(found)} findings in place of {len(places)}, or two with one fingerprint'
     for it in found:
