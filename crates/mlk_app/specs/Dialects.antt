@@ -29,7 +29,8 @@ inert_of (source ∷ sources) = inert source.text.items + inert_of sources
 abbrev pub ArePlainIn : Dialect → List Source → Option PlainSources → Type 0
 ArePlainIn dialect.Standard sources plain = plain ≡ None
 ArePlainIn dialect.Extended sources None = ⊥
-ArePlainIn dialect.Extended sources (Some plain) = ArePlain sources plain.sources.items × (plain.inert ≡ min (inert_of sources) 18446744073709551615)
+ArePlainIn dialect.Extended sources (Some plain) =
+    ArePlain sources plain.sources.items × (plain.inert ≡ min (inert_of sources) 18446744073709551615)
 
 -- the routines as they are read
 abbrev pub plain_or : List Source → Option PlainSources → List Source

@@ -1,6 +1,7 @@
 -- The texts that a command reads: those of the files that it names, and a routine's name from its file's. This
 -- project's own choice.
-use Rattle.std.specs.Prelude.{Bool, true, false, Option, None, Some, option_map, map, String, string_bytes, Vec, ℕ, ◌≡◌, ◌<◌, ◌⊎◌, List, [], ◌∷◌, ◌++◌, length, slice_index}
+use Rattle.std.specs.Prelude.{Bool, true, false, Option, None, Some, option_map, map, String, string_bytes, Vec, ℕ, ◌≡◌, ◌<◌, ◌⊎◌}
+use Rattle.std.specs.Prelude.{List, [], ◌∷◌, ◌++◌, length, slice_index}
 use Rattle.std.specs.Borrow.{Bor}
 use Rattle.std.specs.Global.{Global}
 use Rattle.mlk_app.specs.Dialects.{ArePlainIn}
@@ -173,4 +174,6 @@ or_itself path (Some below) = below
 -- The paths of routines: those of files, and of a folder those of all routines below it.
 abbrev pub AreFound : Folders → List (List ℕ) → List (List ℕ) → Type 0
 AreFound below [] found = found ≡ []
-AreFound below (path ∷ paths) found = (at : Option (List (List ℕ))) × (more : List (List ℕ)) × below path at × AreFound below paths more × (found ≡ or_itself path at ++ more)
+AreFound below (path ∷ paths) found =
+    (at : Option (List (List ℕ))) × (more : List (List ℕ)) × below path at × AreFound below paths more
+    × (found ≡ or_itself path at ++ more)

@@ -25,7 +25,8 @@ left_out_text (Some what) = space ++ left_out_word what
 -- `refused ROUTINE line:column CODE NAME`, with the word of what is left out
 abbrev pub fault_line : Fault → List ℕ
 fault_line f =
-    codes "refused " ++ f.place.routine ++ space ++ place_text f.place.line f.place.column ++ space ++ code_text f.code ++ left_out_text f.left_out ++ line_end
+    codes "refused " ++ f.place.routine ++ space ++ place_text f.place.line f.place.column ++ space ++ code_text f.code
+    ++ left_out_text f.left_out ++ line_end
 
 -- `refused entry TEXT 901 EntryMissing`
 abbrev pub missing_line : List ℕ → List ℕ

@@ -32,11 +32,13 @@ asked_of subject = request_of subject.request.now subject.known subject.sources.
 -- what is printed of trees that make a program, and of the text of rules
 abbrev pub IsPrintedOfTrees : ProgramRequest → Option (Bor Baseline) → List RoutineTree → Sources → List ℕ → ℕ → Type 0
 IsPrintedOfTrees program known trees sources text status =
-    IsProgram trees × (rules : RuleLists) × SaysRules sources.rules.items rules × IsPrinted (request_of program known sources) trees rules sources.work text status
+    IsProgram trees × (rules : RuleLists) × SaysRules sources.rules.items rules
+    × IsPrinted (request_of program known sources) trees rules sources.work text status
 
 -- and of the texts of routines
 abbrev pub IsPrintedOfTexts : ProgramRequest → Option (Bor Baseline) → Sources → List ℕ → ℕ → Type 0
-IsPrintedOfTexts program known sources text status = (trees : List RoutineTree) × AreRead (as_read sources) trees × IsPrintedOfTrees program known trees sources text status
+IsPrintedOfTexts program known sources text status =
+    (trees : List RoutineTree) × AreRead (as_read sources) trees × IsPrintedOfTrees program known trees sources text status
 
 -- why nothing is printed of them
 abbrev pub IsRefusedSources : Sources → NoReport → Type 0

@@ -39,9 +39,11 @@ use Rattle.mlk_baseline.specs.declared.baseline.Comparison.{Comparison}
 use Rattle.mlk_baseline.specs.declared.baseline.BaselineFault.{BaselineFault}
 use Rattle.mlk_baseline.specs.Known.{IsComparison}
 use Rattle.mlk_forms.specs.Rendering.{IsRendered, IsNoticed, printed_rows}
-use Rattle.mlk_app.specs.Printed.{fault_line, rules_line, certificate_line, missing_line, workers_line, stuck_line, events_line, baseline_line, file_line, no_page_line}
+use Rattle.mlk_app.specs.Printed.{fault_line, rules_line, certificate_line, missing_line, workers_line, stuck_line, events_line}
+use Rattle.mlk_app.specs.Printed.{baseline_line, file_line, no_page_line}
 use Rattle.mlk_app.specs.Dialects.{as_read, rests_of}
-use Rattle.mlk_app.specs.Files.{Texts, Folders, AreFound, AreTexts, AreSources, IsFirstLost, given_path, written_path, cert_format, paths_of, program_paths}
+use Rattle.mlk_app.specs.Files.{Texts, Folders, AreFound, AreTexts, AreSources, IsFirstLost, given_path, written_path, cert_format}
+use Rattle.mlk_app.specs.Files.{paths_of, program_paths}
 use Rattle.mlk_cli.specs.CommandLine.{IsRequest, AsksNothing, bytes_of}
 use Rattle.mlk_program.specs.Program.{IsProgram}
 use Rattle.mlk_rules.specs.declared.rules.RuleLists.{RuleLists}
@@ -96,7 +98,8 @@ AreCompared (Some known) rows (Some comparison) = IsComparison (length rows) com
 -- What is printed of a report, and the status: in whatever form it is printed, 0 says that it has no row, or, beside known faults, no
 -- row that is new, unless the words ask for 0 in any case. In the plain style it passes if it has none, and the text is that of the
 -- report.
-pub record IsPrintedBeside (style : ReportStyle) (rests : Option ℕ) (comparison : Option (Bor Comparison)) (trees : List RoutineTree) (rows : List Row) (text : List ℕ) (status : ℕ) : Type 0 where
+pub record IsPrintedBeside (style : ReportStyle) (rests : Option ℕ) (comparison : Option (Bor Comparison))
+    (trees : List RoutineTree) (rows : List Row) (text : List ℕ) (status : ℕ) : Type 0 where
   pub passed : Bool
   pub printed : IsRendered style rests comparison trees rows text passed
   pub ended : status ≡ status_in style passed
@@ -130,7 +133,8 @@ IsRefusalLine (refusal.Events fault) line = line ≡ events_line fault
 
 -- the report of a program by rules and a certificate's blocks is printed
 abbrev pub IsReportOfBlocks : ReportRequest → List RoutineTree → RuleLists → List EntryCert → List ℕ → ℕ → Type 0
-IsReportOfBlocks asked trees rules blocks text status = (rows : List Row) × IsReportBy trees rules blocks rows × IsReportPrinted asked trees rows text status
+IsReportOfBlocks asked trees rules blocks text status =
+    (rows : List Row) × IsReportBy trees rules blocks rows × IsReportPrinted asked trees rows text status
 
 -- the report by the certificate with this text is printed
 abbrev pub IsReportByText : ReportRequest → List RoutineTree → RuleLists → List ℕ → List ℕ → ℕ → Type 0
@@ -147,11 +151,13 @@ abbrev pub IsPrinted : ReportRequest → List RoutineTree → RuleLists → Work
 IsPrinted asked trees rules (work.Check given workers) text status = IsReportByText asked trees rules given.items text status
 IsPrinted asked trees rules (work.Verify workers) text status = IsReportOfMade asked trees rules text status
 IsPrinted asked trees rules (work.Make format) text status = IsMade trees rules format text × (status ≡ 0)
-IsPrinted asked trees rules (work.Replay events) text status = IsReplayed (style_in asked.program.asked).is_explained trees rules events.items text × (status ≡ 0)
+IsPrinted asked trees rules (work.Replay events) text status =
+    IsReplayed (style_in asked.program.asked).is_explained trees rules events.items text × (status ≡ 0)
 
 -- why there is no report by a certificate that is made
 abbrev pub RefusesMade : ℕ → List RoutineTree → RuleLists → NoReport → Type 0
-RefusesMade workers trees rules r = IsUnmade trees rules r ⊎ ((blocks : List EntryCert) × RefusesReport refusal.Check (Unit {0}) workers trees rules blocks r)
+RefusesMade workers trees rules r =
+    IsUnmade trees rules r ⊎ ((blocks : List EntryCert) × RefusesReport refusal.Check (Unit {0}) workers trees rules blocks r)
 
 -- Why there is nothing to print: by the certificate that is given, or by one that is made; no certificate is made; or events can't
 -- be followed. The gate of the workers is always open.
@@ -348,7 +354,8 @@ SuggestsFor holds unreadable paths answer.OutOfMemory = Unit {0}
 -- what the texts at the paths of a request come to: a certificate is printed as it is; what a page says is not said
 abbrev pub IsReported : Texts → Request → List ℕ → ℕ → Type 0
 IsReported holds (request.Program program) text status = IsProgramReported holds program text status
-IsReported holds (request.Convert certificate format) text status = IsConvertedThere holds certificate.now (cert_format format) text × (status ≡ 0)
+IsReported holds (request.Convert certificate format) text status =
+    IsConvertedThere holds certificate.now (cert_format format) text × (status ≡ 0)
 IsReported holds (request.Survey survey) text status = IsSurveyed holds survey × (status ≡ 0)
 IsReported holds (request.Suggest suggestion) text status = IsSuggested holds suggestion.routines.items text × (status ≡ 0)
 IsReported holds (request.Stubs stubs) text status = IsStubbed holds stubs text × (status ≡ 0)
@@ -368,8 +375,10 @@ IsRefusedSo holds request line notice = IsRefusedThere holds request line × IsN
 
 -- the first path of a request that can't be read; of a program also the one that can't be written
 abbrev pub IsUnread : Texts → (List ℕ → Type 0) → Request → List ℕ → Type 0
-IsUnread holds unreadable (request.Program program) line = IsFirstUnread holds unreadable (program_paths program) line ⊎ (IsUnwritten program line ⊎ AreUnwritten program line)
-IsUnread holds unreadable (request.Convert certificate format) line = IsFirstUnread holds unreadable (paths_of (request.Convert certificate format)) line
+IsUnread holds unreadable (request.Program program) line =
+    IsFirstUnread holds unreadable (program_paths program) line ⊎ (IsUnwritten program line ⊎ AreUnwritten program line)
+IsUnread holds unreadable (request.Convert certificate format) line =
+    IsFirstUnread holds unreadable (paths_of (request.Convert certificate format)) line
 IsUnread holds unreadable (request.Survey survey) line = IsFirstUnread holds unreadable (paths_of (request.Survey survey)) line
 IsUnread holds unreadable (request.Suggest suggestion) line = IsFirstUnread holds unreadable (paths_of (request.Suggest suggestion)) line
 IsUnread holds unreadable (request.Stubs stubs) line = IsFirstUnread holds unreadable (paths_of (request.Stubs stubs)) line
@@ -407,10 +416,14 @@ named_paths (request.Explain code) = []
 
 -- a request with other routines
 abbrev pub IsWithRoutines : Request → List (List ℕ) → Request → Type 0
-IsWithRoutines (request.Program program) found (request.Program other) = (bytes_of other.routines.items ≡ found) × (other ≡ record program { routines = other.routines })
-IsWithRoutines (request.Survey survey) found (request.Survey other) = (bytes_of other.routines.items ≡ found) × (other ≡ record survey { routines = other.routines })
-IsWithRoutines (request.Suggest suggestion) found (request.Suggest other) = (bytes_of other.routines.items ≡ found) × (other ≡ record suggestion { routines = other.routines })
-IsWithRoutines (request.Stubs stubs) found (request.Stubs other) = (bytes_of other.routines.items ≡ found) × (other ≡ record stubs { routines = other.routines })
+IsWithRoutines (request.Program program) found (request.Program other) =
+    (bytes_of other.routines.items ≡ found) × (other ≡ record program { routines = other.routines })
+IsWithRoutines (request.Survey survey) found (request.Survey other) =
+    (bytes_of other.routines.items ≡ found) × (other ≡ record survey { routines = other.routines })
+IsWithRoutines (request.Suggest suggestion) found (request.Suggest other) =
+    (bytes_of other.routines.items ≡ found) × (other ≡ record suggestion { routines = other.routines })
+IsWithRoutines (request.Stubs stubs) found (request.Stubs other) =
+    (bytes_of other.routines.items ≡ found) × (other ≡ record stubs { routines = other.routines })
 IsWithRoutines r found other = other ≡ r
 
 -- the paths that a text lists: none if there is no text. Which they are is not said.
@@ -447,26 +460,34 @@ TellsUnfound unreadable answer.OutOfMemory = Unit {0}
 -- What is answered to a request with the routines that are found at these paths.
 abbrev pub AnswersFound : Texts → Folders → (List ℕ → Type 0) → Request → List (List ℕ) → Answer → Type 0
 AnswersFound holds below unreadable named paths a = TellsUnfound unreadable a
-    ⊎ ((found : List (List ℕ)) × (request : Request) × AreFound below paths found × IsWithRoutines named found request × Answers holds unreadable request a)
+    ⊎ ((found : List (List ℕ)) × (request : Request) × AreFound below paths found × IsWithRoutines named found request
+    × Answers holds unreadable request a)
 
 -- What is answered to a command line: the answer to its request with the routines that are found.
 abbrev pub AnswersLine : Texts → Folders → (List ℕ → Type 0) → Invocation → Answer → Type 0
-AnswersLine holds below unreadable line (answer.Report text status) = (request : Request) × Finds holds below line request × IsReported holds request text status
-AnswersLine holds below unreadable line (answer.Refused text notice help) = (request : Request) × Finds holds below line request × IsRefusedSo holds request text notice
-AnswersLine holds below unreadable line (answer.Unread text help) = ((request : Request) × Finds holds below line request × IsUnread holds unreadable request text) ⊎ IsUnfound unreadable text
+AnswersLine holds below unreadable line (answer.Report text status) =
+    (request : Request) × Finds holds below line request × IsReported holds request text status
+AnswersLine holds below unreadable line (answer.Refused text notice help) =
+    (request : Request) × Finds holds below line request × IsRefusedSo holds request text notice
+AnswersLine holds below unreadable line (answer.Unread text help) =
+    ((request : Request) × Finds holds below line request × IsUnread holds unreadable request text) ⊎ IsUnfound unreadable text
 AnswersLine holds below unreadable line (answer.Usage text) = ⊥
 AnswersLine holds below unreadable line answer.OutOfMemory = Unit {0}
 
 -- What the program answers to its words: the answer to what they ask for, or that they ask for nothing.
 abbrev pub AnswersWords : {A : Type 0} → Texts → Folders → (List ℕ → Type 0) → List (String A) → Answer → Type 0
-AnswersWords holds below unreadable words (answer.Report text status) = (line : Invocation) × IsRequest words line × AnswersLine holds below unreadable line (answer.Report text status)
-AnswersWords holds below unreadable words (answer.Refused text notice help) = (line : Invocation) × IsRequest words line × AnswersLine holds below unreadable line (answer.Refused text notice help)
-AnswersWords holds below unreadable words (answer.Unread text help) = (line : Invocation) × IsRequest words line × AnswersLine holds below unreadable line (answer.Unread text help)
+AnswersWords holds below unreadable words (answer.Report text status) =
+    (line : Invocation) × IsRequest words line × AnswersLine holds below unreadable line (answer.Report text status)
+AnswersWords holds below unreadable words (answer.Refused text notice help) =
+    (line : Invocation) × IsRequest words line × AnswersLine holds below unreadable line (answer.Refused text notice help)
+AnswersWords holds below unreadable words (answer.Unread text help) =
+    (line : Invocation) × IsRequest words line × AnswersLine holds below unreadable line (answer.Unread text help)
 AnswersWords holds below unreadable words (answer.Usage text) = AsksNothing words
 AnswersWords holds below unreadable words answer.OutOfMemory = Unit {0}
 
 -- What is answered is said.
-pub record Ran {A : Type 0} (holds : Texts) (below : Folders) (unreadable : List ℕ → Type 0) (words : List (String A)) (old new : Option (List ℕ)) (status : ℕ) : Type 0 where
+pub record Ran {A : Type 0} (holds : Texts) (below : Folders) (unreadable : List ℕ → Type 0) (words : List (String A))
+    (old new : Option (List ℕ)) (status : ℕ) : Type 0 where
   pub answer : Answer
   pub answered : AnswersWords holds below unreadable words answer
   pub said : IsSaid answer old new status

@@ -2,7 +2,8 @@
 
 ghost use Rattle.std.specs.Prelude.{◌≡◌, IfOk};
 ghost use Rattle.mlk_report_text.specs.Pieces.{pieces_text};
-ghost use Rattle.mlk_app.specs.Printed.{left_out_text, fault_line, missing_line, workers_line, rules_line, certificate_line, events_code, events_line, stuck_line, baseline_line, file_line, no_page_line};
+ghost use Rattle.mlk_app.specs.Printed.{left_out_text, fault_line, missing_line, workers_line, rules_line, certificate_line};
+ghost use Rattle.mlk_app.specs.Printed.{events_code, events_line, stuck_line, baseline_line, file_line, no_page_line};
 
 use mlk_baseline::BaselineFault;
 use mlk_cert::CertFault;

@@ -3,7 +3,8 @@
 ghost use Rattle.std.specs.Prelude.{◌≡◌, ◌≢◌, ◌∷◌, [], IfOk};
 ghost use Rattle.std.specs.IoError.{error_kind};
 ghost use Rattle.mlk_cli.specs.declared.words.Request.TheVariants as wanted;
-ghost use Rattle.mlk_app.specs.Ran.{style_in, IsErrorLine, IsRefusalLine, PrintsSurvey, TellsRefusal, TellsFault, TellsBaseline, TellsUnread, TellsUnfound, TellsPage, Answers, AnswersFound, AnswersLine, AnswersWords, Ran};
+ghost use Rattle.mlk_app.specs.Ran.{style_in, IsErrorLine, IsRefusalLine, PrintsSurvey, TellsRefusal, TellsFault, TellsBaseline};
+ghost use Rattle.mlk_app.specs.Ran.{TellsUnread, TellsUnfound, TellsPage, Answers, AnswersFound, AnswersLine, AnswersWords, Ran};
 ghost use Rattle.mlk_app.specs.Files.{AreTexts, LosesPath, written_path};
 ghost use Rattle.mlk_app.specs.Printing.{IsReportAnswer};
 ghost use Rattle.mlk_cli.specs.CommandLine.{bytes_of};
@@ -532,7 +533,8 @@ pub fn run<R: Threads + Wait + Sync, F: Files, W: Watch, O: Write, E: Write>(
     out: &mut O,
     err: &mut E,
 ) -> u8
-    ensures { Ran (F.holds files.now) (F.below files.now) (F.unreadable files.now) words.now (O.contents out.old) (O.contents out.new) result }
+    ensures { Ran (F.holds files.now) (F.below files.now) (F.unreadable files.now) words.now (O.contents out.old)
+        (O.contents out.new) result }
 {
     let answer = answer_words(runner, words, files, explaining);
     runner.watch.end();

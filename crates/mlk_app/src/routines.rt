@@ -53,7 +53,8 @@ pub(crate) fn all_paths<'a>(
     request: &Request<'a>,
     list: &'a Option<String>,
 ) -> Result<Vec<&'a str>, AllocError>
-    ensures { IfOk result (λ paths. (listed : List (List ℕ)) × MayList (is_some list.now) listed × (bytes_of paths.items ≡ named_paths request.now ++ listed)) }
+    ensures { IfOk result (λ paths. (listed : List (List ℕ)) × MayList (is_some list.now) listed
+        × (bytes_of paths.items ≡ named_paths request.now ++ listed)) }
 {
     let mut paths = Vec::from_slice(alloc, named_paths(request))?;
     match list {
@@ -70,7 +71,8 @@ fn push_found<'a, F: Files>(
     path: &'a str,
     found: &mut Vec<String>,
 ) -> Result<(), FileError<'a>>
-    ensures ok { OnOk result ((at : Option (List (List ℕ))) × F.below files.now path.now at × (texts_of found.new.items ≡ texts_of found.old.items ++ or_itself path.now at)) }
+    ensures ok { OnOk result ((at : Option (List (List ℕ))) × F.below files.now path.now at
+        × (texts_of found.new.items ≡ texts_of found.old.items ++ or_itself path.now at)) }
     ensures lost { IfErr result (Loses (F.unreadable files.now) path.now) }
 {
     let added = match files.routines_below(alloc, path) {

@@ -2,7 +2,9 @@
 
 ghost use Rattle.std.specs.Prelude.{◌≡◌, ◌≢◌, List, ℕ, Option, IfOk, IfErr};
 ghost use Rattle.std.specs.IoError.{error_kind};
-ghost use Rattle.mlk_app.specs.Files.{IsFileName, IsNameStem, IsPathStem, IsSource, AreSources, IsWork, IsGivenText, AreTexts, cert_format, given_path, work_path, program_paths, texts_below, AreEvents, events_path, Loses, LosesFirst};
+ghost use Rattle.mlk_app.specs.Files.{IsFileName, IsNameStem, IsPathStem, IsSource, AreSources, IsWork, IsGivenText, AreTexts};
+ghost use Rattle.mlk_app.specs.Files.{cert_format, given_path, work_path, program_paths, texts_below, AreEvents, events_path};
+ghost use Rattle.mlk_app.specs.Files.{Loses, LosesFirst};
 ghost use Rattle.mlk_app.specs.Dialects.{as_read, rests_of};
 ghost use Rattle.mlk_cli.specs.CommandLine.{bytes_of};
 

@@ -7,7 +7,8 @@ ghost use Rattle.mlk_pool.specs.Headline.{RefusesReport, RefusesByText, RefusesT
 ghost use Rattle.mlk_outcome.specs.Making.{IsMade, IsUnmade};
 ghost use Rattle.mlk_outcome.specs.Replaying.{IsReplayed, IsUnreplayed, has_notes};
 ghost use Rattle.mlk_outcome.specs.declared.refusal.NoReport.TheVariants as refusal;
-ghost use Rattle.mlk_app.specs.Ran.{style_in, text_style, status_in, IsPrintedBeside, IsReportPrinted, IsReportOfBlocks, IsReportByText, IsReportOfMade, IsPrinted, RefusesMade, IsRefusedFor};
+ghost use Rattle.mlk_app.specs.Ran.{style_in, text_style, status_in, IsPrintedBeside, IsReportPrinted, IsReportOfBlocks};
+ghost use Rattle.mlk_app.specs.Ran.{IsReportByText, IsReportOfMade, IsPrinted, RefusesMade, IsRefusedFor};
 ghost use Rattle.mlk_app.specs.Printing.{asked_of, IsPrintedOfTrees, IsPrintedOfTexts, IsRefusedSources};
 
 use crate::answer::{NO, YES};
@@ -131,7 +132,9 @@ fn printed_report(
     request: &ProgramRequest<'_>,
     report: &Report,
 ) -> Result<Printed, AllocError>
-    ensures { IfOk result (λ p. IsPrintedBeside (style_in request.now.asked) explanations.now.rests explanations.now.comparison (map routine_of explanations.now.grounds.now.program.now) report.now p.text p.status) }
+    ensures { IfOk result (λ p.
+        IsPrintedBeside (style_in request.now.asked) explanations.now.rests explanations.now.comparison
+        (map routine_of explanations.now.grounds.now.program.now) report.now p.text p.status) }
 {
     let grounds = explanations.grounds;
     let style = style_in(&request.asked);
@@ -161,7 +164,8 @@ fn print_explained<R: Threads + Wait + Sync, W: Watch>(
     is_made: bool,
     report: &Report,
 ) -> Result<Printed, AllocError>
-    ensures { IfOk result (λ p. IsReportPrinted (asked_of subject.now) (map routine_of subject.now.program.now) report.now p.text p.status) }
+    ensures { IfOk result (λ p.
+        IsReportPrinted (asked_of subject.now) (map routine_of subject.now.program.now) report.now p.text p.status) }
 {
     let alloc = runner.alloc;
     let style = style_in(&subject.request.asked);
@@ -209,8 +213,12 @@ fn print_report<R: Threads + Wait + Sync, W: Watch>(
     workers: u32,
 ) -> Result<Printed, NoReport>
     requires { AreFormed (map routine_of subject.now.program.now) }
-    ensures ok { IfOk result (λ p. IsReportOfBlocks (asked_of subject.now) (map routine_of subject.now.program.now) subject.now.rules.now certificate.now p.text p.status) }
-    ensures refused { IfErr result (RefusesReport refusal.Check (Unit {0}) workers (map routine_of subject.now.program.now) subject.now.rules.now certificate.now) }
+    ensures ok { IfOk result (λ p.
+        IsReportOfBlocks (asked_of subject.now)
+        (map routine_of subject.now.program.now) subject.now.rules.now certificate.now p.text p.status) }
+    ensures refused { IfErr result
+        (RefusesReport refusal.Check (Unit {0}) workers
+        (map routine_of subject.now.program.now) subject.now.rules.now certificate.now) }
 {
     let report = report_by_certificate(
         runner,
@@ -231,8 +239,11 @@ fn print_check<R: Threads + Wait + Sync, W: Watch>(
     workers: u32,
 ) -> Result<Printed, NoReport>
     requires { AreFormed (map routine_of subject.now.program.now) }
-    ensures ok { IfOk result (λ p. IsReportByText (asked_of subject.now) (map routine_of subject.now.program.now) subject.now.rules.now text.now p.text p.status) }
-    ensures refused { IfErr result (RefusesByText refusal.Check (Unit {0}) workers text.now (map routine_of subject.now.program.now) subject.now.rules.now) }
+    ensures ok { IfOk result (λ p.
+        IsReportByText (asked_of subject.now)
+        (map routine_of subject.now.program.now) subject.now.rules.now text.now p.text p.status) }
+    ensures refused { IfErr result
+        (RefusesByText refusal.Check (Unit {0}) workers text.now (map routine_of subject.now.program.now) subject.now.rules.now) }
 {
     let alloc = runner.alloc;
     let certificate = read_cert(alloc, text)?;
@@ -246,7 +257,8 @@ fn print_verification<R: Threads + Wait + Sync, W: Watch>(
     workers: u32,
 ) -> Result<Printed, NoReport>
     requires { AreFormed (map routine_of subject.now.program.now) }
-    ensures ok { IfOk result (λ p. IsReportOfMade (asked_of subject.now) (map routine_of subject.now.program.now) subject.now.rules.now p.text p.status) }
+    ensures ok { IfOk result (λ p.
+        IsReportOfMade (asked_of subject.now) (map routine_of subject.now.program.now) subject.now.rules.now p.text p.status) }
     ensures refused { IfErr result (RefusesMade workers (map routine_of subject.now.program.now) subject.now.rules.now) }
 {
     let alloc = runner.alloc;
@@ -303,7 +315,9 @@ fn showing_of<'t>(with_notes: bool, texts: &'t [ShownRoutine<'t>]) -> Showing<'t
 
 // Prints what is shown of the jobs of a program after `events`, with notes on where they are if that is asked for.
 fn print_jobs(alloc: Global, subject: &Subject<'_>, events: &[u8]) -> Result<Printed, NoReport>
-    ensures ok { IfOk result (λ p. IsReplayed (style_in subject.now.request.now.asked).is_explained (map routine_of subject.now.program.now) subject.now.rules.now events.now p.text × (p.status ≡ 0)) }
+    ensures ok { IfOk result (λ p.
+        IsReplayed (style_in subject.now.request.now.asked).is_explained
+        (map routine_of subject.now.program.now) subject.now.rules.now events.now p.text × (p.status ≡ 0)) }
     ensures refused { IfErr result (IsUnreplayed (map routine_of subject.now.program.now) subject.now.rules.now events.now) }
 {
     let texts = shown_routines(alloc, subject.request, subject.sources)?;
@@ -326,7 +340,8 @@ fn print_work<R: Threads + Wait + Sync, W: Watch>(
     work: &Work,
 ) -> Result<Printed, NoReport>
     requires { AreFormed (map routine_of subject.now.program.now) }
-    ensures ok { IfOk result (λ p. IsPrinted (asked_of subject.now) (map routine_of subject.now.program.now) subject.now.rules.now work.now p.text p.status) }
+    ensures ok { IfOk result (λ p.
+        IsPrinted (asked_of subject.now) (map routine_of subject.now.program.now) subject.now.rules.now work.now p.text p.status) }
     ensures refused { IfErr result (IsRefusedFor work.now (map routine_of subject.now.program.now) subject.now.rules.now) }
 {
     let alloc = runner.alloc;
@@ -351,7 +366,8 @@ fn print_routines<R: Threads + Wait + Sync, W: Watch>(
 ) -> Result<Printed, NoReport>
     requires { AreFormed (map routine_of routines.now) }
     ensures ok { IfOk result (λ p. IsPrintedOfTrees request.now known.entry (map routine_of routines.now) sources.now p.text p.status) }
-    ensures refused { IfErr result (RefusesTrees refusal.Check (map routine_of routines.now) sources.now.rules.items (IsRefusedFor sources.now.work)) }
+    ensures refused { IfErr result
+        (RefusesTrees refusal.Check (map routine_of routines.now) sources.now.rules.items (IsRefusedFor sources.now.work)) }
 {
     let alloc = runner.alloc;
     let program = link(alloc, routines)?;
