@@ -1,12 +1,35 @@
-// The lines that declared entries reach: by calls, and by running on from line to line.
+// The lines that declared entries reach: by calls, and by running on from line to line, up to one that surely ends.
 
 use crate::marks::{Mark, Marks};
 use mlk_program::{EntryId, Program};
 use mlk_rules::{Rules, entries};
 use mlk_survey_trees::{Mention, mentions_in};
-use mlk_syntax::Line;
+use mlk_syntax::{Action, Command, Line};
 use mlk_text::push_sparing;
 use std::alloc::{AllocError, Global};
+
+// Whether a command may skip the rest of its line.
+fn may_skip(command: &Command) -> bool {
+    matches!(command.action, Action::If(_) | Action::Else)
+}
+
+// Whether a command is a QUIT or HALT without a condition.
+fn is_end(command: &Command) -> bool {
+    command.condition.is_none() && matches!(command.action, Action::Quit(_) | Action::Halt)
+}
+
+// Whether the next line is never run after this one: a command before any FOR ends the entry, and none before it may skip it.
+fn is_last(line: &Line) -> bool {
+    for command in &line.commands.before {
+        if may_skip(command) {
+            return false;
+        }
+        if is_end(command) {
+            return true;
+        }
+    }
+    false
+}
 
 // A search for the lines that are reached.
 #[derive(Drop)]
@@ -43,7 +66,7 @@ impl<'p, 'a> Search<'p, 'a> {
         Ok(())
     }
 
-    // Reaches the lines of `entry`, up to one that was reached before.
+    // Reaches the lines of `entry`, up to one that was reached before or after which no line is run.
     fn reach(&mut self, entry: EntryId) -> Result<(), AllocError> {
         let lines = self.program.lines_of(entry);
         for (index, line) in lines.iter().enumerate() {
@@ -52,6 +75,9 @@ impl<'p, 'a> Search<'p, 'a> {
                 break;
             }
             self.wait_for_callees(place, line)?;
+            if is_last(line) {
+                break;
+            }
         }
         Ok(())
     }
