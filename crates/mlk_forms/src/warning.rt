@@ -10,6 +10,7 @@ use mlk_pool::ReportText;
 use mlk_report_text::Piece::{At, Bytes, Made, Number, Words};
 use mlk_report_text::text_of;
 use mlk_stale::stale_writes;
+use mlk_survey_trees::Position;
 use mlk_text::{Column, push_sparing};
 use std::alloc::{AllocError, Global};
 
@@ -28,8 +29,14 @@ fn add_stale_writes<'a>(
 ) -> Result<(), AllocError> {
     let found = stale_writes(alloc, grounds.program, grounds.rules)?;
     for write in &found {
+        let at = &write.position;
+        let position = Position {
+            routine: at.routine,
+            line: at.line,
+            column: at.column,
+        };
         let hazard = HazardAt {
-            position: write.position,
+            position,
             hazard: Hazard::StaleWrite,
         };
         push_sparing(hazards, hazard)?;
