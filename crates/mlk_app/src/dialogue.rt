@@ -110,12 +110,12 @@ fn ask_events<F: Files>(
 }
 
 // Asks for events of `routines`, which it links, and their rules. Refuses what `jobs_text` refuses of them.
-fn ask_about_routines<F: Files>(
+fn ask_about_routines<'a, F: Files>(
     alloc: Global,
     files: &F,
-    request: &ProgramRequest<'_>,
-    sources: &Sources<'_>,
-    routines: &[Routine],
+    request: &'a ProgramRequest<'_>,
+    sources: &'a Sources<'_>,
+    routines: &'a [Routine],
     begun: &[u8],
 ) -> Result<Option<Vec<u8>>, NoReport> {
     let program = link(alloc, routines)?;
