@@ -70,17 +70,17 @@ pub(crate) fn begun_events<F: Files>(alloc: Global, files: &F, path: &str) -> io
 
 // What a dialogue is about: the program, the entries at which jobs begin, and the texts of the routines.
 #[derive(Drop)]
-struct Subject<'a> {
-    program: &'a Program<'a>,
-    entries: &'a [EntryId],
-    texts: &'a [ShownRoutine<'a>],
+struct Subject<'s, 'a> {
+    program: &'s Program<'a>,
+    entries: &'s [EntryId],
+    texts: &'s [ShownRoutine<'a>],
 }
 
 // Asks for events after those of `begun`, until the input ends; `None` if a line of `begun` can't be followed.
 fn ask_events<F: Files>(
     alloc: Global,
     files: &F,
-    subject: &Subject<'_>,
+    subject: &Subject<'_, '_>,
     begun: &[u8],
 ) -> Result<Option<Vec<u8>>, AllocError> {
     let Some(resumed) = resume(alloc, subject.program, subject.entries, begun)? else {
@@ -121,7 +121,7 @@ fn ask_about_routines<'a, F: Files>(
     let program = link(alloc, routines)?;
     let rules = read_rules(alloc, sources.rules.as_slice())?;
     let declared = declared_entries(alloc, &program, entries(&rules))?;
-    let texts = shown_routines(alloc, request, sources)?;
+    let texts = shown_routines(alloc, &*request, &*sources)?;
     let subject = Subject {
         program: &program,
         entries: declared.as_slice(),
