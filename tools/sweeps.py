@@ -163,6 +163,8 @@ class Sweep:
         if given == usual:
             return True
         status, out, error = given
+        # (the line of a refusal may precede)
+        error = error.removeprefix(usual[2])
         below = error.splitlines()[1:]
         said = error.startswith(ERRORS) and (not below or '--explain' in words and all(it.startswith('  = ') for it in below))
         return kind != 'thread' and status == 3 and usual[1].startswith(out) and said
@@ -181,7 +183,8 @@ class Sweep:
             usual = self.run(words)
             for kind in KINDS:
                 count = self.calls(words, kind)
-                if not count and kind in ALWAYS:
+                # (a refusal as text writes nothing on standard output)
+                if not count and kind in ALWAYS and (kind != 'write' or usual[1]):
                     unseen.append(f"mlock {' '.join(words)}\n  no {kind} was asked for, so none was refused")
                 for number in range(1, count + 1):
                     runs += [(words, usual, kind, number, on) for on in ('0', '1')]
