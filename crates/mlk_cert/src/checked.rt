@@ -56,7 +56,7 @@ fn are_certificate(alloc: Global, made: &[EntryCert]) -> Result<bool, AllocError
 }
 
 /// Checks that `made` respects all limits and orders; otherwise `Refused` returns it.
-pub fn case_of(alloc: Global, made: Case) -> Result<Case, Failure<Case>>
+pub fn checked_case(alloc: Global, made: Case) -> Result<Case, Failure<Case>>
     ensures made { IfOk result (Made IsCase made) }
     ensures refused { IfErr result (GivesBack IsCase made) }
 {

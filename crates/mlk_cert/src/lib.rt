@@ -11,7 +11,7 @@ mod spelled;
 mod table;
 mod write;
 
-pub use checked::{block_of, case_of, certificate_of, point_of, with_case};
+pub use checked::{block_of, certificate_of, checked_case, point_of, with_case};
 pub use format::CertFormat;
 pub use law::{one_certificate, one_reading, one_text, read_back};
 pub use mlk_cert_parts::{

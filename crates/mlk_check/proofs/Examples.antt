@@ -28,7 +28,7 @@ use Rattle.mlk_cert_parts.specs.declared.block.EntryCert.{EntryCert}
 use Rattle.mlk_cert_parts.specs.Limits.{IsCertificate}
 use Rattle.mlk_machine_jobs.specs.Calling.{commands_in}
 use Rattle.mlk_machine_jobs.specs.Tasks.{Task, Job, LineTree, RunCommands}
-use Rattle.mlk_soundness_walk.specs.Forms.{AreFormed}
+use Rattle.mlk_machine_laws.specs.WellFormed.{AreFormed}
 use Rattle.mlk_walk.proofs.Examples.{base_rules, deposit-yes-routines, deposit-yes-blocks, deposit-yes}
 use Rattle.mlk_walk.proofs.Examples.{wrapper-takes-lock-routines, wrapper-takes-lock-blocks, wrapper-takes-lock}
 use Rattle.mlk_walk.proofs.Examples.{loop-under-lock-routines, loop-under-lock-blocks, loop-under-lock}

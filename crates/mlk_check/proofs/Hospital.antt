@@ -54,7 +54,7 @@ use Rattle.mlk_machine_jobs.specs.Seen.{ready, state, silent_step}
 use Rattle.mlk_machine_jobs.specs.Tasks.{Job}
 use Rattle.mlk_machine_laws.specs.Moments.{IsCoveredAt}
 use Rattle.mlk_walk_state.specs.Scope.{certified, declared, is_declared}
-use Rattle.mlk_soundness_walk.specs.Forms.{AreFormed}
+use Rattle.mlk_machine_laws.specs.WellFormed.{AreFormed}
 use Rattle.mlk_check.specs.Theorem.{AreSafe, KeepsRules}
 use Rattle.mlk_check.proofs.Theorem.{keeps_rules}
 use Rattle.mlk_check.proofs.Tested.{certificate_by, formed_by}

@@ -29,7 +29,7 @@ use Rattle.mlk_cert_parts.specs.Limits.{names_below, own_below, cases_below, exi
 use Rattle.mlk_machine_jobs.specs.Calling.{formals_in}
 use Rattle.mlk_machine_jobs.specs.Tasks.{LineTree}
 use Rattle.mlk_machine_laws.specs.WellFormed.{answers, AnswersAtEnd, IsAtLevel, AreLeveled, reads_locals, ReadsLocals, HeadReadsLocals, LinesReadLocals, lines_of_routine, IsWellFormed}
-use Rattle.mlk_soundness_walk.specs.Forms.{AreFormed}
+use Rattle.mlk_machine_laws.specs.WellFormed.{AreFormed}
 
 -- each item has the property if the test passes for all
 each_by : {A : Type 0} (Is : A → Type 0) (test : A → Bool) → ((a : A) → test a ≡ true → Is a) → (xs : List A) → list_all test xs ≡ true → Each Is xs

@@ -11,7 +11,7 @@ use Rattle.mlk_machine_laws.proofs.Runs.{clashes_are_free, no_clash, no_ring, al
 use Rattle.mlk_walk_state.specs.Scope.{is_declared}
 use Rattle.mlk_walk.specs.Reports.{report}
 use Rattle.mlk_soundness_machine.specs.Facts.{Facts}
-use Rattle.mlk_soundness_walk.specs.Forms.{AreFormed}
+use Rattle.mlk_machine_laws.specs.WellFormed.{AreFormed}
 use Rattle.mlk_soundness_walk.proofs.Listed.{list_once}
 use Rattle.mlk_soundness_walk.proofs.OneJob.{one_job, each_facts}
 use Rattle.mlk_check.specs.Theorem.{KeepsRules}

@@ -3,7 +3,7 @@
 ghost use Rattle.std.specs.Prelude.{◌≡◌, [], IfOk, map};
 ghost use Rattle.mlk_syntax.specs.Views.{routine_of};
 ghost use Rattle.mlk_walk.specs.Reports.{report};
-ghost use Rattle.mlk_soundness_walk.specs.Forms.{AreFormed};
+ghost use Rattle.mlk_machine_laws.specs.WellFormed.{AreFormed};
 ghost use Rattle.mlk_check.specs.Theorem.{KeepsRules};
 
 use mlk_cert_parts::Certificate;

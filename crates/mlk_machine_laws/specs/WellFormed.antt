@@ -2,7 +2,7 @@
 -- ends a call, each line has the level that it is listed at, no formal list contains a name twice, and READ is into locals.
 -- Restates ISO/IEC 11756: QUIT, block, formallist, READ; that no QUIT with a value occurs in a block or in a FOR, and that READ
 -- is into no global, is this project's own choice.
-use Rattle.std.specs.Prelude.{◌≡◌, ℕ, suc, Bool, true, false, Some, Contains}
+use Rattle.std.specs.Prelude.{◌≡◌, ℕ, suc, Bool, true, false, List, Some, Contains}
 use Rattle.std.specs.List.{list_all}
 use Rattle.mlk_syntax.specs.Distinct.{AreDistinct}
 use Rattle.mlk_syntax.specs.ExprTrees.{LocalName}
@@ -75,3 +75,7 @@ pub record IsWellFormed (r : RoutineTree) : Type 0 where
   pub levels : AreLeveled 1 true (lines_of_routine r)
   pub formals : FormalsDifferIn r
   pub reads : LinesReadLocals (lines_of_routine r)
+
+-- each routine is well formed
+abbrev pub AreFormed : List RoutineTree → Type 0
+AreFormed routines = (r : RoutineTree) → Contains routines r → IsWellFormed r

@@ -9,9 +9,9 @@ use mlk_cert::{Case, NameSet, Own, Shared, Test};
 use mlk_make_drafts::{At, Draft};
 use mlk_program::EntryId;
 use mlk_text::{Code, Column, Failure, Name};
+use mlk_walk_commands::in_order;
 use mlk_walk_exprs::Fault;
 use mlk_walk_lines::Around;
-use mlk_walk_variables::in_order;
 use std::alloc::{AllocError, Global};
 
 /// How often an entry is walked at most in a round. Each time, its needs or its summary have grown.

@@ -9,8 +9,8 @@ use mlk_cert::{Case, NameSet, Own};
 use mlk_make_drafts::{At, Draft, rounds_in};
 use mlk_names::{KnownSym, LockTerm};
 use mlk_text::{List, Name};
+use mlk_walk_commands::in_order;
 use mlk_walk_exprs::Fault;
-use mlk_walk_variables::in_order;
 use std::alloc::{AllocError, Global};
 
 fn add_names(names: &mut Vec<Name>, term: &LockTerm) -> Result<(), AllocError> {

@@ -7,7 +7,7 @@ use Rattle.mlk_pool.specs.Reading.{AreRead}
 use Rattle.mlk_names.proofs.ListLemmas.{contains_cases}
 use Rattle.mlk_machine_laws.specs.WellFormed.{IsWellFormed}
 use Rattle.mlk_routine_laws.proofs.ReadTrees.{well-formed}
-use Rattle.mlk_soundness_walk.specs.Forms.{AreFormed}
+use Rattle.mlk_machine_laws.specs.WellFormed.{AreFormed}
 
 pub read_formed : (sources : List Source) (trees : List RoutineTree) → AreRead sources trees → AreFormed trees
 read_formed [] [] read r i = absurd (omega (arith, i.1))

@@ -6,7 +6,7 @@ ghost use Rattle.std.specs.Option.{ForSome};
 ghost use Rattle.mlk_syntax.specs.Views.{routine_of};
 ghost use Rattle.mlk_walk.specs.Verdicts.{verdict};
 ghost use Rattle.mlk_walk.specs.Reports.{entries_from, is_checked, report, rows_of};
-ghost use Rattle.mlk_soundness_walk.specs.Forms.{AreFormed};
+ghost use Rattle.mlk_machine_laws.specs.WellFormed.{AreFormed};
 ghost use Rattle.mlk_check.specs.Theorem.{KeepsRules};
 ghost use Rattle.mlk_pool.specs.Given.{AreInputs, AreKnown, is_certified};
 ghost use Rattle.mlk_pool.specs.Boards.{IsSlotOf, next_slot};

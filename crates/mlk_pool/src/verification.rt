@@ -2,7 +2,7 @@
 
 ghost use Rattle.std.specs.Prelude.{map, IfOk, IfErr};
 ghost use Rattle.mlk_syntax.specs.Views.{routine_of};
-ghost use Rattle.mlk_soundness_walk.specs.Forms.{AreFormed};
+ghost use Rattle.mlk_machine_laws.specs.WellFormed.{AreFormed};
 ghost use Rattle.mlk_pool.specs.Headline.{IsReportBy, Verified, IsUnreportedBy, IsUnverified};
 ghost use Rattle.mlk_pool.specs.Refusals.{AreAllowed};
 ghost use Rattle.mlk_pool.specs.Stages.{IsReportOfTrees, IsUnreportedOfTrees};

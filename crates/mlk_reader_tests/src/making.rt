@@ -1,8 +1,8 @@
 // Certificates and their parts, made of what keeps to the limits, and given back where it does not.
 
 use mlk_cert::{
-    Case, EntryCert, Point, Shared, Summary, Test, block_of, case_of, certificate_of, point_of,
-    with_case,
+    Case, EntryCert, Point, Shared, Summary, Test, block_of, certificate_of, checked_case,
+    point_of, with_case,
 };
 use mlk_text::{Failure, LineNumber, List, Name, Value};
 use std::alloc::{AllocError, Global};
@@ -118,7 +118,7 @@ fn points_make_a_certificate(rt: HostRuntime) -> Result<(), Fail> {
 }
 
 fn is_case(alloc: Global, kept: &str) -> Result<bool, AllocError> {
-    Ok(case_of(alloc, case(alloc, kept.as_bytes())?).is_ok())
+    Ok(checked_case(alloc, case(alloc, kept.as_bytes())?).is_ok())
 }
 
 const KEPT: &[(&str, bool)] = &[("AB", true), ("BA", false), ("AA", false), ("7", false)];

@@ -24,7 +24,7 @@ use Rattle.mlk_walk_exprs.specs.Expressions.{agrees, value}
 use Rattle.mlk_walk_exprs.specs.declared.walk.Walk.{Walk}
 use Rattle.mlk_walk_commands.specs.Arguments.{set_argument, kill_argument, new_argument, read_argument}
 use Rattle.mlk_walk_commands.specs.Arguments.{merge_argument, write_argument, do_argument, job_argument, if_argument}
-use Rattle.mlk_walk_locks.specs.Locks.{lock_argument}
+use Rattle.mlk_walk_commands.specs.Locks.{lock_argument}
 use Rattle.mlk_walk_lines.specs.Commands.{turn}
 use Rattle.mlk_walk_lines.specs.Endings.{OfBlock}
 use Rattle.mlk_walk_lines.specs.Lines.{block_with, walk_lines}

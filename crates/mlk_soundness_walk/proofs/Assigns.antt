@@ -27,7 +27,7 @@ use Rattle.mlk_walk_exprs.specs.declared.walk.Quit.{Quit}
 use Rattle.mlk_walk_exprs.specs.Walks.{Goes, each}
 use Rattle.mlk_walk_exprs.specs.Spots.{Spot}
 use Rattle.mlk_walk_exprs.specs.References.{checked}
-use Rattle.mlk_walk_variables.specs.Variables.{count_in, change_at}
+use Rattle.mlk_walk_commands.specs.Variables.{count_in, change_at}
 use Rattle.mlk_walk_commands.specs.Arguments.{symbols_at, read_part, write_variable}
 use Rattle.mlk_walk_laws.proofs.Transfers.{each_keeps}
 use Rattle.mlk_soundness_machine.specs.Reads.{now}

@@ -8,7 +8,8 @@ use Rattle.mlk_cert_parts.specs.declared.block.EntryCert.{EntryCert}
 use Rattle.mlk_walk.specs.Verdicts.{known}
 use Rattle.mlk_walk.specs.Reports.{report}
 use Rattle.mlk_soundness_walk.specs.Entries.{first_level, EntryFits}
-use Rattle.mlk_soundness_walk.specs.Forms.{AreFormed, ListOnce}
+use Rattle.mlk_machine_laws.specs.WellFormed.{AreFormed}
+use Rattle.mlk_soundness_walk.specs.Forms.{ListOnce}
 use Rattle.mlk_soundness_walk.proofs.Formed.{entry_lines}
 use Rattle.mlk_soundness_walk.proofs.Framed.{entry_fits}
 use Rattle.mlk_soundness_walk.proofs.Levels.{line_fits}

@@ -27,7 +27,7 @@ use Rattle.mlk_walk_exprs.specs.declared.walk.Quit.{Quit}
 use Rattle.mlk_walk_exprs.specs.Walks.{Outcome, Goes, Skips, Refused, each, placed}
 use Rattle.mlk_walk_exprs.specs.Spots.{Spot}
 use Rattle.mlk_walk_exprs.specs.Expressions.{value}
-use Rattle.mlk_walk_variables.specs.Variables.{change_at}
+use Rattle.mlk_walk_commands.specs.Variables.{change_at}
 use Rattle.mlk_walk_commands.specs.Arguments.{forget, set_argument, if_argument}
 use Rattle.mlk_walk_commands.specs.Arguments as walked
 use Rattle.mlk_walk_laws.proofs.Transfers.{both, each_keeps, changed_keeps}

@@ -17,7 +17,7 @@ use Rattle.mlk_cert_parts.specs.declared.block.EntryCert.{EntryCert}
 use Rattle.mlk_walk_state.specs.Scope.{Scope}
 use Rattle.mlk_soundness_walk.specs.Entries.{scope}
 use Rattle.mlk_machine_laws.specs.WellFormed.{AreLeveled, LinesReadLocals, lines_of_routine}
-use Rattle.mlk_soundness_walk.specs.Forms.{AreFormed}
+use Rattle.mlk_machine_laws.specs.WellFormed.{AreFormed}
 use Rattle.mlk_soundness_walk.specs.Ours.{IsHeadOf, AreLinesOf}
 
 contains_map : {A B : Type 0} (f : A → B) (xs : List A) (a : A) → Contains xs a → Contains (map f xs) (f a)

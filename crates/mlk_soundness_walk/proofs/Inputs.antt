@@ -26,7 +26,7 @@ use Rattle.mlk_walk_exprs.specs.Walks.{Goes, each, few}
 use Rattle.mlk_walk_exprs.specs.declared.walk.Quit.{Quit}
 use Rattle.mlk_walk_exprs.specs.declared.walk.Walk.{Walk}
 use Rattle.mlk_walk_commands.specs.Arguments.{in_time_or_not, read_row, read_variable, read_argument}
-use Rattle.mlk_walk_variables.specs.Variables.{capture_variable}
+use Rattle.mlk_walk_commands.specs.Variables.{capture_variable}
 use Rattle.mlk_walk_lines.specs.Commands.{in_turn, turn}
 use Rattle.mlk_walk_laws.proofs.Counts.{few_keeps}
 use Rattle.mlk_walk_laws.proofs.Transfers.{each_keeps, both}

@@ -21,9 +21,9 @@ use Rattle.mlk_machine_jobs.specs.Commands.{subs_in}
 use Rattle.mlk_machine_jobs.specs.Locking.{root_in, count_all, lock_name_of, names_of}
 use Rattle.mlk_walk_state.specs.Lists.{all_some}
 use Rattle.mlk_walk_state.specs.Terms.{taken, all_taken, is_such, all_known}
-use Rattle.mlk_walk_locks.specs.Locks.{root_of, count_from, count_names, terms_of}
-use Rattle.mlk_walk_variables.specs.Variables as walked
-use Rattle.mlk_walk_variables.specs.Variables.{name_in}
+use Rattle.mlk_walk_commands.specs.Locks.{root_of, count_from, count_names, terms_of}
+use Rattle.mlk_walk_commands.specs.Variables as walked
+use Rattle.mlk_walk_commands.specs.Variables.{name_in}
 use Rattle.mlk_soundness_machine.specs.Described.{is_local, some_local}
 use Rattle.mlk_soundness_machine.specs.Reads.{value_of, name_of, one_at, times, mentions}
 use Rattle.mlk_soundness_machine.proofs.Reading.{differs, name_is, of_subs, local_first, local_later, local_front, local_back}

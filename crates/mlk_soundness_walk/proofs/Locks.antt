@@ -36,10 +36,10 @@ use Rattle.mlk_walk_exprs.specs.Spots.{Spot}
 use Rattle.mlk_walk_exprs.specs.Walks.{Outcome, Goes, Refused, each, few, placed}
 use Rattle.mlk_walk_exprs.specs.declared.walk.Quit.{Quit}
 use Rattle.mlk_walk_exprs.specs.declared.walk.Walk.{Walk}
-use Rattle.mlk_walk_locks.specs.Locks as walked
-use Rattle.mlk_walk_locks.specs.Locks.{capture_names, count_names, names_fault, unless_unknown, known_names, terms_of, is_timed, column_at}
-use Rattle.mlk_walk_locks.specs.Locks.{given_back, give_back, granted, claim_outcomes, claim, claim_after, lock_terms, lock_row, lock_argument, release}
-use Rattle.mlk_walk_variables.specs.Variables.{column_in, capture_variable}
+use Rattle.mlk_walk_commands.specs.Locks as walked
+use Rattle.mlk_walk_commands.specs.Locks.{capture_names, count_names, names_fault, unless_unknown, known_names, terms_of, is_timed, column_at}
+use Rattle.mlk_walk_commands.specs.Locks.{given_back, give_back, granted, claim_outcomes, claim, claim_after, lock_terms, lock_row, lock_argument, release}
+use Rattle.mlk_walk_commands.specs.Variables.{column_in, capture_variable}
 use Rattle.mlk_walk_lines.specs.Commands.{act}
 use Rattle.mlk_walk_laws.proofs.Counts.{few_keeps}
 use Rattle.mlk_walk_laws.proofs.Transfers.{each_keeps, both}

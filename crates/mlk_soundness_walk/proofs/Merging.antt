@@ -30,8 +30,8 @@ use Rattle.mlk_walk_exprs.specs.Walks.{Outcome, Goes, each}
 use Rattle.mlk_walk_exprs.specs.declared.walk.Quit.{Quit}
 use Rattle.mlk_walk_exprs.specs.declared.walk.Walk.{Walk}
 use Rattle.mlk_walk_commands.specs.Arguments.{kill_row, merge_from, merge_argument}
-use Rattle.mlk_walk_variables.specs.Variables as variable
-use Rattle.mlk_walk_variables.specs.Variables.{capture_variable}
+use Rattle.mlk_walk_commands.specs.Variables as variable
+use Rattle.mlk_walk_commands.specs.Variables.{capture_variable}
 use Rattle.mlk_walk_lines.specs.Commands.{in_turn}
 use Rattle.mlk_walk_laws.proofs.Transfers.{both, each_keeps}
 use Rattle.mlk_walk_laws.proofs.Walks.{variable_keeps, merge_keeps}

@@ -9,7 +9,8 @@ use Rattle.mlk_walk_state.specs.Scope.{is_declared}
 use Rattle.mlk_walk.specs.Reports.{report}
 use Rattle.mlk_walk.specs.Verdicts.{known}
 use Rattle.mlk_soundness_machine.specs.Facts.{Facts}
-use Rattle.mlk_soundness_walk.specs.Forms.{AreFormed, ListOnce}
+use Rattle.mlk_machine_laws.specs.WellFormed.{AreFormed}
+use Rattle.mlk_soundness_walk.specs.Forms.{ListOnce}
 use Rattle.mlk_soundness_walk.specs.Theorem.{OneJob}
 use Rattle.mlk_soundness_walk.proofs.Closed.{each_entry}
 use Rattle.mlk_soundness_walk.proofs.Starting.{each_moment}

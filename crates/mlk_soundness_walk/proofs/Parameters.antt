@@ -21,7 +21,7 @@ use Rattle.mlk_walk_exprs.specs.declared.walk.Quit.{Quit}
 use Rattle.mlk_walk_exprs.specs.Walks.{Outcome, Goes, Refused, each}
 use Rattle.mlk_walk_exprs.specs.Spots.{Spot}
 use Rattle.mlk_walk_exprs.specs.Expressions.{value}
-use Rattle.mlk_walk_variables.specs.Variables.{change_at}
+use Rattle.mlk_walk_commands.specs.Variables.{change_at}
 use Rattle.mlk_walk_lines.specs.Loops.{Rounds, begin_round, round_or_after, after_round, parameter, parameters}
 use Rattle.mlk_walk_laws.specs.Fewer.{StatesDiffer, IsClean}
 use Rattle.mlk_walk_laws.proofs.Lists.{all_old, all_new}

@@ -20,7 +20,7 @@ use Rattle.mlk_walk_state.specs.declared.state.State.{State}
 use Rattle.mlk_walk_exprs.specs.declared.walk.Quit.{Quit}
 use Rattle.mlk_walk_exprs.specs.Spots.{Spot}
 use Rattle.mlk_walk_exprs.specs.Expressions.{capture_subs, value, values}
-use Rattle.mlk_walk_variables.specs.Variables.{subs_of, name_in, capture_variable}
+use Rattle.mlk_walk_commands.specs.Variables.{subs_of, name_in, capture_variable}
 use Rattle.mlk_walk_commands.specs.Arguments.{capture_target, capture_targets}
 use Rattle.mlk_walk_laws.proofs.Walks.{value_keeps, values_keep, variable_keeps, target_keeps, targets_keep}
 use Rattle.mlk_soundness_machine.specs.Described.{World, Level, Slot, Bare, Fills}

@@ -19,7 +19,7 @@ use Rattle.mlk_walk_state.specs.States.{without_last}
 use Rattle.mlk_walk_exprs.specs.declared.walk.Quit.{Quit}
 use Rattle.mlk_walk_exprs.specs.Spots.{Spot}
 use Rattle.mlk_walk_exprs.specs.Expressions.{capture_subs, value}
-use Rattle.mlk_walk_variables.specs.Variables.{count_in}
+use Rattle.mlk_walk_commands.specs.Variables.{count_in}
 use Rattle.mlk_walk_commands.specs.Arguments.{variable_in, capture_targets, assign_all, count_from, count_targets, forget, set_argument}
 use Rattle.mlk_walk_laws.proofs.Transfers.{both, changed_keeps}
 use Rattle.mlk_walk_laws.proofs.Walks.{value_keeps, targets_keep, all_assigned_keep}

@@ -29,7 +29,8 @@ use Rattle.mlk_soundness_machine.proofs.Passing.{is_reference, refs_of, refers_t
 use Rattle.mlk_soundness_machine.proofs.Reading.{differs, name_is}
 use Rattle.mlk_soundness_machine.proofs.Sharing.{SharesByOwn}
 use Rattle.mlk_soundness_walk.specs.Entries.{scope}
-use Rattle.mlk_soundness_walk.specs.Forms.{AreFormed, ListOnce}
+use Rattle.mlk_machine_laws.specs.WellFormed.{AreFormed}
+use Rattle.mlk_soundness_walk.specs.Forms.{ListOnce}
 use Rattle.mlk_soundness_walk.specs.Ours.{IsOurs}
 use Rattle.mlk_soundness_walk.proofs.Entries.{IsWell, first_line}
 use Rattle.mlk_soundness_walk.proofs.Formed.{contains_get}

@@ -1,16 +1,9 @@
--- What the theorem on one job requires of trees and certificates. Each tree that a text has meets it, and so does each
--- certificate. This project's own choice.
+-- What the theorem on one job requires of certificates; each one meets it. This project's own choice.
 use Rattle.std.specs.Prelude.{List, Contains, map}
-use Rattle.mlk_syntax.specs.Trees.{RoutineTree}
 use Rattle.mlk_cert_parts.specs.declared.block.EntryCert.{EntryCert}
 use Rattle.mlk_cert_parts.specs.declared.block.Point.{Point}
 use Rattle.mlk_walk_state.specs.States.{at_rest}
 use Rattle.mlk_walk_laws.specs.Fewer.{StatesDiffer}
-use Rattle.mlk_machine_laws.specs.WellFormed.{IsWellFormed}
-
--- each routine is well formed
-abbrev pub AreFormed : List RoutineTree → Type 0
-AreFormed routines = (r : RoutineTree) → Contains routines r → IsWellFormed r
 
 -- no case is listed twice at one point
 abbrev pub ListOnce : List EntryCert → Type 0

@@ -9,7 +9,8 @@ use Rattle.mlk_walk_state.specs.Scope.{certified, declared, is_declared}
 use Rattle.mlk_walk.specs.Reports.{report}
 use Rattle.mlk_soundness_machine.specs.Listed.{FactsSince}
 use Rattle.mlk_soundness_machine.specs.Moments.{AtEachMomentSince}
-use Rattle.mlk_soundness_walk.specs.Forms.{AreFormed, ListOnce}
+use Rattle.mlk_machine_laws.specs.WellFormed.{AreFormed}
+use Rattle.mlk_soundness_walk.specs.Forms.{ListOnce}
 
 -- The invariants of one job: the reference that it touches next is covered, its next claim is in order, and it ends without a
 -- lock; at the begin of a frame, at each line that it moves on to, and at each round of a FOR, a listed case describes it; and

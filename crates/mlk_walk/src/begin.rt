@@ -10,8 +10,8 @@ use mlk_calls::{Scope, is_listed};
 use mlk_cert_parts::{Case, ExitCase, NameSet, Own, Shared, Summary, Test};
 use mlk_names::LockTerm;
 use mlk_text::{Code, Column, LineNumber, Name};
+use mlk_walk_commands::in_order;
 use mlk_walk_exprs::{Fault, Faults, Mend, Note};
-use mlk_walk_variables::in_order;
 use std::alloc::{AllocError, Global};
 
 fn own_formals(alloc: Global, names: &[Name]) -> Result<Vec<Own>, AllocError>

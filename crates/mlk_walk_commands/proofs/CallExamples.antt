@@ -20,7 +20,7 @@ use Rattle.mlk_walk_state.specs.Names.{is_among, have, spares}
 use Rattle.mlk_walk_exprs.specs.declared.walk.Walk.{Walk}
 use Rattle.mlk_walk_exprs.specs.Walks.{begin}
 use Rattle.mlk_walk_commands.specs.Arguments.{do_argument, job_argument, if_argument}
-use Rattle.mlk_walk_variables.proofs.Worked.{name_x, of_x, spot, x, case, holds, passes, refused}
+use Rattle.mlk_walk_commands.proofs.Worked.{name_x, of_x, spot, x, case, holds, passes, refused}
 
 -- `F(X)`, `F(.X)` and `G(X)`
 abbrev call_of : List ℕ → ActualTree → CallTree

@@ -13,7 +13,7 @@ use Rattle.mlk_walk_state.specs.States.{without_last}
 use Rattle.mlk_walk_exprs.specs.Walks.{Goes}
 use Rattle.mlk_walk_exprs.specs.Spots.{Spot}
 use Rattle.mlk_walk_exprs.specs.References.{touch, touch_last}
-use Rattle.mlk_walk_variables.specs.Variables.{change_local}
+use Rattle.mlk_walk_commands.specs.Variables.{change_local}
 use Rattle.mlk_walk_commands.specs.Arguments.{kill_row, read_row, merge_from, symbols_at, write_variable, read_part}
 
 module _ (name : List ℕ) (v : Vec Subscript Global) where

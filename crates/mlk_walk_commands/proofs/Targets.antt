@@ -7,7 +7,7 @@ use Rattle.mlk_walk_exprs.specs.declared.walk.Walk.{Walk}
 use Rattle.mlk_walk_exprs.specs.Spots.{Spot}
 use Rattle.mlk_walk_exprs.specs.Expressions.{values}
 use Rattle.mlk_walk_commands.specs.Arguments.{variable_in, arguments_in, capture_targets}
-use Rattle.mlk_walk_variables.specs.Variables.{capture_variable}
+use Rattle.mlk_walk_commands.specs.Variables.{capture_variable}
 
 -- one iteration of the loop over them
 pub target_turn : (p : Spot) (targets : List Target) (i : ℕ) (t : Target) (w captured valued whole : Walk)

@@ -12,7 +12,7 @@ use Rattle.mlk_walk_exprs.specs.declared.walk.Walk.{Walk}
 use Rattle.mlk_walk_exprs.specs.Walks.{each}
 use Rattle.mlk_walk_exprs.specs.Spots.{Spot}
 use Rattle.mlk_walk_exprs.specs.References.{touch}
-use Rattle.mlk_walk_variables.specs.Variables.{change_local}
+use Rattle.mlk_walk_commands.specs.Variables.{change_local}
 use Rattle.mlk_walk_commands.specs.Arguments.{symbols_at, write_variable}
 
 module _ (p : Spot) (from column : ℕ) (w : Walk) where

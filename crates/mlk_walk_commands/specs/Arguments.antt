@@ -21,9 +21,9 @@ use Rattle.mlk_walk_exprs.specs.Walks.{Outcome, Goes, Skips, each, each_changed,
 use Rattle.mlk_walk_exprs.specs.Spots.{Spot}
 use Rattle.mlk_walk_exprs.specs.References.{touch, touch_last}
 use Rattle.mlk_walk_exprs.specs.Expressions.{capture_actuals, value, value_if, values, conditioned}
-use Rattle.mlk_walk_variables.specs.Variables.{count_in, capture_variable, change_at, change_local}
+use Rattle.mlk_walk_commands.specs.Variables.{count_in, capture_variable, change_at, change_local}
 use Rattle.mlk_walk_commands.specs.News.{renew}
-use Rattle.mlk_walk_variables.specs.Order.{in_order}
+use Rattle.mlk_walk_commands.specs.Order.{in_order}
 
 -- SET. The subscripts of all targets, and the further arguments of `$PIECE` and `$EXTRACT`, are evaluated where they are written.
 abbrev pub variable_in : TargetTree → VariableTree

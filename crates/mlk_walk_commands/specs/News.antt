@@ -10,7 +10,7 @@ use Rattle.mlk_walk_state.specs.Terms.{mention}
 use Rattle.mlk_calls.specs.Changes.{changed_state}
 use Rattle.mlk_walk_exprs.specs.Walks.{Outcome, placed}
 use Rattle.mlk_walk_exprs.specs.Spots.{Spot}
-use Rattle.mlk_walk_variables.specs.Order.{put_own}
+use Rattle.mlk_walk_commands.specs.Order.{put_own}
 
 -- the state with an item of own names
 abbrev pub with_own : Own → State → State

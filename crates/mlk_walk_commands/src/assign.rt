@@ -13,13 +13,13 @@ ghost use Rattle.mlk_walk_commands.specs.Arguments.{variable_in, arguments_in, c
 ghost use Rattle.mlk_walk_commands.specs.Arguments.{symbols_at, read_part, read_target, write_variable};
 ghost use Rattle.mlk_walk_commands.specs.Arguments.{assign, assign_all, count_targets, set_argument};
 
+use crate::{capture_variable, change_local, change_locals, count_of};
 use mlk_calls::State;
 use mlk_names::{Access, Extent, Sym};
 use mlk_syntax::{Expr, SetArgument, Target, Variable};
 use mlk_walk_exprs::{
     Spot, Touch, Transfer, Walk, apply_to_states, covered_or, forget_captured, value, values,
 };
-use mlk_walk_variables::{capture_variable, change_local, change_locals, count_of};
 use std::alloc::AllocError;
 
 fn variable_in(target: &Target) -> &Variable

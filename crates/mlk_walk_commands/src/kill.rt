@@ -7,13 +7,13 @@ ghost use Rattle.mlk_walk_exprs.specs.Spots.{spot_of};
 ghost use Rattle.mlk_walk_exprs.specs.Walks.{Outcome};
 ghost use Rattle.mlk_walk_commands.specs.Arguments.{kill_row, kill_all_but, kill_argument};
 
+use crate::{capture_variable, change_all, change_local, in_order};
 use mlk_calls::State;
 use mlk_cert_parts::NameSet;
 use mlk_names::{Access, Extent};
 use mlk_syntax::{Expr, KillArgument, Variable};
 use mlk_text::{List, Name};
 use mlk_walk_exprs::{Spot, Touch, TouchLast, Transfer, Walk, apply_to_states};
-use mlk_walk_variables::{capture_variable, change_all, change_local, in_order};
 use std::alloc::AllocError;
 
 /// The KILL of a variable whose subscripts were captured last.

@@ -9,12 +9,12 @@ ghost use Rattle.mlk_walk_exprs.specs.Walks.{Outcome, each};
 ghost use Rattle.mlk_walk_commands.specs.News.{renewed, with_own, renew};
 ghost use Rattle.mlk_walk_commands.specs.Arguments.{new_all_but, new_argument};
 
+use crate::{in_order, put_own};
 use mlk_calls::{RefusedState, State, change_unchecked, mention_any};
 use mlk_cert_parts::{NameSet, Own, Shared};
 use mlk_syntax::NewArgument;
 use mlk_text::{Code, Column, Failure, List, Name, copy_of};
 use mlk_walk_exprs::{Mend, Note, Spot, Transfer, Walk, apply_to_states};
-use mlk_walk_variables::{in_order, put_own};
 use std::alloc::{AllocError, Global};
 
 // The state after NEW of `names`: refused if a held term mentions one of them. The summary need not list these changes.

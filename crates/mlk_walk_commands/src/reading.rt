@@ -10,12 +10,12 @@ ghost use Rattle.mlk_walk_commands.specs.Arguments.{in_time_or_not, read_row, re
 ghost use Rattle.mlk_walk_commands.specs.Arguments.{merge_from, merge_argument, write_argument};
 
 use crate::kill::Kill;
+use crate::{capture_variable, change_local, count_of};
 use mlk_calls::State;
 use mlk_cert_parts::Test;
 use mlk_names::{Access, Extent};
 use mlk_syntax::{Expr, MergeArgument, ReadArgument, Variable, WriteArgument};
 use mlk_walk_exprs::{Spot, Touch, TouchLast, Transfer, Walk, apply_to_states, value, value_if};
-use mlk_walk_variables::{capture_variable, change_local, count_of};
 use std::alloc::AllocError;
 
 // The end of a READ: with a timeout there is a state in which `$TEST` is 1, and one in which it is 0.

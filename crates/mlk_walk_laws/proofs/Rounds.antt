@@ -14,7 +14,7 @@ use Rattle.mlk_walk_exprs.specs.declared.walk.Fault.{Fault}
 use Rattle.mlk_walk_exprs.specs.Walks.{Outcome, put_states, with_states, few, each, begin}
 use Rattle.mlk_walk_exprs.specs.Spots.{Spot}
 use Rattle.mlk_walk_exprs.specs.Expressions.{value}
-use Rattle.mlk_walk_variables.specs.Variables.{change_at}
+use Rattle.mlk_walk_commands.specs.Variables.{change_at}
 use Rattle.mlk_walk_lines.specs.Loops.{Rounds, begin_round, round_or_after, after_round, step_variable, step_again, limited, parameter, parameters, controlled, and_faults, ended_in, quit_in, and_states, over_too, after_rounds, at_word, one_command, commands}
 use Rattle.mlk_walk_laws.specs.Fewer.{StatesDiffer, IsClean, IsPart, ListsEachOnce, FewerCases, EachAlone}
 use Rattle.mlk_walk_laws.proofs.Lists.{all_old, all_new, all_from, all_distinct, in_map}

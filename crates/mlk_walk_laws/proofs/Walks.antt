@@ -26,8 +26,8 @@ use Rattle.mlk_walk_exprs.specs.Walks.{all_placed, with_states, few, each}
 use Rattle.mlk_walk_exprs.specs.Spots.{Spot}
 use Rattle.mlk_walk_exprs.specs.References.{use_of, read_last}
 use Rattle.mlk_walk_exprs.specs.Expressions.{forget_subs, extrinsic, evaluate, evaluate_all, capture_subs, evaluate_links, evaluate_choices, capture_actual, capture_actuals, capture, by_condition, value, value_if, values, conditioned}
-use Rattle.mlk_walk_variables.specs.Variables.{subs_of, name_in, count_in, capture_variable}
-use Rattle.mlk_walk_locks.specs.Locks.{capture_names, known_names, lock_row, is_timed, lock_argument, release}
+use Rattle.mlk_walk_commands.specs.Variables.{subs_of, name_in, count_in, capture_variable}
+use Rattle.mlk_walk_commands.specs.Locks.{capture_names, known_names, lock_row, is_timed, lock_argument, release}
 use Rattle.mlk_walk_commands.specs.Arguments.{variable_in, arguments_in, capture_target, capture_targets, read_target, read_part, write_variable, assign, assign_all, set_argument, kill_row, kill_argument, new_argument, in_time_or_not, read_row, read_variable, read_argument, merge_from, merge_argument, write_argument, capture_given, given_in, do_row, forget_given, do_argument, job_row, job_argument, if_outcomes, if_argument, forget, count_targets}
 use Rattle.mlk_walk_lines.specs.Commands.{turn, in_turn, if_row, else_row, enters, enter_row, block_ends, some_enter, do_block, halt_row, quit_row, do_calls, if_all, kill_each, lock_each, new_each, act, stay, command}
 use Rattle.mlk_walk_laws.proofs.Lists.{all_distinct}

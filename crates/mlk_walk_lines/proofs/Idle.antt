@@ -26,8 +26,8 @@ use Rattle.mlk_walk_exprs.specs.Walks.{each, few, too_many, begin}
 use Rattle.mlk_walk_exprs.specs.Spots.{Spot}
 use Rattle.mlk_walk_exprs.specs.References.{use_of, read_last}
 use Rattle.mlk_walk_exprs.specs.Expressions.{by_condition, capture, forget_subs, extrinsic, evaluate, evaluate_all, capture_subs, evaluate_links, evaluate_choices, capture_actual, capture_actuals, value, value_if, values, conditioned}
-use Rattle.mlk_walk_variables.specs.Variables.{capture_variable, subs_of, name_in, count_in}
-use Rattle.mlk_walk_locks.specs.Locks.{capture_names, known_names, lock_row, is_timed, lock_argument}
+use Rattle.mlk_walk_commands.specs.Variables.{capture_variable, subs_of, name_in, count_in}
+use Rattle.mlk_walk_commands.specs.Locks.{capture_names, known_names, lock_row, is_timed, lock_argument}
 use Rattle.mlk_walk_commands.specs.Arguments.{variable_in, arguments_in, capture_targets, assign, assign_all, forget, count_targets, set_argument, kill_row, kill_argument, new_argument, in_time_or_not, read_row, read_variable, read_argument, merge_from, merge_argument, write_argument, given_in, do_row, forget_given, do_argument, job_row, job_argument, if_argument}
 use Rattle.mlk_walk_lines.specs.Commands.{in_turn, stay, do_block, act}
 use Rattle.mlk_walk_lines.specs.Loops.{Rounds, parameter, parameters, controlled, at_word, one_command, after_rounds, commands}

@@ -15,7 +15,7 @@ use Rattle.mlk_walk_exprs.specs.declared.spot.Block.{Block}
 use Rattle.mlk_walk_exprs.specs.Walks.{Outcome, Goes, Skips, Quits, Refused, each, few, put_states, with_states}
 use Rattle.mlk_walk_exprs.specs.Spots.{Spot}
 use Rattle.mlk_walk_exprs.specs.Expressions.{value, value_if, conditioned}
-use Rattle.mlk_walk_locks.specs.Locks.{lock_argument, release}
+use Rattle.mlk_walk_commands.specs.Locks.{lock_argument, release}
 use Rattle.mlk_walk_commands.specs.Arguments.{set_argument, kill_argument, kill_all_but, new_argument, new_all_but, read_argument}
 use Rattle.mlk_walk_commands.specs.Arguments.{merge_argument, write_argument, do_argument, job_argument, if_argument, if_outcomes}
 

@@ -17,7 +17,7 @@ use Rattle.mlk_walk_exprs.specs.declared.walk.Quit.{Quit}
 use Rattle.mlk_walk_exprs.specs.Walks.{Outcome, Goes, Refused, each, few, put_states, joined, with_states, begin}
 use Rattle.mlk_walk_exprs.specs.Spots.{Spot}
 use Rattle.mlk_walk_exprs.specs.Expressions.{value}
-use Rattle.mlk_walk_variables.specs.Variables.{change_at}
+use Rattle.mlk_walk_commands.specs.Variables.{change_at}
 use Rattle.mlk_walk_lines.specs.declared.rounds.Rounds.{Rounds as GivenRounds}
 use Rattle.mlk_walk_lines.specs.Commands.{command}
 

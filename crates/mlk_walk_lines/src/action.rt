@@ -19,9 +19,8 @@ use mlk_cert_parts::Test;
 use mlk_names::LockTerm;
 use mlk_syntax::{Action, DoArgument, Expr, KillArgument, LockArgument, NewArgument};
 use mlk_text::{Code, List};
-use mlk_walk_commands::{kill_all_but, new_all_but};
+use mlk_walk_commands::{Release, kill_all_but, new_all_but};
 use mlk_walk_exprs::{Mend, Note, Spot, Transfer, Walk, apply_to_states, value_if};
-use mlk_walk_locks::Release;
 use std::alloc::{AllocError, Global};
 
 // IF without arguments: if `$TEST` is 0, the rest of the line is skipped; if it is not known, both ways are taken, and it is

@@ -7,7 +7,7 @@ ghost use Rattle.mlk_syntax.specs.Views.{do_of, kill_of, lock_of, merge_of, new_
 ghost use Rattle.mlk_walk_exprs.specs.Spots.{spot_of};
 ghost use Rattle.mlk_walk_exprs.specs.Expressions as expressions;
 ghost use Rattle.mlk_walk_commands.specs.Arguments as row;
-ghost use Rattle.mlk_walk_locks.specs.Locks as locks;
+ghost use Rattle.mlk_walk_commands.specs.Locks as locks;
 ghost use Rattle.mlk_walk_lines.specs.Commands.{turn, in_turn};
 
 use mlk_syntax::{
@@ -15,11 +15,10 @@ use mlk_syntax::{
     SetArgument, WriteArgument,
 };
 use mlk_walk_commands::{
-    do_argument, if_argument, job_argument, kill_argument, merge_argument, new_argument,
-    read_argument, set_argument, write_argument,
+    do_argument, if_argument, job_argument, kill_argument, lock_argument, merge_argument,
+    new_argument, read_argument, set_argument, write_argument,
 };
 use mlk_walk_exprs::{Spot, Walk, value};
-use mlk_walk_locks::lock_argument;
 use std::alloc::AllocError;
 
 /// An argument of a command.

@@ -13,8 +13,8 @@ use mlk_calls::{State, is_listed};
 use mlk_cert_parts::{Case, NameSet};
 use mlk_syntax::Parameter;
 use mlk_text::{Code, Column, List};
+use mlk_walk_commands::Change;
 use mlk_walk_exprs::{Mend, Note, Spot, Transfer, Walk, apply_to_states, value};
-use mlk_walk_variables::Change;
 use std::alloc::{AllocError, Global};
 
 /// The rounds of a FOR, whose word is at the spot's column: its variable with the column of its name, the number of the FOR on

@@ -1,7 +1,7 @@
 use Rattle.std.proofs.Common.{map, subst, sym, refl, inl, inr}
 use Rattle.std.proofs.lemmas.Result.{IfOk-weaker, IfErr-weaker}
 use Rattle.mlk_syntax.specs.Views.{routine_of}
-use Rattle.mlk_soundness_walk.specs.Forms.{AreFormed}
+use Rattle.mlk_machine_laws.specs.WellFormed.{AreFormed}
 use Rattle.mlk_pool.specs.Errors.{error_of_routine}
 use Rattle.mlk_pool.specs.Headline.{RefusesTrees}
 use Rattle.mlk_pool.specs.Reading.{AreRead, RefusesFirst}

@@ -1,7 +1,7 @@
 use Rattle.std.proofs.Common.{◌∙◌, ap}
 use Rattle.mlk_walk_exprs.specs.Spots.{spot_of}
 use Rattle.mlk_walk_exprs.specs.Expressions.{values}
-use Rattle.mlk_walk_variables.specs.Variables.{capture_variable}
+use Rattle.mlk_walk_commands.specs.Variables.{capture_variable}
 use Rattle.mlk_walk_commands.proofs.Targets.{target_turn}
 use Rattle.mlk_walk_commands.proofs.assign.capture_targets.Goals as goal
 

@@ -8,7 +8,7 @@ use Rattle.mlk_walk_exprs.specs.Spots.{spot_of}
 use Rattle.mlk_walk_exprs.specs.Walks.{each}
 use Rattle.mlk_walk_exprs.specs.References.{touch}
 use Rattle.mlk_walk_commands.specs.Arguments.{symbols_at, write_variable}
-use Rattle.mlk_walk_variables.proofs.Steps.{carried}
+use Rattle.mlk_walk_commands.proofs.Steps.{carried}
 use Rattle.mlk_walk_commands.proofs.Written.{global_written}
 use Rattle.mlk_walk_commands.proofs.assign.write_in_each.Goals as goal
 

@@ -6,7 +6,7 @@ use Rattle.mlk_walk_exprs.specs.Spots.{spot_of}
 use Rattle.mlk_walk_exprs.specs.Expressions.{by_condition}
 use Rattle.mlk_walk_commands.specs.Arguments.{do_row, forget_given}
 use Rattle.mlk_walk_commands.proofs.Ways.{first_is_all, then_other}
-use Rattle.mlk_walk_variables.proofs.Steps.{carried}
+use Rattle.mlk_walk_commands.proofs.Steps.{carried}
 use Rattle.mlk_walk_commands.proofs.calling.call_where.Goals as goal
 
 pub returns-then-walk : goal.returns-then-walk

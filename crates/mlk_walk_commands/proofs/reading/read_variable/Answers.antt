@@ -6,7 +6,7 @@ use Rattle.mlk_walk_exprs.specs.Walks.{each}
 use Rattle.mlk_walk_exprs.specs.Spots.{spot_of}
 use Rattle.mlk_walk_exprs.specs.Expressions.{value_if}
 use Rattle.mlk_walk_commands.specs.Arguments.{in_time_or_not, read_row, read_variable}
-use Rattle.mlk_walk_variables.proofs.Steps.{carried}
+use Rattle.mlk_walk_commands.proofs.Steps.{carried}
 use Rattle.mlk_walk_commands.proofs.reading.read_variable.Goals as goal
 
 pub returns : goal.returns

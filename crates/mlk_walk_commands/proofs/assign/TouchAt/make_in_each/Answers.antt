@@ -4,7 +4,7 @@ use Rattle.mlk_walk_exprs.specs.Spots.{spot_of}
 use Rattle.mlk_walk_exprs.specs.References.{touch}
 use Rattle.mlk_walk_exprs.proofs.Passing.{all_touch}
 use Rattle.mlk_walk_commands.specs.Arguments.{symbols_at}
-use Rattle.mlk_walk_variables.proofs.Steps.{carried}
+use Rattle.mlk_walk_commands.proofs.Steps.{carried}
 use Rattle.mlk_walk_commands.proofs.assign.TouchAt.make_in_each.Goals as goal
 
 pub returns-then-are_covered : goal.returns-then-are_covered

@@ -1,6 +1,0 @@
-pub mod Opened
-pub mod Columns
-pub mod Alike
-pub mod Claiming
-pub mod LockExamples
-mod NameCounts

@@ -1,6 +1,0 @@
-use Rattle.std.proofs.Common.{◌≡◌, ◌++◌, map}
-use Rattle.mlk_walk_variables.specs.Order.{in_order}
-use Rattle.mlk_walk_variables.proofs.order.in_order.Given as goal
-
-abbrev pub invariant-loop-bytes : goal.invariant-loop-bytes
-invariant-loop-bytes l = l.found ++ map (λ k. k.items) l.bytes-iterator ≡ in_order l.names
