@@ -2,3 +2,4 @@ pub mod CallSteps
 pub mod Examples
 pub mod Copies
 pub mod BareExits
+pub mod Ordered

@@ -4,12 +4,11 @@ use crate::maker::{Ground, Maker};
 use crate::news::are_made_new;
 use crate::probe::{Probe, is_reached};
 use crate::walk::Site;
-use mlk_calls::{is_among, is_own};
+use mlk_calls::{in_order, is_among, is_own};
 use mlk_cert::{Case, NameSet, Own};
 use mlk_make_drafts::{At, Draft, rounds_in};
 use mlk_names::{KnownSym, LockTerm};
 use mlk_text::{List, Name};
-use mlk_walk_commands::in_order;
 use mlk_walk_exprs::Fault;
 use std::alloc::{AllocError, Global};
 

@@ -2,10 +2,10 @@
 
 ghost use Rattle.std.specs.Prelude.{◌≤◌, IfOk, length};
 
+use mlk_calls::in_order;
 use mlk_cert_lexemes::{Written, WrittenText};
 use mlk_cert_parts::{Case, NameSet, Test};
 use mlk_text::{List, Name};
-use mlk_walk_commands::in_order;
 use std::alloc::{AllocError, Global};
 
 fn text_of(alloc: Global, names: &[Name]) -> Result<Vec<u8>, AllocError> {

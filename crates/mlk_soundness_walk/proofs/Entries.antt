@@ -17,7 +17,7 @@ use Rattle.std.specs.declared.cmp.Ordering.{Ordering}
 use Rattle.std.specs.declared.cmp.Ordering.TheVariants.{Less, Equal, Greater}
 use Rattle.std.proofs.lemmas.Map.Text.{is_eq-slice_cmp}
 use Rattle.std.specs.List.{list_all}
-use Rattle.mlk_walk_commands.specs.Order.{put_names, in_order}
+use Rattle.mlk_calls.specs.Order.{put_names, in_order}
 use Rattle.mlk_walk.specs.Verdicts.{own_formal}
 use Rattle.mlk_program.specs.Entries.{lines_in}
 use Rattle.mlk_walk_state.specs.Cases.{pairwise}

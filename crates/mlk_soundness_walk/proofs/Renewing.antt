@@ -32,7 +32,8 @@ use Rattle.mlk_walk_exprs.specs.Walks.{Outcome, Goes, Refused, each, placed}
 use Rattle.mlk_walk_exprs.specs.declared.walk.Quit.{Quit}
 use Rattle.mlk_walk_commands.specs.Arguments.{new_all_but, new_argument}
 use Rattle.mlk_walk_commands.specs.News.{with_own, owned, renew}
-use Rattle.mlk_walk_commands.specs.Order.{in_order, is_before, put_own}
+use Rattle.mlk_calls.specs.Order.{in_order}
+use Rattle.mlk_walk_commands.specs.Order.{is_before, put_own}
 use Rattle.mlk_walk_lines.specs.Commands.{act}
 use Rattle.mlk_walk_laws.proofs.Walks.{new_keeps}
 use Rattle.mlk_soundness_machine.specs.Reads.{now}

@@ -27,7 +27,7 @@ use Rattle.mlk_walk_state.specs.Cases.{holds_some}
 use Rattle.mlk_walk_state.specs.Names.{is_among}
 use Rattle.mlk_walk_state.specs.Scope.{Scope, block_at, has_entry, is_declared}
 use Rattle.mlk_walk_state.specs.States.{at_rest}
-use Rattle.mlk_walk_commands.specs.Order.{in_order}
+use Rattle.mlk_calls.specs.Order.{in_order}
 use Rattle.mlk_walk_exprs.specs.declared.walk.Fault.{Fault}
 use Rattle.mlk_walk.specs.Verdicts.{known, begin_case, leaves_some}
 use Rattle.mlk_walk.specs.Reports.{report}

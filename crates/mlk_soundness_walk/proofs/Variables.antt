@@ -28,7 +28,7 @@ use Rattle.mlk_walk_exprs.specs.Spots.{Spot}
 use Rattle.mlk_walk_exprs.specs.Walks.{Outcome, Goes, Refused, each}
 use Rattle.mlk_walk_exprs.specs.declared.walk.Quit.{Quit}
 use Rattle.mlk_walk_commands.specs.Arguments.{kill_argument, kill_all_but, kill_row}
-use Rattle.mlk_walk_commands.specs.Order.{in_order}
+use Rattle.mlk_calls.specs.Order.{in_order}
 use Rattle.mlk_walk_commands.specs.Variables.{capture_variable, change_at}
 use Rattle.mlk_walk_lines.specs.Commands.{halt_row}
 use Rattle.mlk_walk_laws.proofs.Transfers.{each_keeps}

@@ -19,7 +19,7 @@ use Rattle.mlk_rules.specs.declared.rules.RuleLists.{RuleLists}
 use Rattle.mlk_walk_state.specs.Cases.{is_listed, holds_some}
 use Rattle.mlk_walk_state.specs.Scope.{Scope, certified, declared, block_at, listed, scope_with}
 use Rattle.mlk_calls.specs.Calls.{formals_in}
-use Rattle.mlk_walk_commands.specs.Order.{in_order}
+use Rattle.mlk_calls.specs.Order.{in_order}
 use Rattle.mlk_walk_exprs.specs.declared.walk.Fault.{Fault}
 use Rattle.mlk_walk_lines.specs.declared.found.LineFault.{LineFault}
 use Rattle.mlk_walk_lines.specs.Endings.{OfFrame, number_of}

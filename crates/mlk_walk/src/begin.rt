@@ -6,11 +6,10 @@ ghost use Rattle.mlk_walk_state.specs.Cases.{holds_some};
 ghost use Rattle.mlk_walk_state.specs.Scope.{scope_of};
 ghost use Rattle.mlk_walk.specs.Verdicts.{own_formal, begin_case, begin_faults, need_faults, leaves_some, exit_faults, own_faults};
 
-use mlk_calls::{Scope, is_listed};
+use mlk_calls::{Scope, in_order, is_listed};
 use mlk_cert_parts::{Case, ExitCase, NameSet, Own, Shared, Summary, Test};
 use mlk_names::LockTerm;
 use mlk_text::{Code, Column, LineNumber, Name};
-use mlk_walk_commands::in_order;
 use mlk_walk_exprs::{Fault, Faults, Mend, Note};
 use std::alloc::{AllocError, Global};
 

@@ -1,5 +1,4 @@
 pub mod OpenedVariables
-pub mod Ordered
 pub mod Steps
 pub mod LocalChanges
 pub mod Worked

@@ -20,7 +20,7 @@ use Rattle.mlk_walk_state.specs.Terms.{same_term}
 use Rattle.mlk_walk_state.specs.Names.{is_among, have, spares}
 use Rattle.mlk_walk_exprs.specs.declared.walk.Walk.{Walk}
 use Rattle.mlk_walk_exprs.specs.Walks.{begin}
-use Rattle.mlk_walk_commands.specs.Order.{in_order}
+use Rattle.mlk_calls.specs.Order.{in_order}
 use Rattle.mlk_walk_commands.specs.Arguments.{set_argument, kill_argument, new_argument, read_argument, merge_argument, write_argument}
 use Rattle.mlk_walk_commands.proofs.Worked.{name_x, of_x, of_one, whole, scope, spot_in, spot, x, local, y_of_one, account_tree, account, plain, case, holds, passes, refused}
 

@@ -23,7 +23,7 @@ use Rattle.mlk_walk_exprs.specs.References.{touch, touch_last}
 use Rattle.mlk_walk_exprs.specs.Expressions.{capture_actuals, value, value_if, values, conditioned}
 use Rattle.mlk_walk_commands.specs.Variables.{count_in, capture_variable, change_at, change_local}
 use Rattle.mlk_walk_commands.specs.News.{renew}
-use Rattle.mlk_walk_commands.specs.Order.{in_order}
+use Rattle.mlk_calls.specs.Order.{in_order}
 
 -- SET. The subscripts of all targets, and the further arguments of `$PIECE` and `$EXTRACT`, are evaluated where they are written.
 abbrev pub variable_in : TargetTree → VariableTree

@@ -7,8 +7,8 @@ ghost use Rattle.mlk_walk_exprs.specs.Spots.{spot_of};
 ghost use Rattle.mlk_walk_exprs.specs.Walks.{Outcome};
 ghost use Rattle.mlk_walk_commands.specs.Arguments.{kill_row, kill_all_but, kill_argument};
 
-use crate::{capture_variable, change_all, change_local, in_order};
-use mlk_calls::State;
+use crate::{capture_variable, change_all, change_local};
+use mlk_calls::{State, in_order};
 use mlk_cert_parts::NameSet;
 use mlk_names::{Access, Extent};
 use mlk_syntax::{Expr, KillArgument, Variable};

@@ -18,7 +18,7 @@ pub use condition::if_argument;
 pub use kill::{kill_all_but, kill_argument};
 pub use locks::{Release, lock_argument};
 pub use news::{new_all_but, new_argument};
-pub use order::{in_order, put_own};
+pub use order::put_own;
 pub use reading::{merge_argument, read_argument, write_argument};
 pub use variable::{
     Change, capture_variable, change_all, change_local, change_locals, count_of, subscripts_of,

@@ -9,8 +9,8 @@ ghost use Rattle.mlk_walk_exprs.specs.Walks.{Outcome, each};
 ghost use Rattle.mlk_walk_commands.specs.News.{renewed, with_own, renew};
 ghost use Rattle.mlk_walk_commands.specs.Arguments.{new_all_but, new_argument};
 
-use crate::{in_order, put_own};
-use mlk_calls::{RefusedState, State, change_unchecked, mention_any};
+use crate::put_own;
+use mlk_calls::{RefusedState, State, change_unchecked, in_order, mention_any};
 use mlk_cert_parts::{NameSet, Own, Shared};
 use mlk_syntax::NewArgument;
 use mlk_text::{Code, Column, Failure, List, Name, copy_of};

@@ -3,7 +3,7 @@ use Rattle.mlk_cert_parts.specs.declared.names.NameSet.TheVariants.{AllBut}
 use Rattle.mlk_walk_exprs.specs.Walks.{each}
 use Rattle.mlk_walk_exprs.specs.Spots.{spot_of}
 use Rattle.mlk_walk_commands.specs.Variables.{change_at}
-use Rattle.mlk_walk_commands.specs.Order.{in_order}
+use Rattle.mlk_calls.specs.Order.{in_order}
 use Rattle.mlk_walk_commands.specs.Arguments.{kill_all_but}
 use Rattle.mlk_walk_commands.proofs.Steps.{carried}
 use Rattle.mlk_walk_commands.proofs.kill.kill_all_but.Goals as goal

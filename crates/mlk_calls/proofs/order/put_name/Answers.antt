@@ -2,8 +2,8 @@ use Rattle.std.proofs.Common.{◌∙◌, ap, map}
 use Rattle.std.specs.BTreeSet.{insert_key}
 use Rattle.std.specs.Ordering.{nat_cmp}
 use Rattle.std.specs.Cmp.Lexicographic.{slice_cmp}
-use Rattle.mlk_walk_commands.proofs.Ordered.{bytes_in, put_bytes}
-use Rattle.mlk_walk_commands.proofs.order.put_name.Goals as goal
+use Rattle.mlk_calls.proofs.Ordered.{bytes_in, put_bytes}
+use Rattle.mlk_calls.proofs.order.put_name.Goals as goal
 
 pub returns : goal.returns
 returns c = ap (map bytes_in) c.in_ok-insert.ensures.keys
