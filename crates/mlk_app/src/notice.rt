@@ -2,8 +2,8 @@
 
 use crate::refused::refusal_code;
 use mlk_cli::ProgramRequest;
+use mlk_forms::{Notice, NoticePlace};
 use mlk_outcome::NoReport;
-use mlk_output::{Notice, NoticePlace};
 use mlk_refusal_text::{GivenFile, Spot};
 
 // A place in the file at a path.

@@ -20,11 +20,10 @@ use mlk_cert::{CertFormat, Certificate, read_cert};
 use mlk_cli::{Asked, Output, ProgramRequest, ReportStyle};
 use mlk_coverage::{Coverage, coverage_of};
 use mlk_explain::{Grounds, free_reads};
-use mlk_forms::{Explanations, render_report};
+use mlk_forms::{Explanations, ReportSources, render_report};
 use mlk_outcome::{
     NoReport, Showing, certificate_for, certificate_text, jobs_text, report_by_certificate,
 };
-use mlk_output::ReportSources;
 use mlk_pool::{ReportText, read_routines};
 use mlk_program::{Program, link};
 use mlk_replay_text::ShownRoutine;

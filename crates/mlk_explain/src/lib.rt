@@ -10,6 +10,6 @@ mod trail;
 
 pub use faults::{ExplainedAs, ExplainedFaults};
 pub use mlk_explain_origins::Grounds;
-pub use mlk_explain_rules::free_reads;
+pub use mlk_explain_rules::{RuleFile, free_reads};
 pub use report::{explained_rows, explained_rows_at, notes_below, stories_at, stories_of};
 pub use story::{OriginStory, Story, WayPoint};

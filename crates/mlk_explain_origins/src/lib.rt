@@ -11,6 +11,7 @@ mod weakened;
 
 pub use ask::{Ask, may_change, named_need, need_like};
 pub use grounds::Grounds;
+pub use mlk_walk::{Checks, Row};
 pub use nearby::{LockEvent, LockEvents, events_near, has_root};
 pub use origin::{Origin, Trail, origins_of, trail_of};
 pub use routine::{Mark, RoutineFacts};

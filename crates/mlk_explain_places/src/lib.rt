@@ -9,6 +9,7 @@ mod place;
 mod reason;
 
 pub use line::{push_line, push_source};
+pub use mlk_explain_origins::Mark;
 pub use names::{function_before, push_front, root_of};
 pub use phrase::{Part, Phrase, phrase_text, push_entry};
 pub use place::{FaultPlace, LockSet, missing_in};

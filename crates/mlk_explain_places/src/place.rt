@@ -3,14 +3,13 @@
 use crate::names::{is_named_by, is_written, name_at, root_of};
 use crate::reason::{Reason, reason_at};
 use mlk_cert_parts::{Summary, Test};
-use mlk_explain_origins::{Grounds, Mark, RoutineFacts, has_root, may_change};
+use mlk_explain_origins::{Checks, Grounds, Mark, RoutineFacts, Row, has_root, may_change};
 use mlk_names::{KnownSym, LockName, LockTerm, prefix};
 use mlk_program::EntryId;
 use mlk_rules::{Cover, ReadPolicy, rank_of};
 use mlk_survey_trees::Usage;
 use mlk_syntax::{Expr, Subscript, Variable};
 use mlk_text::Root;
-use mlk_walk::{Checks, Row};
 use mlk_walk_exprs::{Fault, Mend, Note};
 
 /// Which locks are meant.

@@ -1,10 +1,9 @@
 // Why a lock is not held at a place, as far as the text of the routine shows.
 
 use mlk_cert_parts::Test;
-use mlk_explain_origins::{LockEvent, LockEvents, RoutineFacts, events_near};
+use mlk_explain_origins::{Checks, LockEvent, LockEvents, RoutineFacts, events_near};
 use mlk_program::EntryId;
 use mlk_text::{LineNumber, Root};
-use mlk_walk::Checks;
 use mlk_walk_exprs::Fault;
 
 /// Why a lock is not held at a place, with the line that says so.

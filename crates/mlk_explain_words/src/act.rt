@@ -1,8 +1,7 @@
 // What was about to happen where a fault was found.
 
-use mlk_explain_origins::Mark;
 use mlk_explain_places::Part::{Locks, MendLocals, MendRank, Name, OfRank, Root, Subscript, Words};
-use mlk_explain_places::{FaultPlace, LockSet, Phrase, function_before};
+use mlk_explain_places::{FaultPlace, LockSet, Mark, Phrase, function_before};
 use mlk_survey_trees::Usage;
 use mlk_text::Code;
 use mlk_walk_exprs::Mend;

@@ -1,11 +1,10 @@
 // What mends a fault.
 
 use bstr::ByteSlice;
-use mlk_explain_origins::Mark;
 use mlk_explain_places::Part::{
     Callee, Entry, Locks, MendLine, MendLocals, MendRank, Name, ReasonLine, Root, Subscript, Words,
 };
-use mlk_explain_places::{FaultPlace, LockSet, Phrase, Reason, function_before};
+use mlk_explain_places::{FaultPlace, LockSet, Mark, Phrase, Reason, function_before};
 use mlk_text::Code;
 use mlk_walk_exprs::Mend;
 

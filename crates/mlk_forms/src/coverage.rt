@@ -1,7 +1,7 @@
 // How much a report is about, as notes below its answer.
 
 use mlk_coverage::{Coverage, RuleId, RuleKind, RuleUse, UnreachedLabel};
-use mlk_explain_rules::RuleFile;
+use mlk_explain::RuleFile;
 use mlk_report_text::Piece::{Bytes, Number, Words};
 use mlk_report_text::push_all;
 use std::alloc::{AllocError, Global};

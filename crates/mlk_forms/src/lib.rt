@@ -11,6 +11,7 @@ mod shown;
 mod survey;
 mod warning;
 
+pub use mlk_output::{Notice, NoticePlace, ReportSources};
 pub use notice::{render_given_up, render_notice};
 pub use page::render_pages;
 pub use report::{Explanations, PrintedReport, render_report};

@@ -1,7 +1,7 @@
 // How much a report is about, as JSON.
 
 use mlk_coverage::{Coverage, RuleId, RuleKind, RuleUse, Share, UnreachedLabel};
-use mlk_explain_rules::RuleFile;
+use mlk_explain::RuleFile;
 use mlk_report_text::{Field, object};
 use serde_json::Value;
 use std::alloc::{AllocError, Global};

@@ -3,6 +3,8 @@
 
 mod folder;
 mod progress;
+#[cfg(test)]
+mod tests;
 
 use crate::folder::{is_folder, routines_below};
 use crate::progress::Progress;
