@@ -5,7 +5,7 @@ use Rattle.mlk_text.specs.declared.fault.Fault.{Fault}
 use Rattle.mlk_cli.specs.declared.words.Request.TheVariants as request
 use Rattle.mlk_cli.specs.declared.words.StubsRequest.{StubsRequest}
 use Rattle.mlk_cli.specs.CommandLine.{bytes_of}
-use Rattle.mlk_pool.specs.declared.source.Source.{Source}
+use Rattle.mlk_reading.specs.declared.source.Source.{Source}
 use Rattle.mlk_app.specs.declared.answer.Answer.{Answer}
 use Rattle.mlk_app.specs.declared.answer.Answer.TheVariants as answer
 use Rattle.mlk_app.specs.declared.source.FileError.TheVariants as error

@@ -7,7 +7,7 @@ use Rattle.mlk_cli.specs.declared.words.SuggestRequest.{SuggestRequest}
 use Rattle.mlk_cli.specs.CommandLine.{bytes_of}
 use Rattle.mlk_rules_file.specs.declared.read.fault.RulesFault.{RulesFault}
 use Rattle.mlk_rules_file.specs.RuleSections.{RefusesRules}
-use Rattle.mlk_pool.specs.declared.source.Source.{Source}
+use Rattle.mlk_reading.specs.declared.source.Source.{Source}
 use Rattle.mlk_app.specs.declared.answer.Answer.{Answer}
 use Rattle.mlk_app.specs.declared.answer.Answer.TheVariants as answer
 use Rattle.mlk_app.specs.declared.source.FileError.TheVariants as error

@@ -2,7 +2,7 @@
 use Rattle.std.specs.Prelude.{ℕ, ◌≡◌, ◌+◌, min, List, [], ◌∷◌, Option, None, Some, option_map}
 use Rattle.mlk_dialect.specs.declared.dialect.Dialect.{Dialect}
 use Rattle.mlk_dialect.specs.declared.dialect.Dialect.TheVariants as dialect
-use Rattle.mlk_pool.specs.declared.source.Source.{Source}
+use Rattle.mlk_reading.specs.declared.source.Source.{Source}
 use Rattle.mlk_dialect.specs.Plain.{plain, inert}
 use Rattle.mlk_app.specs.declared.dialect.PlainSources.{PlainSources}
 use Rattle.mlk_app.specs.declared.source.Sources.{Sources}

@@ -12,7 +12,7 @@ use Rattle.mlk_machine_locks.specs.declared.refusal.Refusal.TheVariants as cant
 use Rattle.mlk_machine.specs.declared.fault.EventsFault.{EventsFault}
 use Rattle.mlk_machine.specs.declared.fault.EventsRefusal.{EventsRefusal}
 use Rattle.mlk_machine.specs.declared.fault.EventsRefusal.TheVariants as why
-use Rattle.mlk_pool.specs.Texts.{space, line_end, code_text, place_text}
+use Rattle.mlk_plain_report.specs.Texts.{space, line_end, code_text, place_text}
 use Rattle.mlk_rules_file.specs.RuleAnswers.{section_word}
 use Rattle.mlk_walk_exprs.specs.declared.walk.Fault.{Fault as WalkFault}
 use Rattle.mlk_baseline.specs.declared.baseline.BaselineFault.{BaselineFault}

@@ -12,7 +12,7 @@ use Rattle.mlk_program.specs.Program.{IsProgram}
 use Rattle.mlk_rules.specs.declared.rules.RuleLists.{RuleLists}
 use Rattle.mlk_rules_file.specs.RuleSections.{SaysRules}
 use Rattle.mlk_cli.specs.declared.words.ProgramRequest.{ProgramRequest}
-use Rattle.mlk_pool.specs.Reading.{AreRead}
+use Rattle.mlk_reading.specs.Reading.{AreRead}
 use Rattle.mlk_app.specs.declared.source.Sources.{Sources}
 use Rattle.mlk_pool.specs.Headline.{RefusesTexts}
 use Rattle.mlk_outcome.specs.declared.refusal.NoReport.{NoReport}

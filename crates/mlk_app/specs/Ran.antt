@@ -28,7 +28,7 @@ use Rattle.mlk_app.specs.declared.answer.Answer.TheVariants as answer
 use Rattle.mlk_app.specs.declared.source.Sources.{Sources}
 use Rattle.mlk_app.specs.declared.source.Work.{Work}
 use Rattle.mlk_app.specs.declared.source.Work.TheVariants as work
-use Rattle.mlk_pool.specs.declared.source.Source.{Source}
+use Rattle.mlk_reading.specs.declared.source.Source.{Source}
 use Rattle.std.specs.Borrow.{Bor}
 use Rattle.mlk_rules_file.specs.declared.read.fault.RulesFault.{RulesFault}
 use Rattle.mlk_suggest_text.specs.RuleTexts.{IsRuleText}
@@ -50,7 +50,7 @@ use Rattle.mlk_rules.specs.declared.rules.RuleLists.{RuleLists}
 use Rattle.mlk_rules_file.specs.RuleSections.{SaysRules, RefusesRules}
 use Rattle.mlk_cert_parts.specs.declared.block.EntryCert.{EntryCert}
 use Rattle.mlk_cert.specs.Theorem.{Spells}
-use Rattle.mlk_pool.specs.Reading.{AreRead}
+use Rattle.mlk_reading.specs.Reading.{AreRead}
 use Rattle.mlk_pool.specs.Headline.{IsReportBy, RefusesReport, RefusesByText, RefusesTexts}
 use Rattle.mlk_outcome.specs.Making.{IsMade, IsUnmade}
 use Rattle.mlk_outcome.specs.Replaying.{IsReplayed, IsUnreplayed}

@@ -4,7 +4,7 @@ ghost use Rattle.std.specs.Prelude.{◌≡◌, ◌⊎◌, OnOk};
 ghost use Rattle.std.specs.Io.KnownBytes.{Appends};
 ghost use Rattle.mlk_app.specs.Ran.{IsRefusalSaid, IsSaid};
 
-use mlk_pool::ReportText;
+use mlk_plain_report::ReportText;
 use std::io::{self, Write};
 
 pub(crate) const YES: u8 = 0;

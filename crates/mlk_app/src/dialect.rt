@@ -5,7 +5,7 @@ ghost use Rattle.mlk_dialect.specs.Plain.{inert};
 ghost use Rattle.mlk_app.specs.Dialects.{IsPlain, ArePlain, ArePlainIn, inert_of};
 
 use mlk_dialect::{Dialect, PlainText, plain_text};
-use mlk_pool::Source;
+use mlk_reading::Source;
 use std::alloc::{AllocError, Global};
 
 /// Routines with their plain texts.

@@ -9,7 +9,7 @@ use mlk_baseline::BaselineFault;
 use mlk_cert::CertFault;
 use mlk_machine::{EventsFault, EventsRefusal};
 use mlk_machine_locks::Refusal;
-use mlk_pool::ReportText;
+use mlk_plain_report::ReportText;
 use mlk_report_text::Piece::{At, Bytes, CodeName, Made, Number, Words};
 use mlk_report_text::{Piece, text_of};
 use mlk_rules_file::RulesFault;

@@ -37,7 +37,9 @@ use mlk_cli::{
 };
 use mlk_forms::{render_pages, render_survey};
 use mlk_outcome::{NoReport, convert};
-use mlk_pool::{CheckError, ReportText, Source};
+use mlk_plain_report::ReportText;
+use mlk_pool::CheckError;
+use mlk_reading::Source;
 use mlk_refusal_text::Spot;
 use mlk_text::Failure;
 use mlk_watch::{Runner, Watch};

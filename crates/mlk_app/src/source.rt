@@ -12,7 +12,7 @@ use crate::dialect::{PlainSources, plain_in};
 use mlk_cert::CertFormat;
 use mlk_cli::{Asked, Format, ProgramRequest};
 use mlk_dialect::Dialect;
-use mlk_pool::Source;
+use mlk_reading::Source;
 use mlk_suggest_read::RoutineText;
 use mlk_text::push_sparing;
 use std::alloc::{AllocError, Global};

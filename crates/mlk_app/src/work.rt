@@ -24,8 +24,9 @@ use mlk_forms::{Explanations, ReportSources, render_report};
 use mlk_outcome::{
     NoReport, Showing, certificate_for, certificate_text, jobs_text, report_by_certificate,
 };
-use mlk_pool::{ReportText, read_routines};
+use mlk_plain_report::ReportText;
 use mlk_program::{Program, link};
+use mlk_reading::read_routines;
 use mlk_replay_text::ShownRoutine;
 use mlk_rules::Rules;
 use mlk_rules_file::read_rules;

@@ -2,7 +2,7 @@
 use Rattle.std.proofs.Common.{◌≡◌, ◌++◌, ℕ, zero, suc, List, [], ◌∷◌, Some, None, refl, codes}
 use Rattle.std.specs.Fmt.{decimal}
 use Rattle.mlk_walk.specs.declared.report.Row.{Row}
-use Rattle.mlk_pool.specs.Texts.{last_line, line_end}
+use Rattle.mlk_plain_report.specs.Texts.{last_line, line_end}
 use Rattle.mlk_forms.specs.Rendering.{answer_line, known_line, rests_line}
 
 pub answer_known : (known : ℕ) (rows : List Row) → (known ≡ 0 → ⊥) → rows ≡ [] → answer_line known rows ≡ known_line known

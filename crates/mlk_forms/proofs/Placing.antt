@@ -4,7 +4,7 @@ use Rattle.std.specs.Prelude.{IfOk}
 use Rattle.std.proofs.lemmas.List.{drop_all, drop_more}
 use Rattle.mlk_syntax.specs.Trees.{RoutineTree}
 use Rattle.mlk_walk.specs.declared.report.Row.{Row}
-use Rattle.mlk_pool.specs.Texts.{row_line}
+use Rattle.mlk_plain_report.specs.Texts.{row_line}
 use Rattle.mlk_forms.specs.Rendering.{ArePlaced, IsPlace}
 
 pub if-ok : {X E : Type 0} (r : Result X E) (P Q : X → Type 0) → ((x : X) → P x → Q x) → IfOk r P → IfOk r Q

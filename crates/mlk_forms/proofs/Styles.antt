@@ -9,7 +9,7 @@ use Rattle.mlk_walk.specs.declared.report.Row.{Row}
 use Rattle.mlk_hazards.specs.declared.hazard.HazardAt.{HazardAt}
 use Rattle.mlk_cli.specs.declared.words.Output.TheVariants.{Text}
 use Rattle.mlk_cli.specs.declared.words.ReportStyle.{ReportStyle}
-use Rattle.mlk_pool.specs.Texts.{report_text}
+use Rattle.mlk_plain_report.specs.Texts.{report_text}
 use Rattle.mlk_coverage.specs.declared.gap.Gap.{Gap}
 use Rattle.mlk_forms.proofs.Answering.{no_rests}
 use Rattle.mlk_forms.specs.Rendering.{AreBelow, IsRendered, gap_lines, passes, printed_rows, rests_line, warning_lines}

@@ -15,7 +15,7 @@ use Rattle.mlk_coverage.specs.Words.{gap_word, kind_word}
 use Rattle.mlk_cli.specs.declared.words.Output.{Output}
 use Rattle.mlk_cli.specs.declared.words.Output.TheVariants.{Text, Json, Sarif, Lines}
 use Rattle.mlk_cli.specs.declared.words.ReportStyle.{ReportStyle}
-use Rattle.mlk_pool.specs.Texts.{row_line, row_lines, last_line, place_text, space, line_end}
+use Rattle.mlk_plain_report.specs.Texts.{row_line, row_lines, last_line, place_text, space, line_end}
 use Rattle.mlk_output.specs.Documents.{IsJsonReport, IsSarifReport, known_in}
 
 -- the rows with these numbers, counted from 0

@@ -4,7 +4,7 @@ ghost use Rattle.std.specs.Prelude.{◌≡◌, ◌++◌, IfOk, OnOk};
 ghost use Rattle.mlk_forms.specs.Rendering.{AreBelow, AreGone, answer_line, known_line, rests_line};
 
 use mlk_baseline::{Comparison, GoneFault};
-use mlk_pool::{ReportText, push_answer};
+use mlk_plain_report::{ReportText, push_answer};
 use mlk_report_text::Piece::{Bytes, Number, Words};
 use mlk_report_text::push_all;
 use mlk_walk::Row;

@@ -1,13 +1,13 @@
 // Refusals in the form that is asked for.
 
 ghost use Rattle.std.specs.Prelude.{◌≡◌, ◌++◌, IfOk, string_bytes};
-ghost use Rattle.mlk_pool.specs.Texts.{line_end};
+ghost use Rattle.mlk_plain_report.specs.Texts.{line_end};
 ghost use Rattle.mlk_forms.specs.Rendering.{IsNoticed};
 
 use mlk_cli::Output;
 use mlk_explain::ExplainedFaults;
 use mlk_output::{Notice, ReportSources, given_up_json, given_up_sarif, notice_json, notice_sarif};
-use mlk_pool::ReportText;
+use mlk_plain_report::ReportText;
 use std::alloc::{AllocError, Global};
 
 /// Writes what is printed of a refusal beside the line on the error stream: nothing if text is asked for.

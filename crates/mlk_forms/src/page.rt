@@ -1,7 +1,7 @@
 // Pages of codes.
 
 use mlk_code_pages::{Page, codes_named, page_of};
-use mlk_pool::ReportText;
+use mlk_plain_report::ReportText;
 use mlk_report_text::Piece::{CodeName, Made, Words};
 use mlk_report_text::push_all;
 use std::alloc::{AllocError, Global};

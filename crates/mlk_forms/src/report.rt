@@ -20,7 +20,7 @@ use mlk_explain::{
     stories_of,
 };
 use mlk_output::{Findings, ReportSources, known_in, report_json, report_sarif};
-use mlk_pool::ReportText;
+use mlk_plain_report::ReportText;
 use mlk_program::Program;
 use mlk_walk::{Report, Row};
 use std::alloc::{AllocError, Global};

@@ -2,11 +2,11 @@
 
 ghost use Rattle.std.specs.Prelude.{◌≡◌, ◌++◌, IfOk, OnOk, map};
 ghost use Rattle.mlk_syntax.specs.Views.{routine_of};
-ghost use Rattle.mlk_pool.specs.Texts.{entry_text, row_line, row_lines};
+ghost use Rattle.mlk_plain_report.specs.Texts.{entry_text, row_line, row_lines};
 ghost use Rattle.mlk_forms.specs.Rendering.{ArePlaced, IsPlace};
 
 use mlk_output::ReportSources;
-use mlk_pool::ReportText;
+use mlk_plain_report::ReportText;
 use mlk_program::{EntryId, Program};
 use mlk_report_text::Piece::{At, Bytes, CodeName, Words};
 use mlk_report_text::text_of;

@@ -4,7 +4,8 @@ ghost use Rattle.std.specs.Prelude.{◌≡◌, ◌+◌, IfOk, length};
 
 use crate::notice::with_end;
 use mlk_cli::SurveyOutput;
-use mlk_pool::{ReportText, Source};
+use mlk_plain_report::ReportText;
+use mlk_reading::Source;
 use mlk_survey::{Facts, survey};
 use mlk_survey_reading::read_all_lines;
 use mlk_survey_text::{survey_json, survey_text};

@@ -6,7 +6,7 @@ ghost use Rattle.mlk_forms.specs.Rendering.{AreGaps, AreReported, gap_line, gap_
 use mlk_coverage::{Coverage, Gap, GapPlace, gaps_of};
 use mlk_explain::Grounds;
 use mlk_hazards::{Hazard, HazardAt, hazards_of};
-use mlk_pool::ReportText;
+use mlk_plain_report::ReportText;
 use mlk_report_text::Piece::{At, Bytes, Made, Number, Words};
 use mlk_report_text::text_of;
 use mlk_stale::stale_writes;

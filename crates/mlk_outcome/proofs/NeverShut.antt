@@ -11,7 +11,7 @@ use Rattle.mlk_cert_parts.specs.declared.block.EntryCert.{EntryCert}
 use Rattle.mlk_machine.specs.declared.fault.EventsFault.{EventsFault}
 use Rattle.mlk_make.specs.declared.stop.MakeError.{MakeError}
 use Rattle.mlk_make.specs.declared.stop.MakeError.TheVariants as unmade
-use Rattle.mlk_pool.specs.declared.source.Source.{Source}
+use Rattle.mlk_reading.specs.declared.source.Source.{Source}
 use Rattle.mlk_pool.specs.declared.error.CheckError.{CheckError}
 use Rattle.mlk_pool.specs.declared.error.CheckError.TheVariants as error
 use Rattle.mlk_pool.specs.Errors.{error_of_routine, error_of_rules, error_of_certificate}

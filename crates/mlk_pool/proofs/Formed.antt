@@ -2,8 +2,8 @@
 use Rattle.std.proofs.Common.{◌≡◌, List, [], ◌∷◌, subst, ⊎_elim, arith}
 use Rattle.std.specs.Prelude.{Contains}
 use Rattle.mlk_syntax.specs.Trees.{RoutineTree}
-use Rattle.mlk_pool.specs.declared.source.Source.{Source}
-use Rattle.mlk_pool.specs.Reading.{AreRead}
+use Rattle.mlk_reading.specs.declared.source.Source.{Source}
+use Rattle.mlk_reading.specs.Reading.{AreRead}
 use Rattle.mlk_names.proofs.ListLemmas.{contains_cases}
 use Rattle.mlk_machine_laws.specs.WellFormed.{IsWellFormed}
 use Rattle.mlk_routine_laws.proofs.ReadTrees.{well-formed}

@@ -1,11 +1,7 @@
-mod Chunks
-mod Firsts
 pub mod Formed
 mod Histories
 mod NextSlots
 pub mod PassedOn
-mod Printing
 mod Runs
-mod Sends
 mod Slots
 pub mod Unread

@@ -7,8 +7,8 @@ use Rattle.mlk_text.specs.declared.fault.Fault.{Fault}
 use Rattle.mlk_text.specs.declared.failure.Failure.{Failure}
 use Rattle.mlk_text.specs.Failures.{IfRefused}
 use Rattle.mlk_syntax.specs.Trees.{RoutineTree}
-use Rattle.mlk_pool.specs.declared.source.Source.{Source}
-use Rattle.mlk_pool.specs.Reading.{AreRead, RefusesFirst}
+use Rattle.mlk_reading.specs.declared.source.Source.{Source}
+use Rattle.mlk_reading.specs.Reading.{AreRead, RefusesFirst}
 use Rattle.mlk_program.specs.Program.{IsProgram, IsLinkFault}
 use Rattle.mlk_rules.specs.declared.rules.RuleLists.{RuleLists}
 use Rattle.mlk_rules_file.specs.RuleSections.{SaysRules, RefusesRules}

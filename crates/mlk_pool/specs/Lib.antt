@@ -1,5 +1,3 @@
-pub mod Reading
-pub mod Answers
 pub mod Given
 pub mod Shown
 pub mod Histories
@@ -8,4 +6,3 @@ pub mod Refusals
 pub mod Errors
 pub mod Headline
 pub mod Stages
-pub mod Texts

@@ -9,11 +9,10 @@ ghost use Rattle.mlk_pool.specs.Stages.{IsReportOfTrees, IsUnreportedOfTrees};
 
 use crate::error::{CheckError, entry_missing};
 use crate::gate::Gate;
-use crate::reading::read_routines;
 use crate::report::report_by;
-use crate::source::Source;
 use mlk_cert::{Certificate, read_cert};
 use mlk_program::{Program, link};
+use mlk_reading::{Source, read_routines};
 use mlk_rules::Rules;
 use mlk_rules_file::read_rules;
 use mlk_syntax::Routine;

@@ -2,10 +2,10 @@
 
 ghost use Rattle.std.specs.Prelude.{IfOk};
 ghost use Rattle.std.specs.List.{AllZip};
-ghost use Rattle.mlk_pool.specs.Answers.{IsAnswer};
+ghost use Rattle.mlk_reading.specs.Answers.{IsAnswer};
 
 use crate::rest::Rest;
-use mlk_pool::{Source, read_each};
+use mlk_reading::{Source, read_each};
 use mlk_syntax::Routine;
 use mlk_text::{Failure, Fault};
 use mlk_watch::{Runner, Watch};

@@ -1,7 +1,7 @@
 // What is left of a text behind a line that is refused.
 
 use mlk_dialect::Dialect;
-use mlk_pool::Source;
+use mlk_reading::Source;
 use mlk_text::{Code, Fault, LineNumber, Place};
 use std::alloc::{AllocError, Global};
 

@@ -1,6 +1,6 @@
 use Rattle.std.proofs.Common.{◌∙◌, ◌+◌, ap, rules, subst}
 use Rattle.std.specs.Prelude.{min}
-use Rattle.mlk_pool.specs.declared.source.Source.{Source}
+use Rattle.mlk_reading.specs.declared.source.Source.{Source}
 use Rattle.mlk_dialect.specs.Plain.{inert}
 use Rattle.mlk_app.specs.Dialects.{IsPlain}
 use Rattle.mlk_app.proofs.Dialects.{plain-more, plain-all, inert-more, inert-all}

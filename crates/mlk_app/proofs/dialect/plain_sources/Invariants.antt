@@ -1,6 +1,6 @@
 use Rattle.std.proofs.Common.{◌≡◌, ◌+◌, ◌++◌, ◌≤◌, List, drop}
 use Rattle.std.specs.Prelude.{min}
-use Rattle.mlk_pool.specs.declared.source.Source.{Source}
+use Rattle.mlk_reading.specs.declared.source.Source.{Source}
 use Rattle.mlk_app.specs.Dialects.{ArePlain, inert_of}
 use Rattle.mlk_app.proofs.dialect.plain_sources.Given as goal
 

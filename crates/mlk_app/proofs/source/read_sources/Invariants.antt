@@ -1,5 +1,5 @@
 use Rattle.std.proofs.Common.{◌++◌, List, drop, take}
-use Rattle.mlk_pool.specs.declared.source.Source.{Source}
+use Rattle.mlk_reading.specs.declared.source.Source.{Source}
 use Rattle.mlk_app.specs.Files.{AreSources, AreHeld}
 use Rattle.mlk_cli.specs.CommandLine.{bytes_of}
 use Rattle.mlk_app.proofs.source.read_sources.Given as goal

@@ -4,7 +4,7 @@ use Rattle.mlk_syntax.specs.Views.{routine_of}
 use Rattle.mlk_machine_laws.specs.WellFormed.{AreFormed}
 use Rattle.mlk_pool.specs.Errors.{error_of_routine}
 use Rattle.mlk_pool.specs.Headline.{RefusesTrees}
-use Rattle.mlk_pool.specs.Reading.{AreRead, RefusesFirst}
+use Rattle.mlk_reading.specs.Reading.{AreRead, RefusesFirst}
 use Rattle.mlk_pool.proofs.Formed.{read_formed}
 use Rattle.mlk_pool.proofs.PassedOn.{passed-on}
 use Rattle.mlk_outcome.specs.declared.refusal.NoReport.TheVariants as refusal

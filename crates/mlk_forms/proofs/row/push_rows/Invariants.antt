@@ -1,6 +1,6 @@
 use Rattle.std.proofs.Common.{◌≡◌, ◌++◌, map, drop}
 use Rattle.mlk_syntax.specs.Views.{routine_of}
-use Rattle.mlk_pool.specs.Texts.{row_lines}
+use Rattle.mlk_plain_report.specs.Texts.{row_lines}
 use Rattle.mlk_forms.proofs.row.push_rows.Given as goal
 
 abbrev pub invariant-loop-row : goal.invariant-loop-row

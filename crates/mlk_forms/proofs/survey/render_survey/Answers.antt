@@ -1,7 +1,7 @@
 use Rattle.std.proofs.Common.{◌∙◌, ap, length}
 use Rattle.std.proofs.lemmas.Result.{IfOk-weaker}
 use Rattle.std.proofs.lemmas.Slice.Zip.{AllZip-long}
-use Rattle.mlk_pool.specs.Answers.{IsAnswer}
+use Rattle.mlk_reading.specs.Answers.{IsAnswer}
 use Rattle.mlk_forms.proofs.survey.render_survey.Goals as goal
 
 pub returns : goal.returns

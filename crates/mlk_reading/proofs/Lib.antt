@@ -1,0 +1,3 @@
+mod Chunks
+mod Firsts
+mod Sends
