@@ -61,7 +61,7 @@ pub(crate) fn without_names(names: &[Variable], state: State) -> State
     state
 }
 
-#[tactic(auto, using(crate::proofs::Opened::local_unknown))]
+#[tactic(auto, using(crate::proofs::OpenedLocks::local_unknown))]
 fn unknown_code(spot: &Spot, state: &State, subscript: &Expr) -> Code
     ensures { result ≡ unknown_code ((spot_of spot.now).scope.is_shared state.now.case.own) (tree_of subscript.now) }
 {
@@ -140,7 +140,7 @@ pub(crate) fn names_fault(
     None
 }
 
-#[tactic(auto, using(crate::proofs::Opened::local_root, crate::proofs::Opened::global_root))]
+#[tactic(auto, using(crate::proofs::OpenedLocks::local_root, crate::proofs::OpenedLocks::global_root))]
 fn root_of(alloc: Global, name: &Expr) -> Result<Root, AllocError>
     ensures { IfOk result (λ r. r ≡ root_of (tree_of name.now)) }
 {

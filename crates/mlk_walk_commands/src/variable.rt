@@ -20,7 +20,7 @@ use std::alloc::AllocError;
 use std::slice;
 
 /// The subscripts of a variable; empty unless it is a local or a global.
-#[tactic(auto, using(crate::proofs::Opened::local_subs, crate::proofs::Opened::global_subs))]
+#[tactic(auto, using(crate::proofs::OpenedVariables::local_subs, crate::proofs::OpenedVariables::global_subs))]
 pub fn subscripts_of(variable: &Variable) -> &[Subscript]
     ensures { subs_from (sub_trees result.now) ≡ subs_of (name_in (variable_of variable.now)) }
 {
