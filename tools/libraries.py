@@ -5,7 +5,7 @@
 
 `rt check` takes no library from what `rt ci` keeps beside the kit, and would prove all of them again. This asks the `rt` of the
 kit for them, by calls that another kit may not have. The status is 0 if each library below the crate is there, proved from the
-same files.
+same files; 3 if they are and the crate itself is not among what was proved; and else 1.
 """
 import importlib.machinery
 import importlib.util
@@ -32,14 +32,15 @@ def main(folder, name):
     rt.Crate.allowed = rt.handles_of(os.getcwd())
     crates = rt.crates_of(os.getcwd())
     kept = rt.Kept(crates)
+    above = next(it for it in crates if it.name == name)
     # lowest first: a library's key has the sums of those below it
-    for crate in next(it for it in crates if it.name == name).below():
+    for crate in above.below():
         os.makedirs(f'{crate.folder}/out', exist_ok=True)
         if not kept.give(crate, False, kept.key(crate)):
             return 1
         kept.is_built(crate)
         pathlib.Path(crate.folder, 'out/rlib/stamp').write_text(crate.stamp())
-    return 0
+    return 0 if os.path.isdir(kept.place(above, False, kept.key(above))) else 3
 
 
 if __name__ == '__main__':
