@@ -3,6 +3,7 @@ mod Firsts
 pub mod Formed
 mod Histories
 mod NextSlots
+mod NotDone
 pub mod PassedOn
 mod Printing
 mod Runs
