@@ -16,6 +16,10 @@ pub record Given : Type 0 where
   pub blocks : List EntryCert
   pub workers : ℕ
 
+-- a run that is given these
+abbrev pub given_of : List RoutineTree → RuleLists → List EntryCert → ℕ → Given
+given_of routines rules blocks workers = record { routines = routines; rules = rules; blocks = blocks; workers = workers }
+
 -- a run that nothing is given to
 abbrev pub nothing : Given
 nothing = record {

@@ -23,6 +23,8 @@ use Rattle.mlk_check.specs.Theorem.{KeepsRules}
 use Rattle.mlk_pool.specs.declared.error.CheckError.{CheckError}
 use Rattle.mlk_pool.specs.declared.error.CheckError.TheVariants as error
 use Rattle.mlk_pool.specs.Errors.{error_of_routine, error_of_rules, error_of_certificate}
+use Rattle.mlk_pool.specs.Given.{given_of}
+use Rattle.mlk_pool.specs.Refusals.{StopsAt}
 
 -- The report of a program by rules and a certificate's blocks. The program has each entry that these name; the rows are the
 -- report of the definitions, which knows no worker; and where there is no row, every run of the program keeps the rules.
@@ -52,7 +54,8 @@ abbrev pub AreTooFewOrMany : ℕ → Type 0
 AreTooFewOrMany workers = (workers ≡ 0) ⊎ (64 < workers)
 
 -- Why a program has no report by rules and a certificate: an entry that these name is missing in it; else there are no workers
--- or too many; else the gate was shut before a task, where it is not open. If memory runs out, nothing is said.
+-- or too many; else the gate, which is not open, was shut before a task: the first that is not done. If memory runs out, nothing
+-- is said.
 abbrev pub IsUnreportedBy : Type 0 → ℕ → List RoutineTree → RuleLists → List EntryCert → CheckError → Type 0
 IsUnreportedBy is_open workers trees rules blocks error.OutOfMemory = Unit {0}
 IsUnreportedBy is_open workers trees rules blocks (error.Routine fault) = ⊥
@@ -60,7 +63,8 @@ IsUnreportedBy is_open workers trees rules blocks (error.Rules fault) = ⊥
 IsUnreportedBy is_open workers trees rules blocks (error.Certificate fault) = ⊥
 IsUnreportedBy is_open workers trees rules blocks (error.Entry entry) = missing trees rules blocks ≡ Some entry
 IsUnreportedBy is_open workers trees rules blocks error.Workers = (missing trees rules blocks ≡ None) × AreTooFewOrMany workers
-IsUnreportedBy is_open workers trees rules blocks (error.GateShut task) = (missing trees rules blocks ≡ None) × (is_open → ⊥)
+IsUnreportedBy is_open workers trees rules blocks (error.GateShut task) =
+    (missing trees rules blocks ≡ None) × (is_open → ⊥) × StopsAt (given_of trees rules blocks workers) task
 
 -- The stages from texts to a report, each with what it refuses: the reading of routines, where the first refusal is
 -- reported; their linking; the text of the rules; the text of the certificate; and the report by it. `from` is how the answer has

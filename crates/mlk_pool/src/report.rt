@@ -8,9 +8,9 @@ ghost use Rattle.mlk_walk.specs.Verdicts.{verdict};
 ghost use Rattle.mlk_walk.specs.Reports.{entries_from, is_checked, report, rows_of};
 ghost use Rattle.mlk_machine_laws.specs.WellFormed.{AreFormed};
 ghost use Rattle.mlk_check.specs.Theorem.{KeepsRules};
-ghost use Rattle.mlk_pool.specs.Given.{AreInputs, AreKnown, is_certified};
+ghost use Rattle.mlk_pool.specs.Given.{AreInputs, AreKnown, given_of, is_certified};
 ghost use Rattle.mlk_pool.specs.Boards.{IsSlotOf, next_slot};
-ghost use Rattle.mlk_pool.specs.Refusals.{AreAllowed, IsShut, IsUnreported};
+ghost use Rattle.mlk_pool.specs.Refusals.{AreAllowed, FoundShut, HadNoMemory, IsFirstNotDone, IsShut, IsUnreported, StopsAt};
 
 use crate::board::{Board, Outcome, Slot};
 use crate::gate::Gate;
@@ -61,7 +61,8 @@ fn settled_verdict<N: Inputs, G: Gate>(
     requires slot { ForSome slot (IsSlotOf N.given entry) }
     ensures ok { IfOk result (λ v. v ≡ verdict (map routine_of checks.now.program.now) checks.now.rules.now
         checks.now.entries.now entry) }
-    ensures refused { IfErr result (IsShut (G.is_open gate.now)) }
+    ensures memory { IfOk result (λ _. HadNoMemory slot → ⊥) }
+    ensures refused { IfErr result (IsShut (G.is_open gate.now) (λ t. (t ≡ task) × FoundShut slot)) }
 {
     match slot {
         Some(Slot::Posted(_, Outcome::Done(verdict))) => Ok(verdict),
@@ -102,7 +103,7 @@ fn collect_report<N: Inputs, G: Gate>(
     requires slots { AllZip (IsSlotOf N.given) (filter (is_certified checks.now.entries.now.0) entries.now) slots.items }
     ensures ok { IfOk result (λ r. r ≡ flat_map
         (rows_of (map routine_of checks.now.program.now) checks.now.rules.now checks.now.entries.now) entries.now) }
-    ensures refused { IfErr result (IsShut (G.is_open gate.now)) }
+    ensures refused { IfErr result (IsShut (G.is_open gate.now) (IsFirstNotDone slots.items)) }
 {
     let mut report = Report::new(alloc);
     let count = slots.len();
@@ -145,7 +146,7 @@ fn report_with<N: Inputs + Send + Sync, G: Gate + Sync, W: Watch, R: Threads + W
     ensures ok { IfOk result (λ r. r ≡ flat_map
         (rows_of (map routine_of checks.now.program.now) checks.now.rules.now checks.now.entries.now)
         (entries_from 0 (map routine_of checks.now.program.now))) }
-    ensures refused { IfErr result (IsShut (G.is_open gate.now)) }
+    ensures refused { IfErr result (IsShut (G.is_open gate.now) (StopsAt N.given)) }
 {
     let alloc = runner.alloc;
     let entries = entries_of(alloc, checks.program)?;
@@ -172,7 +173,7 @@ fn report_on<N: Inputs + Send + Sync, G: Gate + Sync, W: Watch, R: Threads + Wai
     requires workers { workers ≡ N.given.workers }
     requires one { 0 < workers }
     ensures ok { IfOk result (λ r. r ≡ report (map routine_of program.now) rules.now certificate.now) }
-    ensures refused { IfErr result (IsShut (G.is_open gate.now)) }
+    ensures refused { IfErr result (IsShut (G.is_open gate.now) (StopsAt N.given)) }
 {
     let entries = Entries::of(runner.alloc, program, rules, certificate.blocks())?;
     let checks = Checks {
@@ -204,7 +205,8 @@ pub fn report_by<G: Gate + Sync, W: Watch, R: Threads + Wait + Sync>(
     ensures safe { IfOk result (λ r. r ≡ [] → AreFormed (map routine_of program.now)
         → KeepsRules (map routine_of program.now) rules.now certificate.now) }
     ensures allowed { IfOk result (λ _. AreAllowed workers) }
-    ensures refused { IfErr result (IsUnreported (G.is_open gate.now) workers) }
+    ensures refused { IfErr result (IsUnreported (G.is_open gate.now)
+        (given_of (map routine_of program.now) rules.now certificate.now workers)) }
 {
     // What rules and certificates are by their types.
     let _ = rules.lists();
