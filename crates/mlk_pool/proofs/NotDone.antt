@@ -70,9 +70,9 @@ first_here left later slot task are shut counted =
     let long : length left ≡ length are.taken + length (slot ∷ later) = ap length are.cut ∙ length-append are.taken (slot ∷ later) in
     let here : task ≡ length are.taken = omega (arith, long, counted) in
     subst (IsFirstNotDone left) (sym here) (subst (λ l. IsFirstNotDone l (length are.taken)) (sym are.cut) (record {
-        shut = subst FoundShut (sym (get_there are.taken later slot)) shut;
-        earlier = λ before lt none. are.memory before (subst HadNoMemory (get_before are.taken (slot ∷ later) before lt) none);
-      }))
+      shut = subst FoundShut (sym (get_there are.taken later slot)) shut;
+      earlier = λ before lt none. are.memory before (subst HadNoMemory (get_before are.taken (slot ∷ later) before lt) none);
+    }))
 
 -- Where the gate was shut before the next entry's task, that is the first one not done.
 pub first_not_done : (left now later : List Slot) (slot : Option Slot) (is_task : Bool) (task : ℕ)
