@@ -56,6 +56,7 @@ CHANGED = {
     # References to globals
     'order-reads-the-node-alone': (REFERENCES, 'use_of function.Order = Beside', 'use_of function.Order = ItsValue'),
     'query-reads-the-node-alone': (REFERENCES, 'use_of function.Query = AllOfIt', 'use_of function.Query = ItsValue'),
+    'an-increment-reads-its-node': (REFERENCES, 'use_of function.Increment = Incremented', 'use_of function.Increment = ItsValue'),
     'merge-reads-nothing': (
         ARGUMENTS, 'touch_last p extent.Tree Reads caret name (count_subs subs) s', 'Goes (without_last (count_subs subs) s) ∷ []'),
     # Calls
@@ -107,6 +108,9 @@ CHANGED = {
         'in_timeout dialect.Extended quiet = Everything'),
     'a-call-in-a-timeout-in-the-standard-dialect': (
         GRAMMAR, 'in_timeout dialect.Standard quiet = NoCalls', 'in_timeout dialect.Standard quiet = Everything'),
+    # Devices
+    'devices-in-the-standard-dialect': (
+        GRAMMAR, '(d ≡ dialect.Extended) × IsExtended', '(d ≡ d) × IsExtended'),
 }
 
 

@@ -49,24 +49,40 @@ def files(folder):
     return [p for p in sorted(folder.rglob('*')) if p.is_file() and 'out' not in p.parts and 'must-fail' not in p.parts]
 
 
-def cited(named, needed):
-    """The proof modules that the named crates cite, and those that these cite, as pairs of a crate and a path."""
-    found = set()
-    left = [(name, p.relative_to(TOP / 'crates' / name).with_suffix('').parts)
-            for name in named for p in files(TOP / 'crates' / name) if p.suffix == '.antt']
-    left += [(name, p.relative_to(TOP / 'crates' / name).with_suffix('').parts)
-             for name in needed for p in files(TOP / 'crates' / name / 'specs')]
+def cited_in(file, needed):
+    """The modules of these crates that a file may cite, as pairs of a crate and a path."""
+    text = file.read_text()
+    paths = re.findall(r'(?m)^(?:pub |ghost )?use Rattle\.([A-Za-z0-9_.+-]+)', text)
+    # (the attributes of functions)
+    paths += [it.replace('::', '.') for it in re.findall(r'\b\w+::(?:proofs|specs)::[\w:]+', text)]
+    for path in paths:
+        other, *words = path.rstrip('.').split('.')
+        if other in needed:
+            yield other, tuple(words)
+            yield other, tuple(words[:-1])
+
+
+def with_cited(modules, needed):
+    """These modules, and those that they cite."""
+    found, left = set(), list(modules)
     while left:
         crate, path = left.pop()
         file = (TOP / 'crates' / crate).joinpath(*path).with_suffix('.antt')
-        if (crate, path) in found or not file.exists():
-            continue
-        found.add((crate, path))
-        for use in re.finditer(r'(?m)^(?:pub )?use Rattle\.([A-Za-z0-9_.+-]+)', file.read_text()):
-            other, *words = use.group(1).rstrip('.').split('.')
-            if other in needed:
-                left += [(other, tuple(words)), (other, tuple(words[:-1]))]
+        if (crate, path) not in found and file.exists():
+            found.add((crate, path))
+            left += cited_in(file, needed)
     return found
+
+
+def modules_of(folder, name):
+    """The modules of a crate below a folder, as pairs of the crate and a path."""
+    return [(name, p.relative_to(TOP / 'crates' / name).with_suffix('').parts) for p in files(folder) if p.suffix == '.antt']
+
+
+def cited(named, needed):
+    """The modules of the named crates, the definitions of those that these need, and what all of them cite."""
+    own = [it for name in named for it in modules_of(TOP / 'crates' / name, name)]
+    return with_cited(own + [it for name in needed for it in modules_of(TOP / 'crates' / name / 'specs', name)], needed)
 
 
 def closing(text, at):

@@ -1,6 +1,3 @@
-pub mod Paths
-pub mod Sources
-pub mod Dialects
 pub mod Saying
 pub mod Suggesting
 mod NeverShut

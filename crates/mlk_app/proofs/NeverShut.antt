@@ -5,10 +5,10 @@ use Rattle.mlk_rules.specs.declared.rules.RuleLists.{RuleLists}
 use Rattle.mlk_outcome.specs.declared.refusal.NoReport.{NoReport}
 use Rattle.mlk_outcome.specs.Refusals.{IsNotShut}
 use Rattle.mlk_outcome.proofs.NeverShut.{not-reported, not-by-text, unmade-open, not-replayed, texts-open}
-use Rattle.mlk_app.specs.declared.source.Sources.{Sources}
-use Rattle.mlk_app.specs.declared.source.Work.{Work}
-use Rattle.mlk_app.specs.declared.source.Work.TheVariants as work
-use Rattle.mlk_app.specs.Dialects.{as_read}
+use Rattle.mlk_files.specs.declared.source.Sources.{Sources}
+use Rattle.mlk_files.specs.declared.source.Work.{Work}
+use Rattle.mlk_files.specs.declared.source.Work.TheVariants as work
+use Rattle.mlk_files.specs.Dialects.{as_read}
 use Rattle.mlk_app.specs.Ran.{IsRefusedFor}
 use Rattle.mlk_app.specs.Printing.{IsRefusedSources}
 

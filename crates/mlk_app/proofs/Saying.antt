@@ -5,7 +5,7 @@ use Rattle.std.specs.Global.{Global}
 use Rattle.mlk_baseline.specs.declared.baseline.Baseline.{Baseline}
 use Rattle.mlk_baseline.specs.declared.baseline.BaselineFault.{BaselineFault}
 use Rattle.mlk_baseline.specs.declared.baseline.Comparison.{Comparison}
-use Rattle.mlk_app.specs.declared.source.Sources.{Sources}
+use Rattle.mlk_files.specs.declared.source.Sources.{Sources}
 use Rattle.std.specs.Borrow.{Bor}
 use Rattle.mlk_text.specs.declared.failure.Failure.TheVariants as failure
 use Rattle.mlk_cert.specs.declared.read.fault.CertFault.{CertFault}
@@ -24,13 +24,13 @@ use Rattle.mlk_outcome.specs.declared.refusal.NoReport.{NoReport}
 use Rattle.mlk_reading.specs.declared.source.Source.{Source}
 use Rattle.mlk_app.specs.declared.answer.Answer.{Answer}
 use Rattle.mlk_app.specs.declared.answer.Answer.TheVariants as answer
-use Rattle.mlk_app.specs.declared.source.FileError.TheVariants as error
-use Rattle.mlk_app.specs.Files.{AreSources, Texts, AreTexts, written_path, IsGivenText, Loses, LosesFirst, cert_format}
-use Rattle.mlk_app.proofs.Sources.{loses-front}
+use Rattle.mlk_files.specs.declared.source.FileError.TheVariants as error
+use Rattle.mlk_files.specs.Files.{AreSources, Texts, AreTexts, written_path, IsGivenText, Loses, LosesFirst, cert_format}
+use Rattle.mlk_files.proofs.Texts.{loses-front}
 use Rattle.mlk_cli.specs.CommandLine.{bytes_of}
 use Rattle.mlk_outcome.specs.Conversion.{IsUnconverted}
 use Rattle.mlk_app.specs.Printing.{IsPrintedOfTexts, IsRefusedSources, IsReportAnswer}
-use Rattle.mlk_app.specs.Printed.{baseline_line}
+use Rattle.mlk_refusal_lines.specs.Lines.{baseline_line}
 use Rattle.mlk_app.specs.Ran.{style_in, status_in, status_of, AreKnown, IsBaselineRefused, IsPrintedBeside, IsProgramReported, PrintsSurvey, TellsBaseline, TellsRefusal, TellsFault, TellsUnread, TellsPage, Answers}
 
 one-not-zero : ◌≡◌ {A = ℕ} 1 0 → ⊥

@@ -8,8 +8,8 @@ use Rattle.mlk_cli.specs.CommandLine.{bytes_of}
 use Rattle.mlk_reading.specs.declared.source.Source.{Source}
 use Rattle.mlk_app.specs.declared.answer.Answer.{Answer}
 use Rattle.mlk_app.specs.declared.answer.Answer.TheVariants as answer
-use Rattle.mlk_app.specs.declared.source.FileError.TheVariants as error
-use Rattle.mlk_app.specs.Files.{Texts, AreSources, LosesFirst}
+use Rattle.mlk_files.specs.declared.source.FileError.TheVariants as error
+use Rattle.mlk_files.specs.Files.{Texts, AreSources, LosesFirst}
 use Rattle.mlk_app.proofs.Saying.{no-notice}
 use Rattle.mlk_app.specs.Ran.{TellsStubFault, TellsUnread, PrintsStubs, Answers}
 

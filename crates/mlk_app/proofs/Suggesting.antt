@@ -10,9 +10,9 @@ use Rattle.mlk_rules_file.specs.RuleSections.{RefusesRules}
 use Rattle.mlk_reading.specs.declared.source.Source.{Source}
 use Rattle.mlk_app.specs.declared.answer.Answer.{Answer}
 use Rattle.mlk_app.specs.declared.answer.Answer.TheVariants as answer
-use Rattle.mlk_app.specs.declared.source.FileError.TheVariants as error
-use Rattle.mlk_app.specs.Files.{Texts, AreSources, IsFirstLost, Loses, LosesFirst, given_path}
-use Rattle.mlk_app.proofs.Sources.{loses-front}
+use Rattle.mlk_files.specs.declared.source.FileError.TheVariants as error
+use Rattle.mlk_files.specs.Files.{Texts, AreSources, IsFirstLost, Loses, LosesFirst, given_path}
+use Rattle.mlk_files.proofs.Texts.{loses-front}
 use Rattle.mlk_app.specs.Ran.{TellsRules, TellsUnread, PrintsRules, SuggestsFor, Answers}
 
 -- what is answered if rules are suggested

@@ -13,12 +13,12 @@ use Rattle.mlk_rules.specs.declared.rules.RuleLists.{RuleLists}
 use Rattle.mlk_rules_file.specs.RuleSections.{SaysRules}
 use Rattle.mlk_cli.specs.declared.words.ProgramRequest.{ProgramRequest}
 use Rattle.mlk_reading.specs.Reading.{AreRead}
-use Rattle.mlk_app.specs.declared.source.Sources.{Sources}
+use Rattle.mlk_files.specs.declared.source.Sources.{Sources}
 use Rattle.mlk_pool.specs.Headline.{RefusesTexts}
 use Rattle.mlk_outcome.specs.declared.refusal.NoReport.{NoReport}
 use Rattle.mlk_outcome.specs.declared.refusal.NoReport.TheVariants as refusal
 use Rattle.mlk_app.specs.declared.work.Subject.{Subject}
-use Rattle.mlk_app.specs.Dialects.{as_read, rests_of}
+use Rattle.mlk_files.specs.Dialects.{as_read, rests_of}
 use Rattle.mlk_app.specs.Ran.{ReportRequest, IsPrinted, IsRefusedFor, IsUnwritten}
 
 -- what a report of sources is asked for with

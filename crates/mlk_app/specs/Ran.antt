@@ -25,9 +25,9 @@ use Rattle.mlk_outcome.specs.declared.refusal.NoReport.{NoReport}
 use Rattle.mlk_outcome.specs.declared.refusal.NoReport.TheVariants as refusal
 use Rattle.mlk_app.specs.declared.answer.Answer.{Answer}
 use Rattle.mlk_app.specs.declared.answer.Answer.TheVariants as answer
-use Rattle.mlk_app.specs.declared.source.Sources.{Sources}
-use Rattle.mlk_app.specs.declared.source.Work.{Work}
-use Rattle.mlk_app.specs.declared.source.Work.TheVariants as work
+use Rattle.mlk_files.specs.declared.source.Sources.{Sources}
+use Rattle.mlk_files.specs.declared.source.Work.{Work}
+use Rattle.mlk_files.specs.declared.source.Work.TheVariants as work
 use Rattle.mlk_reading.specs.declared.source.Source.{Source}
 use Rattle.std.specs.Borrow.{Bor}
 use Rattle.mlk_rules_file.specs.declared.read.fault.RulesFault.{RulesFault}
@@ -39,11 +39,12 @@ use Rattle.mlk_baseline.specs.declared.baseline.Comparison.{Comparison}
 use Rattle.mlk_baseline.specs.declared.baseline.BaselineFault.{BaselineFault}
 use Rattle.mlk_baseline.specs.Known.{IsComparison}
 use Rattle.mlk_forms.specs.Rendering.{IsRendered, IsNoticed, printed_rows}
-use Rattle.mlk_app.specs.Printed.{fault_line, rules_line, certificate_line, missing_line, workers_line, stuck_line, events_line}
-use Rattle.mlk_app.specs.Printed.{baseline_line, file_line, no_page_line}
-use Rattle.mlk_app.specs.Dialects.{as_read, rests_of}
-use Rattle.mlk_app.specs.Files.{Texts, Folders, AreFound, AreTexts, AreSources, IsFirstLost, given_path, written_path, cert_format}
-use Rattle.mlk_app.specs.Files.{paths_of, program_paths}
+use Rattle.mlk_refusal_lines.specs.Lines.{fault_line, rules_line, certificate_line, missing_line, workers_line, stuck_line, events_line}
+use Rattle.mlk_refusal_lines.specs.Lines.{baseline_line, file_line, no_page_line}
+use Rattle.mlk_files.specs.Dialects.{as_read, rests_of}
+use Rattle.mlk_files.specs.Files.{Texts, Folders, AreFound, AreTexts, AreSources, IsFirstLost, given_path, written_path, cert_format}
+use Rattle.mlk_files.specs.Files.{paths_of, program_paths}
+use Rattle.mlk_files.specs.Named.{named_paths, IsWithRoutines}
 use Rattle.mlk_cli.specs.CommandLine.{IsRequest, AsksNothing, bytes_of}
 use Rattle.mlk_program.specs.Program.{IsProgram}
 use Rattle.mlk_rules.specs.declared.rules.RuleLists.{RuleLists}
@@ -404,32 +405,6 @@ IsSaid (answer.Refused line notice help) old new status = IsRefusalSaid notice o
 IsSaid (answer.Unread line help) old new status = (status ≡ 3) × Keeps old new
 IsSaid (answer.Usage text) old new status = (status ≡ 2) × Keeps old new
 IsSaid answer.OutOfMemory old new status = (status ≡ 3) × Keeps old new
-
--- the paths of the routines that a request names
-abbrev pub named_paths : Request → List (List ℕ)
-named_paths (request.Program program) = bytes_of program.routines.items
-named_paths (request.Convert certificate format) = []
-named_paths (request.Survey survey) = bytes_of survey.routines.items
-named_paths (request.Suggest suggestion) = bytes_of suggestion.routines.items
-named_paths (request.Stubs stubs) = bytes_of stubs.routines.items
-named_paths (request.Explain code) = []
-
--- a request with other routines
-abbrev pub IsWithRoutines : Request → List (List ℕ) → Request → Type 0
-IsWithRoutines (request.Program program) found (request.Program other) =
-    (bytes_of other.routines.items ≡ found) × (other ≡ record program { routines = other.routines })
-IsWithRoutines (request.Survey survey) found (request.Survey other) =
-    (bytes_of other.routines.items ≡ found) × (other ≡ record survey { routines = other.routines })
-IsWithRoutines (request.Suggest suggestion) found (request.Suggest other) =
-    (bytes_of other.routines.items ≡ found) × (other ≡ record suggestion { routines = other.routines })
-IsWithRoutines (request.Stubs stubs) found (request.Stubs other) =
-    (bytes_of other.routines.items ≡ found) × (other ≡ record stubs { routines = other.routines })
-IsWithRoutines r found other = other ≡ r
-
--- the paths that a text lists: none if there is no text. Which they are is not said.
-abbrev pub MayList : Bool → List (List ℕ) → Type 0
-MayList false paths = paths ≡ []
-MayList true paths = Unit {0}
 
 -- the paths that a file lists: none if there is no file
 abbrev pub AreListed : Texts → Option (Bor (List ℕ)) → List (List ℕ) → Type 0

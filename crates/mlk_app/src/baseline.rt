@@ -5,10 +5,10 @@ ghost use Rattle.mlk_baseline.specs.Known.{IsComparison};
 ghost use Rattle.mlk_app.specs.Printing.{RefusesGiven};
 ghost use Rattle.mlk_app.specs.Ran.{AreCompared};
 
-use crate::source::Sources;
 use mlk_baseline::{Baseline, BaselineFault, Comparison, baseline_text, fault_keys, read_baseline};
 use mlk_cli::ProgramRequest;
 use mlk_explain::Grounds;
+use mlk_files::Sources;
 use mlk_text::Failure;
 use mlk_walk::Report;
 use std::alloc::{AllocError, Global};

@@ -1,12 +1,11 @@
 // What is found behind the faults of a report.
 
-use crate::dialect::read_in;
-use crate::source::Sources;
 use crate::stuck::{WORKERS, none_if_refused};
 use mlk_behind::{KnownFaults, Patch, mended_texts, next_round};
 use mlk_calls::Entries;
 use mlk_cli::{Output, ReportStyle};
 use mlk_explain::{ExplainedAs, ExplainedFaults, Grounds};
+use mlk_files::{Sources, read_in};
 use mlk_make::make_certificate;
 use mlk_outcome::OpenGate;
 use mlk_pool::report_by;

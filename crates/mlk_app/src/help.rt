@@ -1,14 +1,15 @@
 // What explains a refusal to people.
 
-use crate::refused::{Refused, refusal_code, refused_spot};
-use crate::source::{Files, Sources};
+use crate::refused::{Refused, refused_spot};
 use crate::stuck::push_faults;
 use crate::work::style_in;
 use mlk_cert::CertFault;
 use mlk_cli::ProgramRequest;
 use mlk_dialect::Dialect;
+use mlk_files::{Files, Sources};
 use mlk_outcome::NoReport;
 use mlk_pool::CheckError;
+use mlk_refusal_lines::refusal_code;
 use mlk_refusal_text::{
     GivenFile, Spot, code_help, entry_help, extended_note, line_help, routine_help, rules_help,
     unread_help,

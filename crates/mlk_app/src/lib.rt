@@ -5,23 +5,16 @@
 mod answer;
 mod baseline;
 mod behind;
-mod dialect;
-mod dialogue;
-mod file;
 mod help;
 mod notice;
-mod printed;
 mod program;
 mod refused;
-mod routines;
-mod source;
 mod stubs;
 mod stuck;
 mod suggestion;
 mod work;
 
-pub use file::{LONGEST_FILE, read_line, read_whole};
 pub use help::Explaining;
+pub use mlk_files::{Files, LONGEST_FILE, read_line, read_whole};
 pub use mlk_watch::{Runner, Stage, Unwatched, Watch};
 pub use program::{run, wrong_words};
-pub use source::Files;

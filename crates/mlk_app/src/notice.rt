@@ -1,9 +1,9 @@
 // Why there is no report, for other programs.
 
-use crate::refused::refusal_code;
 use mlk_cli::ProgramRequest;
 use mlk_forms::{Notice, NoticePlace};
 use mlk_outcome::NoReport;
+use mlk_refusal_lines::refusal_code;
 use mlk_refusal_text::{GivenFile, Spot};
 
 // A place in the file at a path.

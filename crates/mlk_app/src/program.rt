@@ -5,7 +5,7 @@ ghost use Rattle.std.specs.IoError.{error_kind};
 ghost use Rattle.mlk_cli.specs.declared.words.Request.TheVariants as wanted;
 ghost use Rattle.mlk_app.specs.Ran.{style_in, IsErrorLine, IsRefusalLine, PrintsSurvey, TellsRefusal, TellsFault, TellsBaseline};
 ghost use Rattle.mlk_app.specs.Ran.{TellsUnread, TellsUnfound, TellsPage, Answers, AnswersFound, AnswersLine, AnswersWords, Ran};
-ghost use Rattle.mlk_app.specs.Files.{AreTexts, LosesPath, written_path};
+ghost use Rattle.mlk_files.specs.Files.{AreTexts, LosesPath, written_path};
 ghost use Rattle.mlk_app.specs.Printing.{IsReportAnswer};
 ghost use Rattle.mlk_cli.specs.CommandLine.{bytes_of};
 ghost use Rattle.mlk_forms.specs.Rendering.{IsNoticed};
@@ -13,19 +13,9 @@ ghost use Rattle.mlk_outcome.specs.Refusals.{IsOfOpenGate, IsNotShut};
 
 use crate::answer::{Answer, REFUSED, YES, print_answer, write_error, write_memory_error};
 use crate::baseline::known_faults;
-use crate::dialect::read_in;
-use crate::dialogue::{ask_for_events, begun_events, with_events, written_path};
 use crate::help::{Explaining, certificate_help, is_refusal_explained, refusal_help, why_unread};
 use crate::notice::notice_of;
-use crate::printed::{
-    baseline_line, certificate_line, events_line, fault_line, file_line, missing_line,
-    no_page_line, rules_line, stuck_line, workers_line,
-};
 use crate::refused::{Refused, rule_file, spot_in};
-use crate::routines::{all_paths, find_routines, found_paths, list_of, with_routines};
-use crate::source::{
-    FileError, Files, Sources, cert_format, read_file, read_files, read_given, read_sources,
-};
 use crate::stubs::answer_stubs;
 use crate::stuck::render_refusal;
 use crate::suggestion::answer_suggestion;
@@ -35,11 +25,20 @@ use mlk_cert::CertFault;
 use mlk_cli::{
     Format, Invocation, ProgramRequest, Request, SurveyRequest, UsageError, read_request,
 };
+use mlk_dialogue::{ask_for_events, begun_events, with_events, written_path};
+use mlk_files::{
+    FileError, Files, Sources, all_paths, cert_format, find_routines, found_paths, list_of,
+    read_file, read_files, read_given, read_in, read_sources, with_routines,
+};
 use mlk_forms::{render_pages, render_survey};
 use mlk_outcome::{NoReport, convert};
 use mlk_plain_report::ReportText;
 use mlk_pool::CheckError;
 use mlk_reading::Source;
+use mlk_refusal_lines::{
+    baseline_line, certificate_line, events_line, fault_line, file_line, missing_line,
+    no_page_line, rules_line, stuck_line, workers_line,
+};
 use mlk_refusal_text::Spot;
 use mlk_text::Failure;
 use mlk_watch::{Runner, Watch};
@@ -281,7 +280,7 @@ fn lost_events_answer<F: Files>(
 }
 
 // What is answered if a person is asked for the events, which are then written at `path`.
-#[tactic(auto, using(crate::proofs::Saying::unwritten_answers, crate::proofs::Sources::asked_texts))]
+#[tactic(auto, using(crate::proofs::Saying::unwritten_answers, mlk_files::proofs::Texts::asked_texts))]
 fn answer_dialogue<'a, R: Threads + Wait + Sync, F: Files, W: Watch>(
     runner: &Runner<'_, R, W>,
     program: &ProgramRequest<'a>,

@@ -1,9 +1,8 @@
 // What is refused, and where.
 
-use crate::printed::events_code;
-use crate::source::{Sources, Work};
 use crate::stuck::none_if_refused;
 use mlk_cli::{Asked, ProgramRequest};
+use mlk_files::{Sources, Work};
 use mlk_outcome::NoReport;
 use mlk_pool::CheckError;
 use mlk_reading::Source;
@@ -11,27 +10,6 @@ use mlk_refusal_text::{GivenFile, Spot, entry_place, rules_place};
 use mlk_routine::read_routine;
 use mlk_text::Code;
 use std::alloc::{AllocError, Global};
-
-// The code of what the check itself refuses.
-fn error_code(error: &CheckError) -> Option<Code> {
-    match error {
-        CheckError::Routine(fault) => Some(fault.code),
-        CheckError::Rules(fault) => Some(fault.code),
-        CheckError::Certificate(fault) => Some(fault.code),
-        CheckError::Entry(_) => Some(Code::EntryMissing),
-        CheckError::Workers => Some(Code::Workers),
-        CheckError::OutOfMemory | CheckError::GateShut(_) => None,
-    }
-}
-
-/// The code of a refusal; `None` if memory ran out.
-pub(crate) fn refusal_code(refusal: &NoReport) -> Option<Code> {
-    match refusal {
-        NoReport::Check(error) => error_code(error),
-        NoReport::GaveUp(_, _) => Some(Code::GaveUp),
-        NoReport::Events(fault) => Some(events_code(fault.why)),
-    }
-}
 
 // Whether a file with this stem is that of the routine of this name, in which a leading `%` may be a `_` of the stem.
 fn is_stem_of(stem: &[u8], name: &[u8]) -> bool {

@@ -4,14 +4,13 @@ ghost use Rattle.mlk_cli.specs.declared.words.Request.TheVariants as wanted;
 ghost use Rattle.mlk_app.specs.Ran.{TellsStubFault, PrintsStubs, Answers};
 
 use crate::answer::{Answer, YES};
-use crate::dialect::read_in;
 use crate::help::{Explaining, stub_help};
-use crate::printed::fault_line;
 use crate::program::unread_answer;
-use crate::source::{FileError, Files, read_sources, routine_texts};
 use mlk_cli::{StubsRequest, WantedStubs};
+use mlk_files::{FileError, Files, read_in, read_sources, routine_texts};
 use mlk_plain_report::ReportText;
 use mlk_reading::Source;
+use mlk_refusal_lines::fault_line;
 use mlk_stubs::{Wanted, stubs_for};
 use mlk_text::{Failure, Fault};
 use std::alloc::{AllocError, Global};

@@ -4,10 +4,10 @@ ghost use Rattle.std.specs.Prelude.{IfOk};
 ghost use Rattle.mlk_app.specs.Ran.{style_in};
 ghost use Rattle.mlk_forms.specs.Rendering.{IsNoticed};
 
-use crate::source::{Sources, copied_texts};
 use crate::work::style_in;
 use mlk_cli::{Output, ProgramRequest};
 use mlk_explain::{ExplainedAs, ExplainedFaults, Grounds};
+use mlk_files::{Sources, copied_texts};
 use mlk_forms::{Notice, ReportSources, render_given_up, render_notice};
 use mlk_make::make_despite;
 use mlk_outcome::OpenGate;

@@ -3,19 +3,18 @@
 ghost use Rattle.std.specs.Prelude.{◌≡◌, ◌∷◌, IfOk, []};
 ghost use Rattle.mlk_cli.specs.declared.words.Request.TheVariants as wanted;
 ghost use Rattle.mlk_suggest_text.specs.RuleTexts.{IsRuleText};
-ghost use Rattle.mlk_app.specs.Files.{given_path};
+ghost use Rattle.mlk_files.specs.Files.{given_path};
 ghost use Rattle.mlk_app.specs.Ran.{TellsRules, PrintsRules, SuggestsFor, Answers};
 
 use crate::answer::{Answer, YES};
-use crate::dialect::read_in;
 use crate::help::{Explaining, rule_file_help};
-use crate::printed::rules_line;
 use crate::program::unread_answer;
-use crate::source::{FileError, Files, read_file, read_sources, routine_texts};
 use mlk_cli::SuggestRequest;
 use mlk_dialect::Dialect;
+use mlk_files::{FileError, Files, read_file, read_in, read_sources, routine_texts};
 use mlk_plain_report::ReportText;
 use mlk_reading::Source;
+use mlk_refusal_lines::rules_line;
 use mlk_rules_file::{RulesFault, read_rules};
 use mlk_suggest_text::{KnownRules, RuleText, suggested_rules};
 use mlk_text::Failure;

@@ -14,12 +14,13 @@ ghost use Rattle.mlk_app.specs.Printing.{asked_of, IsPrintedOfTrees, IsPrintedOf
 use crate::answer::{NO, YES};
 use crate::baseline::{compare_faults, uses_keys};
 use crate::behind::{find_behind, is_explained};
-use crate::source::{Sources, Work, copied_texts};
 use mlk_baseline::Baseline;
 use mlk_cert::{CertFormat, Certificate, read_cert};
 use mlk_cli::{Asked, Output, ProgramRequest, ReportStyle};
 use mlk_coverage::{Coverage, coverage_of};
+use mlk_dialogue::shown_routines;
 use mlk_explain::{Grounds, free_reads};
+use mlk_files::{Sources, Work, copied_texts};
 use mlk_forms::{Explanations, ReportSources, render_report};
 use mlk_outcome::{
     NoReport, Showing, certificate_for, certificate_text, jobs_text, report_by_certificate,
@@ -282,24 +283,6 @@ fn print_certificate<W: Watch>(
         status: YES,
         new_baseline: None,
     })
-}
-
-/// The routines, as their lines are shown.
-pub(crate) fn shown_routines<'t>(
-    alloc: Global,
-    request: &'t ProgramRequest<'t>,
-    sources: &'t Sources<'t>,
-) -> Result<Vec<ShownRoutine<'t>>, AllocError> {
-    let mut texts = Vec::new(alloc);
-    let texts_read = sources.routines.iter().zip(sources.as_read().iter());
-    for ((source, read), path) in texts_read.zip(request.routines.iter()) {
-        texts.push(ShownRoutine {
-            path: *path,
-            text: source.text.as_slice(),
-            plain: read.text.as_slice(),
-        })?;
-    }
-    Ok(texts)
 }
 
 // How jobs are shown, with these texts of the routines.

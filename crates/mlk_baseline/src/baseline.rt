@@ -25,7 +25,7 @@ pub struct Baseline<'t> {
 }
 
 /// A known fault that a report does not have, or not as often.
-#[derive(Clone, Copy, Debug, Drop, PartialEq, Eq)]
+#[derive(Clone, Copy, Drop, PartialEq, Eq)]
 pub struct GoneFault<'t> {
     pub key: &'t [u8],
     /// how often it is missing

@@ -12,7 +12,7 @@ use std::alloc::{AllocError, Global};
 
 /// What a fault is known by: `CODE ENTRY LABEL+OFFSET TEXT`, its code, the entry that was walked, its line by the label above, and
 /// the text of that line. Faults of one line with the same code have the same key.
-#[derive(Drop, Debug, PartialEq, Eq, PartialOrd, Ord)]
+#[derive(Drop, PartialEq, Eq, PartialOrd, Ord)]
 pub struct FaultKey {
     bytes: Vec<u8>,
 }

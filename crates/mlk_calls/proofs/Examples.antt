@@ -54,6 +54,7 @@ abbrev scope : List NameSet → Option ℕ → Bool → Scope
 scope mods low drops = record {
   routines = [];
   own = 0;
+  line = 0;
   rules = record { families = family x 10 ∷ family (codes "LOG") 20 ∷ []; covers = []; private = []; readonly = []; entries = [] };
   blocks = [];
   declared_entries = [];

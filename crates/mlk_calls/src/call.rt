@@ -32,7 +32,7 @@ use mlk_walk_state::{
 use std::alloc::{AllocError, Global};
 
 /// How a callee is called.
-#[derive(Clone, Copy, Debug, Drop, PartialEq, Eq)]
+#[derive(Clone, Copy, Drop, PartialEq, Eq)]
 pub enum Calling {
     /// by DO, which takes over the callee's `$TEST`
     ByDo,

@@ -1,7 +1,7 @@
 // The formats of certificates.
 
 /// The two formats in which a certificate is written.
-#[derive(Clone, Copy, Debug, PartialEq, Eq)]
+#[derive(Clone, Copy, PartialEq, Eq)]
 pub enum CertFormat {
     /// Each point has its cases in full.
     First,

@@ -9,7 +9,7 @@ use mlk_text::Name;
 use std::alloc::AllocError;
 
 /// What is known of `$TEST`.
-#[derive(Clone, Copy, Debug, PartialEq, Eq)]
+#[derive(Clone, Copy, PartialEq, Eq)]
 pub enum Test {
     /// `*`: either value
     Any,

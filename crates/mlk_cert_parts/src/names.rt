@@ -3,7 +3,7 @@
 use mlk_text::{List, Name};
 
 /// Names of locals: one, or all but some.
-#[derive(Clone, Drop, Debug, PartialEq, Eq)]
+#[derive(Clone, Drop, PartialEq, Eq)]
 pub enum NameSet {
     /// This name.
     Only(Name),
@@ -12,7 +12,7 @@ pub enum NameSet {
 }
 
 /// Names that were created at a level of the routine, and still exist.
-#[derive(Clone, Drop, Debug, PartialEq, Eq)]
+#[derive(Clone, Drop, PartialEq, Eq)]
 pub struct Own {
     /// The level of the lines that created them, from 1.
     pub level: u32,

@@ -60,7 +60,7 @@ pub struct ReportStyle {
 }
 
 /// Whether it is explained where jobs are, and whether the events are asked for and then written.
-#[derive(Clone, Copy, Debug, PartialEq, Eq)]
+#[derive(Clone, Copy, PartialEq, Eq)]
 pub struct ReplayStyle {
     pub is_explained: bool,
     pub is_interactive: bool,

@@ -15,7 +15,7 @@ use mlk_text::push_sparing;
 use std::alloc::{AllocError, Global};
 
 /// A part of all.
-#[derive(Clone, Copy, Debug, Drop, PartialEq, Eq)]
+#[derive(Clone, Copy, Drop, PartialEq, Eq)]
 pub struct Share {
     pub part: usize,
     pub all: usize,

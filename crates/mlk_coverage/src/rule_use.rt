@@ -10,7 +10,7 @@ use mlk_text::push_sparing;
 use std::alloc::{AllocError, Global};
 
 /// The kind of a rule on globals.
-#[derive(Clone, Copy, Debug, Drop, PartialEq, Eq)]
+#[derive(Clone, Copy, Drop, PartialEq, Eq)]
 pub enum RuleKind {
     Cover,
     Private,
@@ -31,14 +31,14 @@ impl RuleKind {
 }
 
 /// A rule: its kind, and its number among those in the rule file, from 1.
-#[derive(Clone, Copy, Debug, Drop, PartialEq, Eq)]
+#[derive(Clone, Copy, Drop, PartialEq, Eq)]
 pub struct RuleId {
     pub kind: RuleKind,
     pub number: usize,
 }
 
 /// How often the text of reached lines may touch what a rule is about, as far as constants in subscripts show.
-#[derive(Clone, Copy, Debug, Drop, PartialEq, Eq)]
+#[derive(Clone, Copy, Drop, PartialEq, Eq)]
 pub struct RuleUse {
     pub rule: RuleId,
     pub reads: usize,

@@ -1,7 +1,7 @@
 // How much of M is read.
 
 /// How much of M is read.
-#[derive(Clone, Copy, Debug, Drop, PartialEq, Eq)]
+#[derive(Clone, Copy, Drop, PartialEq, Eq)]
 pub enum Dialect {
     /// the subset of the standard
     Standard,

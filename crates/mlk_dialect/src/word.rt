@@ -8,7 +8,7 @@ use mlk_text::lexeme::{is_name_byte, word_at};
 use std::alloc::{AllocError, Global};
 
 /// A word of a routine that has another form in the plain text, of the same length.
-#[derive(Clone, Copy, Debug, Drop, PartialEq, Eq)]
+#[derive(Clone, Copy, Drop, PartialEq, Eq)]
 pub enum Word {
     /// `<=`
     AtMost,

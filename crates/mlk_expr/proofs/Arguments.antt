@@ -1,6 +1,6 @@
 -- Actuals, calls and arguments are read exactly if their parts are.
 use Rattle.std.proofs.Common.{◌≡◌, ℕ, suc, List, [], ◌∷◌, length, Some, None, true, false, refl, sym, ap, ◌∙◌, arith, subst, inl, inr, leb-true, le-leb}
-use Rattle.std.specs.Prelude.{Option, ◌&&◌, nat_le, not}
+use Rattle.std.specs.Prelude.{Option, nat_le}
 use Rattle.std.proofs.lemmas.Bool.{cases_Bool}
 use Rattle.mlk_text.specs.Reading.{many, Many}
 use Rattle.mlk_text.specs.Lexemes.{byte_at, name_at, label_at}
@@ -13,7 +13,7 @@ use Rattle.mlk_expr.specs.declared.context.Allows.TheVariants.{NoTouches}
 use Rattle.mlk_expr.specs.declared.context.Passing.TheVariants.{ByReference}
 use Rattle.mlk_expr.specs.Touches.{may_stand}
 use Rattle.mlk_expr_tokens.specs.Lexemes.{column_of, lent_at, is_missing, starts_reference}
-use Rattle.mlk_expr.specs.Grammar.{has_subscript, asks_subscript}
+use Rattle.mlk_expr.specs.Grammar.{takes}
 use Rattle.mlk_expr.proofs.Followed.{Quiet, Next, IsList, IsActual, IsActuals, IsArguments, IsChoice, IsCallee}
 use Rattle.mlk_expr.specs.Reading.{quietly, next, list_with, actual_by, actual_with, actuals_by, actuals_with, label_alone, label_in, routine_alone, routine_by, callee_by, callee_at, choice_with, others_by, name_and, arguments_by}
 use Rattle.mlk_expr.proofs.LexemeLemmas.{label-after, lent-after, label-caret}
@@ -118,18 +118,6 @@ choice-exact read Is e = record {
 }
 
 -- arguments
-asked : (f : Function) (t : Tree) → (asks_subscript f && not (has_subscript t)) ≡ false → asks_subscript f ≡ true → has_subscript t ≡ true
-asked f t h asks = elim (cases_Bool (has_subscript t)) [
-  | inl e ↦ e
-  | inr e ↦ cc (rw (asks, e) at h)
-]
-
-ask : (f : Function) (t : Tree) → (asks_subscript f ≡ true → has_subscript t ≡ true) → (asks_subscript f && not (has_subscript t)) ≡ false
-ask f t h = elim (cases_Bool (asks_subscript f)) [
-  | inl e ↦ let has = h e in rw (e, has) refl
-  | inr e ↦ rw e refl
-]
-
 pub arguments-exact : (atom : List ℕ → Option (Tree × List ℕ)) (Atom : Tree → List ℕ → List ℕ → Type 0) (item : List ℕ → Option (Tree × List ℕ)) (Item : Tree → List ℕ → List ℕ → Type 0)
     → Exact atom Atom → Exact item Item → (f : Function) (most : Option ℕ) → Exact (arguments_by atom item (quietly item) f most) (IsArguments Atom Item f most)
 arguments-exact atom Atom item Item a e f None = let l = list-exact item Item e in record { sound = l.sound; complete = l.complete; after = l.after }
@@ -142,7 +130,7 @@ arguments-exact atom Atom item Item a e f (Some most) = record { sound = go; com
     n = next-exact (quietly item) (Quiet Item) q
 
     ended : (xs : List ℕ) (first : Tree) (m : List ℕ) (others : List Tree) (rest : List ℕ) (args : List Tree) (ys : List ℕ)
-        → Atom first xs m → starts_reference xs ≡ true → (asks_subscript f ≡ true → has_subscript first ≡ true)
+        → Atom first xs m → starts_reference xs ≡ true → takes f first ≡ true
         → Many (byte_at 44) (Next (Quiet Item)) others m rest → others_by most first (others, rest) ≡ Some (args, ys) → IsArguments Atom Item f (Some most) args xs ys
     ended xs first m others rest args ys one starts asks more h = elim (cases_Bool (nat_le (length others) most)) [
       | inr b ↦ cc (rw b at h)
@@ -156,11 +144,11 @@ arguments-exact atom Atom item Item a e f (Some most) = record { sound = go; com
       | inr s ↦ cc (rw s at h)
       | inl s ↦
           let r = then_some (atom xs) (name_and (quietly item) f most) (args, ys) (rw s at h) in
-          elim (cases_Bool (asks_subscript f && not (has_subscript r.0.0))) [
-            | inl b ↦ cc (rw b at (r.2))
-            | inr b ↦
+          elim (cases_Bool (takes f r.0.0)) [
+            | inr b ↦ cc (rw b at (r.2))
+            | inl b ↦
                 let o = then_some (many (byte_at 44) (next (quietly item)) (suc (length r.0.1)) r.0.1) (others_by most r.0.0) (args, ys) (rw b at (r.2)) in
-                ended xs r.0.0 r.0.1 o.0.0 o.0.1 args ys (a.sound r.0.0 xs r.0.1 r.1) s (asked f r.0.0 b)
+                ended xs r.0.0 r.0.1 o.0.0 o.0.1 args ys (a.sound r.0.0 xs r.0.1 r.1) s b
                 (many_sound (byte_at 44) (next (quietly item)) (Next (Quiet Item)) n _ o.0.0 r.0.1 o.0.1 o.1) o.2
           ]
     ]
@@ -168,7 +156,7 @@ arguments-exact atom Atom item Item a e f (Some most) = record { sound = go; com
     done : (args : List Tree) (xs ys : List ℕ) → IsArguments Atom Item f (Some most) args xs ys → arguments_by atom item (quietly item) f (Some most) xs ≡ Some (args, ys)
     done args xs ys (first, others, m, one, starts, asks, more, few, is) =
         let small : nat_le (length others) most ≡ true = le-leb (length others) most few in
-        rw starts (rw (a.complete first xs m one) (rw (ask f first asks)
+        rw starts (rw (a.complete first xs m one) (rw asks
         (rw (many_complete (byte_at 44) (next (quietly item)) (Next (Quiet Item)) (byte-takes 44) n (suc (length m)) others m (41 ∷ ys) (omega arith) more) (rw small (rw is refl)))))
 
     back : (args : List Tree) (xs ys : List ℕ) → IsArguments Atom Item f (Some most) args xs ys → After ys xs

@@ -11,12 +11,13 @@ use Rattle.mlk_text.proofs.Lexemes.{byte-takes}
 use Rattle.mlk_text.proofs.Readers.{pair_parts, with_some, after_length, Exact}
 use Rattle.mlk_expr_tokens.specs.declared.lexeme.Kind.TheVariants as kind
 use Rattle.mlk_expr.specs.declared.context.Allows.{Allows}
-use Rattle.mlk_expr.specs.declared.context.Allows.TheVariants.{Everything, NoTouches}
+use Rattle.mlk_expr.specs.declared.context.Allows.TheVariants.{Extended, Everything, NoCalls, NoTouches}
 use Rattle.mlk_expr.specs.declared.context.Context.{Context}
 use Rattle.mlk_expr.specs.declared.context.Passing.{Passing}
 use Rattle.mlk_expr.specs.declared.context.Passing.TheVariants.{ByReference, ByValue}
 use Rattle.mlk_syntax.specs.ExprTrees.{Tree, Lit, Free, LocalName, GlobalName, SpecialName, Prefixed, Chain, PatternText, Func, Selected, BareCall, CallOf, Trees, no_trees, tree, Subs, no_subs, sub, Links, no_links, link, Choices, no_choices, choice, ActualTree, Given, ByRef, Missing, Actuals, no_actuals, actual, subs_from}
-use Rattle.mlk_expr.specs.Touches.{Standing, may_stand, trees_may, subs_may, links_may, choices_may, actual_may, actuals_may, subs_stand, given_stand}
+use Rattle.mlk_syntax.specs.declared.expr.Function.{Function}
+use Rattle.mlk_expr.specs.Touches.{Standing, function_may, may_stand, trees_may, subs_may, links_may, choices_may, actual_may, passes, subs_stand, given_stand}
 use Rattle.mlk_expr_tokens.specs.Lexemes.{column_of, kind_of, op_at, is_match, lent_at, is_missing, starts_reference, ends}
 use Rattle.mlk_expr.specs.Reading.{kept, quietly, chain_with, subs_with, local_with, global_with, right_by, actual_by, actual_with, pattern_at, operand_with, atom_at, atom_in, nested_at, nested_in, quiet, operand_in, ended, expr_at, expr_in, reference_at, reference_in, after_open, list_by, actual_list_at, actual_list_in}
 use Rattle.mlk_text.specs.declared.failure.Failure.{Failure}
@@ -37,48 +38,12 @@ use Rattle.mlk_expr.proofs.Kept.{if-none, kept-then, kept-after, kept-pair, kept
 and_true : (a b : Bool) → a ≡ true → b ≡ true → (a && b) ≡ true
 and_true a b h g = rw (h, g) refl
 
--- everything is allowed where `Everything` is, and what contains no global and no call is allowed anywhere
-mutual
-  pub everything : (t : Tree) → may_stand Everything t ≡ true
-  everything (Lit value) = refl
-  everything Free = refl
-  everything (LocalName name subs) = all-subs subs
-  everything (GlobalName column name subs) = all-subs subs
-  everything (SpecialName special) = refl
-  everything (Prefixed op t) = everything t
-  everything (Chain first rest) = and_true (may_stand Everything first) (links_may Everything rest) (everything first) (all-links rest)
-  everything (PatternText text) = refl
-  everything (Func function args) = all-trees args
-  everything (Selected pairs) = all-choices pairs
-  everything (BareCall column callee) = refl
-  everything (CallOf column callee given) = all-actuals given
-
-  all-trees : (ts : Trees) → trees_may Everything ts ≡ true
-  all-trees no_trees = refl
-  all-trees (tree t ts) = and_true (may_stand Everything t) (trees_may Everything ts) (everything t) (all-trees ts)
-
-  pub all-subs : (subs : Subs) → subs_may Everything subs ≡ true
-  all-subs no_subs = refl
-  all-subs (sub column t rest) = and_true (may_stand Everything t) (subs_may Everything rest) (everything t) (all-subs rest)
-
-  all-links : (links : Links) → links_may Everything links ≡ true
-  all-links no_links = refl
-  all-links (link op t rest) = and_true (may_stand Everything t) (links_may Everything rest) (everything t) (all-links rest)
-
-  all-choices : (choices : Choices) → choices_may Everything choices ≡ true
-  all-choices no_choices = refl
-  all-choices (choice condition value rest) =
-      and_true (may_stand Everything condition && may_stand Everything value) (choices_may Everything rest)
-      (and_true (may_stand Everything condition) (may_stand Everything value) (everything condition) (everything value)) (all-choices rest)
-
-  pub all-actual : (x : ActualTree) → actual_may Everything x ≡ true
-  all-actual (Given t) = everything t
-  all-actual (ByRef column name) = refl
-  all-actual Missing = refl
-
-  all-actuals : (given : Actuals) → actuals_may Everything given ≡ true
-  all-actuals no_actuals = refl
-  all-actuals (actual x rest) = and_true (actual_may Everything x) (actuals_may Everything rest) (all-actual x) (all-actuals rest)
+-- what contains no global and no call is allowed anywhere
+any-function : (a : Allows) (f : Function) → function_may NoTouches f ≡ true → function_may a f ≡ true
+any-function Extended f h = refl
+any-function Everything f h = h
+any-function NoCalls f h = h
+any-function NoTouches f h = h
 
 mutual
   pub anywhere : (a : Allows) (t : Tree) → may_stand NoTouches t ≡ true → may_stand a t ≡ true
@@ -92,7 +57,9 @@ mutual
       let p = and_parts (may_stand NoTouches first) (links_may NoTouches rest) h in
       and_true (may_stand a first) (links_may a rest) (anywhere a first p.0) (any-links a rest p.1)
   anywhere a (PatternText text) h = refl
-  anywhere a (Func function args) h = any-trees a args h
+  anywhere a (Func function args) h =
+      let p = and_parts (function_may NoTouches function) (trees_may NoTouches args) h in
+      and_true (function_may a function) (trees_may a args) (any-function a function p.0) (any-trees a args p.1)
   anywhere a (Selected pairs) h = any-choices a pairs h
   anywhere a (BareCall column callee) h = cc h
   anywhere a (CallOf column callee given) h = cc h
@@ -217,24 +184,24 @@ module _ (a : Allows) (end : ℕ) (deep other : List ℕ → Option (Tree × Lis
   begun-none : (xs : List ℕ) → starts_reference xs ≡ false → begun xs None ≡ None
   begun-none xs h = rw h refl
 
-  reference-kept : (xs : List ℕ) → kept (subs_stand a) (if starts_reference xs then operand_with Everything end deep rest pattern xs else None) ≡ begun xs (byte_at 94 xs)
+  reference-kept : (xs : List ℕ) → kept (subs_stand a) (if starts_reference xs then operand_with Extended end deep rest pattern xs else None) ≡ begun xs (byte_at 94 xs)
   reference-kept [] = refl
   reference-kept (b ∷ xs) = elim (cases_Bool (b == 94)) [
     | inl c ↦
         let is : b ≡ 94 = eqb-true b 94 c in
-        subst (λ z. kept (subs_stand a) (if starts_reference (z ∷ xs) then operand_with Everything end deep rest pattern (z ∷ xs) else None) ≡ begun (z ∷ xs) (byte_at 94 (z ∷ xs))) (sym is)
+        subst (λ z. kept (subs_stand a) (if starts_reference (z ∷ xs) then operand_with Extended end deep rest pattern (z ∷ xs) else None) ≡ begun (z ∷ xs) (byte_at 94 (z ∷ xs))) (sym is)
         (rw kind-caret (subs-global a end (chain_with deep pattern) (chain_with other pattern) (kept-chain a deep other h pattern) (column_of end (94 ∷ xs)) xs))
     | inr c ↦
         let no-caret : byte_at 94 (b ∷ xs) ≡ None = rw c refl in
         elim (cases_Bool (is_letter b || (b == 37))) [
           | inl l ↦
               let starts : starts_reference (b ∷ xs) ≡ true = grind (arith, nat_tests) in
-              let left : kept (subs_stand a) (if starts_reference (b ∷ xs) then operand_with Everything end deep rest pattern (b ∷ xs) else None) ≡ local_with end (chain_with other pattern) (b ∷ xs) =
+              let left : kept (subs_stand a) (if starts_reference (b ∷ xs) then operand_with Extended end deep rest pattern (b ∷ xs) else None) ≡ local_with end (chain_with other pattern) (b ∷ xs) =
               rw (starts, kind-letter b l) (subs-local a end (chain_with deep pattern) (chain_with other pattern) (kept-chain a deep other h pattern) (b ∷ xs)) in
               left ∙ sym (begun-local (b ∷ xs) starts) ∙ ap (begun (b ∷ xs)) (sym no-caret)
           | inr l ↦
               let starts : starts_reference (b ∷ xs) ≡ false = grind (arith, nat_tests) in
-              let left : kept (subs_stand a) (if starts_reference (b ∷ xs) then operand_with Everything end deep rest pattern (b ∷ xs) else None) ≡ None = rw starts refl in
+              let left : kept (subs_stand a) (if starts_reference (b ∷ xs) then operand_with Extended end deep rest pattern (b ∷ xs) else None) ≡ None = rw starts refl in
               left ∙ sym (begun-none (b ∷ xs) starts) ∙ ap (begun (b ∷ xs)) (sym no-caret)
         ]
   ]
@@ -292,41 +259,16 @@ reference_in-exact a end = exact-as _ _ _ (kept-exact (subs_stand a) (reference_
 pub actual_list_in-exact : (a : Allows) (p : Passing) (end : ℕ) → Exact (actual_list_in p (record { end = end; left = 63; allows = a })) (λ given xs ys. followed.IsActualList end given xs ys × (given_stand a p given ≡ true))
 actual_list_in-exact a p end = exact-as _ _ _ (kept-exact (given_stand a p) (actual_list_at end) (followed.IsActualList end) (actual_list-exact end)) (actual_list_in-kept a end p)
 
--- anything is allowed where everything is
-pub subs-anything : (t : Tree) → subs_stand Everything t ≡ true
-subs-anything (LocalName name subs) = all-subs subs
-subs-anything (GlobalName column name subs) = all-subs subs
-subs-anything (Lit value) = refl
-subs-anything Free = refl
-subs-anything (SpecialName special) = refl
-subs-anything (Prefixed op t) = refl
-subs-anything (Chain first rest) = refl
-subs-anything (PatternText text) = refl
-subs-anything (Func function args) = refl
-subs-anything (Selected pairs) = refl
-subs-anything (BareCall column callee) = refl
-subs-anything (CallOf column callee given) = refl
+-- what contains no global and no call may be passed anywhere
+any-actual : (x : ActualTree) → actual_may NoTouches x ≡ true → actual_may Everything x ≡ true
+any-actual (Given t) h = anywhere Everything t h
+any-actual (ByRef column name) h = refl
+any-actual Missing h = refl
 
-pub given-anything : (given : List ActualTree) → given_stand Everything ByReference given ≡ true
-given-anything [] = refl
-given-anything (x ∷ given) = rw (all-actual x, passes-all x) (given-anything given)
-
--- so no more is required
-module _ {A : Type 0} (may : A → Bool) (all : (a : A) → may a ≡ true) (Is : ℕ → A → List ℕ → Type 0) (Ends : A → List ℕ → Type 0) (line : List ℕ) (at : ℕ) where
-  pub stands-freely : (a : A) (next : ℕ) → Stands (Standing may Is) Ends line at a next → Stands Is Ends line at a next
-  stands-freely a next s = record { text = s.text; within = s.within; joined = s.joined; spelled = s.spelled.0; ended = s.ended }
-
-  pub only-freely : (a : A) (next : ℕ) → Only (Standing may Is) Ends line at a next → Only Is Ends line at a next
-  only-freely a next o b text rest is one ended = o b text rest is (one, all b) ended
-
-  pub refuses-freely : (e : Failure Fault) → Refuses (Standing may Is) Ends line at e → Refuses Is Ends line at e
-  refuses-freely OutOfMemory r = tt
-  refuses-freely (Refused fault) r = λ b text rest is one ended. r b text rest is (one, all b) ended
-
-pub if_ok : {X E : Type 0} (r : Result X E) (P Q : X → Type 0) → ((x : X) → P x → Q x) → IfOk r P → IfOk r Q
-if_ok (Ok x) P Q f h = f x h
-if_ok (Err e) P Q f h = h
-
-pub if_err : {X E : Type 0} (r : Result X E) (P Q : E → Type 0) → ((e : E) → P e → Q e) → IfErr r P → IfErr r Q
-if_err (Ok x) P Q f h = h
-if_err (Err e) P Q f h = f e h
+pub given-anywhere : (given : List ActualTree) → given_stand NoTouches ByReference given ≡ true → given_stand Everything ByReference given ≡ true
+given-anywhere [] h = refl
+given-anywhere (x ∷ given) h =
+    let p = and_parts (actual_may NoTouches x && passes ByReference x) (given_stand NoTouches ByReference given) h in
+    let q = and_parts (actual_may NoTouches x) (passes ByReference x) p.0 in
+    and_true (actual_may Everything x && passes ByReference x) (given_stand Everything ByReference given)
+    (and_true (actual_may Everything x) (passes ByReference x) (any-actual x q.0) q.1) (given-anywhere given p.1)

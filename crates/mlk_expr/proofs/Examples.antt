@@ -8,7 +8,7 @@ use Rattle.mlk_text.specs.Reading.{many}
 use Rattle.mlk_text.proofs.Readers.{pair_parts}
 use Rattle.mlk_text.specs.Lexemes.{name_at, digits_at, inside, label_at}
 use Rattle.mlk_syntax.specs.declared.expr.Special.TheVariants.{Test}
-use Rattle.mlk_syntax.specs.declared.expr.Function.TheVariants.{Get, Order}
+use Rattle.mlk_syntax.specs.declared.expr.Function.TheVariants.{Get, Increment, Order}
 use Rattle.mlk_syntax.specs.ExprTrees.{Tree, Lit, Free, LocalName, GlobalName, SpecialName, Prefixed, Chain, PatternText, Func, Selected, BareCall, CallOf, no_links, link, no_subs, sub, no_trees, tree, no_choices, choice, no_actuals, actual, Given, ByRef, Missing}
 use Rattle.mlk_expr_tokens.specs.Words.{special_of, special_to_principal, special_from_quit, function_of, function_to_fnumber, function_to_piece, function_from_qlength, is_select}
 use Rattle.mlk_expr_tokens.specs.Lexemes.{relation_of, relation_at, arithmetic_of, arithmetic_at, op_at, unary_of, kind_of, mantissa_len, numeral_at, count_at, pattern_codes_at, lent_at, ends}
@@ -86,6 +86,13 @@ examples = tt
     -- a function
     get : IsExpr 1 (Func Get (tree (LocalName (codes "X") no_subs) (tree (Lit (codes "0")) no_trees))) (codes "$G(X,0)")
     get = spelled _ (codes "$G(X,0)") refl
+
+    -- `$INCREMENT` of a global, but not of a local
+    increment : IsExpr 1 (Func Increment (tree (GlobalName 4 (codes "A") no_subs) no_trees)) (codes "$I(^A)")
+    increment = spelled _ (codes "$I(^A)") refl
+
+    local_increment : (t : Tree) → IsExpr 1 t (codes "$I(X)") → ⊥
+    local_increment = unspelled (codes "$I(X)") refl
 
     -- $SELECT
     select : IsExpr 1 (Selected (choice (LocalName (codes "X") no_subs) (Lit (codes "1")) no_choices)) (codes "$S(X:1)")

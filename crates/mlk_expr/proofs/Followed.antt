@@ -10,7 +10,7 @@ use Rattle.mlk_syntax.specs.declared.expr.Function.{Function}
 use Rattle.mlk_syntax.specs.ExprTrees.{Tree, Lit, Free, LocalName, GlobalName, SpecialName, Prefixed, Chain, PatternText, Func, Selected, BareCall, CallOf, ActualTree, Given, ByRef, Missing, trees_from, subs_from, choices_from, actuals_from}
 use Rattle.mlk_expr.specs.declared.context.Allows.TheVariants.{NoTouches}
 use Rattle.mlk_expr.specs.Touches.{may_stand}
-use Rattle.mlk_expr.specs.Grammar.{chained, named, has_subscript, asks_subscript}
+use Rattle.mlk_expr.specs.Grammar.{chained, named, takes}
 use Rattle.mlk_expr_tokens.specs.Words.{special_of, function_of, is_select}
 use Rattle.mlk_expr_tokens.specs.Lexemes.{column_of, op_at, is_match, unary_of, numeral_at, count_at, pattern_codes_at, lent_at, starts_reference, is_missing, ends}
 
@@ -76,7 +76,7 @@ Quiet Item t xs ys = Item t xs ys × (may_stand NoTouches t ≡ true)
 abbrev pub IsArguments : (Tree → List ℕ → List ℕ → Type 0) → (Tree → List ℕ → List ℕ → Type 0) → Function → Option ℕ → List Tree → List ℕ → List ℕ → Type 0
 IsArguments Atom Item f None args xs ys = IsList Item args xs ys
 IsArguments Atom Item f (Some most) args xs ys = (first : Tree) × (others : List Tree) × (m : List ℕ)
-    × Atom first xs m × (starts_reference xs ≡ true) × (asks_subscript f ≡ true → has_subscript first ≡ true)
+    × Atom first xs m × (starts_reference xs ≡ true) × (takes f first ≡ true)
     × Many (byte_at 44) (Next (Quiet Item)) others m (41 ∷ ys) × (length others ≤ most) × (args ≡ first ∷ others)
 
 -- a condition and its value

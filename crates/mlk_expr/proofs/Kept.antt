@@ -1,6 +1,6 @@
 -- What a reader reads where not everything is allowed: its usual reading, if that is allowed there.
 use Rattle.std.proofs.Common.{◌≡◌, ℕ, zero, suc, List, [], ◌∷◌, length, Some, None, true, false, Bool, refl, sym, ap, ◌∙◌, inl, inr}
-use Rattle.std.specs.Prelude.{Option, ◌&&◌, not, if◌then◌else◌, nat_le}
+use Rattle.std.specs.Prelude.{Option, ◌&&◌, if◌then◌else◌, nat_le}
 use Rattle.std.specs.List.{list_all}
 use Rattle.std.proofs.lemmas.Bool.{cases_Bool}
 use Rattle.mlk_text.specs.declared.operator.Op.{Op}
@@ -12,14 +12,14 @@ use Rattle.mlk_syntax.specs.declared.expr.Special.{Special}
 use Rattle.mlk_expr_tokens.specs.declared.lexeme.Kind.{Kind}
 use Rattle.mlk_expr_tokens.specs.declared.lexeme.Kind.TheVariants as kind
 use Rattle.mlk_expr.specs.declared.context.Allows.{Allows}
-use Rattle.mlk_expr.specs.declared.context.Allows.TheVariants.{Everything}
+use Rattle.mlk_expr.specs.declared.context.Allows.TheVariants.{Extended}
 use Rattle.mlk_expr.specs.declared.context.Passing.{Passing}
 use Rattle.mlk_expr.specs.declared.context.Passing.TheVariants.{ByReference, ByValue}
 use Rattle.mlk_syntax.specs.ExprTrees.{Tree, Lit, LocalName, GlobalName, Prefixed, PatternText, Func, Selected, CallOf, ActualTree, Given, ByRef, Missing, trees_from, subs_from, links_from, choices_from, actuals_from}
-use Rattle.mlk_expr.specs.Touches.{globals_may, calls_may, may_stand, trees_may, subs_may, links_may, choices_may, actual_may, actuals_may, passes, given_stand}
+use Rattle.mlk_expr.specs.Touches.{globals_may, calls_may, function_may, may_stand, trees_may, subs_may, links_may, choices_may, actual_may, actuals_may, passes, given_stand}
 use Rattle.mlk_expr_tokens.specs.Words.{special_of, function_of, is_select}
 use Rattle.mlk_expr_tokens.specs.Lexemes.{column_of, kind_of, op_at, is_match, numeral_at, lent_at, starts_reference, is_missing}
-use Rattle.mlk_expr.specs.Grammar.{chained, named, has_subscript, asks_subscript}
+use Rattle.mlk_expr.specs.Grammar.{chained, named, takes}
 use Rattle.mlk_expr.specs.Reading.{kept, where_may, number_by, number_of, next, list_with, at_most, right_by, linked, chain_with, placed, subs_by, subs_with, actual_by, actual_with, actuals_by, actuals_with, callee_at, call_by, call_with, choice_with, others_by, name_and, arguments_by, arguments_with, function_with, special_by, word_by, dollar_by, dollar_with, local_with, global_with, enclosed_with, atom_by, operand_with}
 
 and-true : (b : Bool) → (b && true) ≡ b
@@ -260,9 +260,9 @@ module _ (a : Allows) (end : ℕ) (atom atom' : List ℕ → Option (Tree × Lis
   ]
 
   kept-name : (f : Function) (most : ℕ) (first : Tree × List ℕ) → kept (list_all (may_stand a)) (name_and quiet f most first) ≡ (if may_stand a first.0 then name_and quiet' f most first else None)
-  kept-name f most first = elim (cases_Bool (asks_subscript f && not (has_subscript first.0))) [
-    | inl m ↦ rw m (if-none (may_stand a first.0))
-    | inr m ↦ rw m (kept-more (may_stand a) quiet quiet' hq first.0 (suc (length first.1)) first.1 (others_by most first.0) (kept-others most first.0))
+  kept-name f most first = elim (cases_Bool (takes f first.0)) [
+    | inl m ↦ rw m (kept-more (may_stand a) quiet quiet' hq first.0 (suc (length first.1)) first.1 (others_by most first.0) (kept-others most first.0))
+    | inr m ↦ rw m (if-none (may_stand a first.0))
   ]
 
   kept-arguments : (f : Function) (most : Option ℕ) (xs : List ℕ) → kept (list_all (may_stand a)) (arguments_by atom item quiet f most xs) ≡ arguments_by atom' item' quiet' f most xs
@@ -274,18 +274,24 @@ module _ (a : Allows) (end : ℕ) (atom atom' : List ℕ → Option (Tree × Lis
     | inr m ↦ rw m refl
   ]
 
-  kept-function : (w xs : List ℕ) → kept (may_stand a) (function_with atom item quiet w xs) ≡ function_with atom' item' quiet' w xs
+  -- a part that is read where this is allowed
+  if-allowed : {A : Type 0} (b : Bool) (o : Option A) → (if b then o else None) ≡ where_may b o
+  if-allowed true o = refl
+  if-allowed false o = refl
+
+  kept-function : (w xs : List ℕ) → kept (may_stand a) (function_with Extended atom item quiet w xs) ≡ function_with a atom' item' quiet' w xs
   unfolding function_with arguments_with
   kept-function w xs = elim (cases_Bool (is_select w)) [
     | inl m ↦ rw m (
         kept-pair true (list_all (λ (c : Tree × Tree). may_stand a c.0 && may_stand a c.1)) (may_stand a) (λ cs. Selected (choices_from cs)) (list_with (choice_with item) xs) (choices-all a)
         ∙ ap (with (λ cs. Selected (choices_from cs))) (kept-list (λ (c : Tree × Tree). may_stand a c.0 && may_stand a c.1) (choice_with item) (choice_with item') (kept-choice a end item item' hi) xs))
     | inr m ↦ rw m (kept-after (may_stand a) (function_of w) _ _ (λ f.
-        kept-pair true (list_all (may_stand a)) (may_stand a) (λ ts. Func f (trees_from ts)) (arguments_by atom item quiet f (named f) xs) (trees-all a)
-        ∙ ap (with (λ ts. Func f (trees_from ts))) (kept-arguments f (named f) xs)))
+        kept-pair (function_may a f) (list_all (may_stand a)) (may_stand a) (λ ts. Func f (trees_from ts)) (arguments_by atom item quiet f (named f) xs) (λ ts. ap (λ b. function_may a f && b) (trees-all a ts))
+        ∙ ap (λ o. if function_may a f then with (λ ts. Func f (trees_from ts)) o else None) (kept-arguments f (named f) xs)
+        ∙ if-allowed (function_may a f) (with (λ ts. Func f (trees_from ts)) (arguments_by atom' item' quiet' f (named f) xs))))
   ]
 
-  kept-word : (w : List ℕ × List ℕ) (o : Option (ℕ × List ℕ)) → kept (may_stand a) (word_by atom item quiet w o) ≡ word_by atom' item' quiet' w o
+  kept-word : (w : List ℕ × List ℕ) (o : Option (ℕ × List ℕ)) → kept (may_stand a) (word_by Extended atom item quiet w o) ≡ word_by a atom' item' quiet' w o
   kept-word w (Some b) = kept-function w.0 b.1
   kept-word w None = special (special_of w.0)
     where
@@ -293,11 +299,11 @@ module _ (a : Allows) (end : ℕ) (atom atom' : List ℕ → Option (Tree × Lis
       special None = refl
       special (Some s) = refl
 
-  kept-dollar : (column : ℕ) (xs : List ℕ) → kept (may_stand a) (dollar_with true end atom item quiet column xs) ≡ dollar_with (calls_may a) end atom' item' quiet' column xs
+  kept-dollar : (column : ℕ) (xs : List ℕ) → kept (may_stand a) (dollar_with Extended end atom item quiet column xs) ≡ dollar_with a end atom' item' quiet' column xs
   unfolding dollar_with
   kept-dollar column xs = go (byte_at 36 xs)
     where
-      go : (o : Option (ℕ × List ℕ)) → kept (may_stand a) (dollar_by true end atom item quiet column xs o) ≡ dollar_by (calls_may a) end atom' item' quiet' column xs o
+      go : (o : Option (ℕ × List ℕ)) → kept (may_stand a) (dollar_by Extended end atom item quiet column xs o) ≡ dollar_by a end atom' item' quiet' column xs o
       go (Some d) = kept-call a end item item' hi column d.1
       go None = kept-word (word_at xs) (byte_at 40 (word_at xs).1)
 
@@ -308,7 +314,7 @@ module _ (a : Allows) (end : ℕ) (deep deep' : List ℕ → Option (Tree × Lis
   number-may None = refl
   number-may (Some value) = refl
 
-  kept-by : (k : Kind) (b : ℕ) (xs : List ℕ) → kept (may_stand a) (atom_by Everything end deep quiet pattern k b xs) ≡ atom_by a end deep' quiet' pattern k b xs
+  kept-by : (k : Kind) (b : ℕ) (xs : List ℕ) → kept (may_stand a) (atom_by Extended end deep quiet pattern k b xs) ≡ atom_by a end deep' quiet' pattern k b xs
   kept-by kind.Numeral b xs = kept-with number_of (may_stand a) (numeral_at (b ∷ xs)) ∙ ap (with number_of) (kept-all (λ t. may_stand a (number_of t)) (numeral_at (b ∷ xs)) (λ t. number-may _))
   kept-by kind.Quote b xs = kept-with Lit (may_stand a) (inside xs) ∙ ap (with Lit) (kept-all (λ v. true) (inside xs) (λ v. refl))
   kept-by kind.Letter b xs = kept-local a end (chain_with deep pattern) (chain_with deep' pattern) (kept-chain a deep deep' h pattern) (b ∷ xs)
@@ -318,6 +324,6 @@ module _ (a : Allows) (end : ℕ) (deep deep' : List ℕ → Option (Tree × Lis
   kept-by (kind.Prefix op) b xs = kept-pair true (may_stand a) (may_stand a) (Prefixed op) (deep xs) (λ t. refl) ∙ ap (with (Prefixed op)) (h xs)
   kept-by kind.Other b xs = refl
 
-  pub kept-operand : (xs : List ℕ) → kept (may_stand a) (operand_with Everything end deep quiet pattern xs) ≡ operand_with a end deep' quiet' pattern xs
+  pub kept-operand : (xs : List ℕ) → kept (may_stand a) (operand_with Extended end deep quiet pattern xs) ≡ operand_with a end deep' quiet' pattern xs
   kept-operand [] = refl
   kept-operand (b ∷ xs) = kept-by (kind_of b) b xs

@@ -10,7 +10,7 @@ use Rattle.mlk_text.specs.declared.failure.Failure.{Failure}
 use Rattle.mlk_expr.specs.declared.refusal.Offence.{Offence}
 use Rattle.mlk_text.specs.declared.failure.Failure.TheVariants.{OutOfMemory, Refused}
 use Rattle.mlk_expr_tokens.specs.Lexemes.{count_at}
-use Rattle.mlk_expr.specs.declared.context.Allows.TheVariants.{Everything}
+use Rattle.mlk_expr.specs.declared.context.Allows.TheVariants.{Extended}
 use Rattle.mlk_expr.specs.Reading.{quietly, chain_with, at_most, matcher_by, some_atoms, pattern_at, operand_with, atom_at, rest_of}
 use Rattle.mlk_expr.proofs.Followed.{IsPattern, IsMatcher}
 use Rattle.mlk_text.specs.Failures.{FailsOn, IsRefused, IsLike}
@@ -101,7 +101,7 @@ matcher-shorter k count xs m ys is one =
     shorter count_at (matcher_by (pattern_at k) count) (IsMatcher (IsPattern k) count) count-takes (matcher-exact (pattern_at k) (IsPattern k) (pattern-exact k) count) count count xs m ys is one
 
 -- one level
-pub atom-above : (end k : ℕ) (xs : List ℕ) → 0 < k → atom_at end k xs ≡ operand_with Everything end (atom_at end (k - 1)) (quietly (chain_with (atom_at end (k - 1)) (pattern_at (k - 1)))) (pattern_at (k - 1)) xs
+pub atom-above : (end k : ℕ) (xs : List ℕ) → 0 < k → atom_at end k xs ≡ operand_with Extended end (atom_at end (k - 1)) (quietly (chain_with (atom_at end (k - 1)) (pattern_at (k - 1)))) (pattern_at (k - 1)) xs
 unfolding atom_at
 atom-above end zero xs h = absurd (omega arith)
 atom-above end (suc k) xs h = let e : suc k - 1 ≡ k = omega arith in rw e refl

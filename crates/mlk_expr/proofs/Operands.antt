@@ -11,7 +11,7 @@ use Rattle.mlk_syntax.specs.declared.expr.Special.{Special}
 use Rattle.mlk_expr_tokens.specs.declared.lexeme.Kind.{Kind}
 use Rattle.mlk_expr_tokens.specs.declared.lexeme.Kind.TheVariants as kind
 use Rattle.mlk_syntax.specs.ExprTrees.{Tree, Lit, Free, LocalName, GlobalName, SpecialName, Prefixed, Chain, PatternText, Func, Selected, BareCall, CallOf}
-use Rattle.mlk_expr.specs.declared.context.Allows.TheVariants.{Everything}
+use Rattle.mlk_expr.specs.declared.context.Allows.TheVariants.{Extended}
 use Rattle.mlk_expr.specs.declared.context.Passing.TheVariants.{ByReference}
 use Rattle.mlk_expr_tokens.specs.Words.{special_of, function_of, is_select}
 use Rattle.mlk_expr_tokens.specs.Lexemes.{column_of, kind_of, numeral_at}
@@ -61,7 +61,7 @@ module _ (end : ℕ) (read : List ℕ → Option (Tree × List ℕ)) (Is : Tree 
             refl,
           )
 
-  function-sound : (t : Tree) (w m xs ys : List ℕ) → word_at m ≡ (w, 40 ∷ xs) → function_with read (chain_with read pattern) (quietly (chain_with read pattern)) w xs ≡ Some (t, ys) → IsPlain end Is Pattern t (36 ∷ m) ys
+  function-sound : (t : Tree) (w m xs ys : List ℕ) → word_at m ≡ (w, 40 ∷ xs) → function_with Extended read (chain_with read pattern) (quietly (chain_with read pattern)) w xs ≡ Some (t, ys) → IsPlain end Is Pattern t (36 ∷ m) ys
   unfolding function_with arguments_with
   function-sound t w m xs ys is h = elim (cases_Bool (is_select w)) [
     | inl s ↦
@@ -100,15 +100,15 @@ module _ (end : ℕ) (read : List ℕ → Option (Tree × List ℕ)) (Is : Tree 
       let p = pair_parts (SpecialName v) t rest ys h in
       subst (λ z. IsPlain end Is Pattern z (36 ∷ m) ys) p.0 (m, w, refl, is ∙ ap (λ z. (w, z)) p.1, s, subst (λ z. byte_at 40 z ≡ None) p.1 b)
 
-  word-sound : (t : Tree) (m ys : List ℕ) (o : Option (ℕ × List ℕ)) → byte_at 40 (word_at m).1 ≡ o → word_by read (chain_with read pattern) (quietly (chain_with read pattern)) (word_at m) o ≡ Some (t, ys) → IsPlain end Is Pattern t (36 ∷ m) ys
+  word-sound : (t : Tree) (m ys : List ℕ) (o : Option (ℕ × List ℕ)) → byte_at 40 (word_at m).1 ≡ o → word_by Extended read (chain_with read pattern) (quietly (chain_with read pattern)) (word_at m) o ≡ Some (t, ys) → IsPlain end Is Pattern t (36 ∷ m) ys
   word-sound t m ys None b h = special-sound t (word_at m).0 (word_at m).1 m ys (special_of (word_at m).0) refl b refl h
   word-sound t m ys (Some o) b h = function-sound t (word_at m).0 m o.1 ys (ap (λ z. ((word_at m).0, z)) (byte-is 40 o.0 (word_at m).1 o.1 b)) h
 
-  dollar-sound : (t : Tree) (xs ys : List ℕ) → dollar_with true end read (chain_with read pattern) (quietly (chain_with read pattern)) (column_of end (36 ∷ xs)) xs ≡ Some (t, ys) → IsPlain end Is Pattern t (36 ∷ xs) ys
+  dollar-sound : (t : Tree) (xs ys : List ℕ) → dollar_with Extended end read (chain_with read pattern) (quietly (chain_with read pattern)) (column_of end (36 ∷ xs)) xs ≡ Some (t, ys) → IsPlain end Is Pattern t (36 ∷ xs) ys
   unfolding dollar_with
   dollar-sound t xs ys h = go (byte_at 36 xs) refl h
     where
-      go : (o : Option (ℕ × List ℕ)) → byte_at 36 xs ≡ o → dollar_by true end read (chain_with read pattern) (quietly (chain_with read pattern)) (column_of end (36 ∷ xs)) xs o ≡ Some (t, ys) → IsPlain end Is Pattern t (36 ∷ xs) ys
+      go : (o : Option (ℕ × List ℕ)) → byte_at 36 xs ≡ o → dollar_by Extended end read (chain_with read pattern) (quietly (chain_with read pattern)) (column_of end (36 ∷ xs)) xs o ≡ Some (t, ys) → IsPlain end Is Pattern t (36 ∷ xs) ys
       go None b h = word-sound t xs ys (byte_at 40 (word_at xs).1) refl h
       go (Some d) b h =
           let is = byte-is 36 d.0 xs d.1 b in
@@ -116,7 +116,7 @@ module _ (end : ℕ) (read : List ℕ → Option (Tree × List ℕ)) (Is : Tree 
           subst (λ z. call_with true end (chain_with read pattern) (column_of end (36 ∷ z)) d.1 ≡ Some (t, ys)) is h in
           subst (λ z. IsPlain end Is Pattern t (36 ∷ z) ys) (sym is) (call-sound t d.1 ys moved)
 
-  operand-sound : (k : Kind) (b : ℕ) → kind_of b ≡ k → (t : Tree) (xs ys : List ℕ) → atom_by Everything end read (quietly (chain_with read pattern)) pattern k b xs ≡ Some (t, ys) → IsOperand end Is Pattern t (b ∷ xs) ys
+  operand-sound : (k : Kind) (b : ℕ) → kind_of b ≡ k → (t : Tree) (xs ys : List ℕ) → atom_by Extended end read (quietly (chain_with read pattern)) pattern k b xs ≡ Some (t, ys) → IsOperand end Is Pattern t (b ∷ xs) ys
   operand-sound kind.Numeral b is t xs ys h =
       let w = with_some number_of (numeral_at (b ∷ xs)) t ys h in
       subst (λ u. IsOperand end Is Pattern u (b ∷ xs) ys) (sym w.2) (inl (number-plain w.0 (b ∷ xs) ys (canonical_text w.0) refl w.1))
@@ -136,8 +136,8 @@ module _ (end : ℕ) (read : List ℕ → Option (Tree × List ℕ)) (Is : Tree 
       subst (λ u. IsOperand end Is Pattern u (b ∷ xs) ys) (sym w.2) (inl (xs, n.0.1, w.0, ap (λ c. c ∷ xs) (is-caret b is), refl, n.1, subs, refl))
   operand-sound kind.Dollar b is t xs ys h =
       let eq = is-dollar b is in
-      let moved : dollar_with true end read (chain_with read pattern) (quietly (chain_with read pattern)) (column_of end (36 ∷ xs)) xs ≡ Some (t, ys) =
-      subst (λ c. dollar_with true end read (chain_with read pattern) (quietly (chain_with read pattern)) (column_of end (c ∷ xs)) xs ≡ Some (t, ys)) eq h in
+      let moved : dollar_with Extended end read (chain_with read pattern) (quietly (chain_with read pattern)) (column_of end (36 ∷ xs)) xs ≡ Some (t, ys) =
+      subst (λ c. dollar_with Extended end read (chain_with read pattern) (quietly (chain_with read pattern)) (column_of end (c ∷ xs)) xs ≡ Some (t, ys)) eq h in
       inl (subst (λ c. IsPlain end Is Pattern t (c ∷ xs) ys) (sym eq) (dollar-sound t xs ys moved))
   operand-sound kind.Open b is t xs ys h =
       let n = then_some (chain_with read pattern xs) _ (t, ys) h in
@@ -153,7 +153,7 @@ module _ (end : ℕ) (read : List ℕ → Option (Tree × List ℕ)) (Is : Tree 
   word-is : (m w ys : List ℕ) → word_at m ≡ (w, ys) → ((word_at m).0 ≡ w) × ((word_at m).1 ≡ ys)
   word-is m w ys h = (ap (λ p. p.0) h, ap (λ p. p.1) h)
 
-  plain-complete : (t : Tree) (xs ys : List ℕ) → IsPlain end Is Pattern t xs ys → operand_with Everything end read (quietly (chain_with read pattern)) pattern xs ≡ Some (t, ys)
+  plain-complete : (t : Tree) (xs ys : List ℕ) → IsPlain end Is Pattern t xs ys → operand_with Extended end read (quietly (chain_with read pattern)) pattern xs ≡ Some (t, ys)
   unfolding call_with function_with arguments_with dollar_with
   plain-complete (Lit value) xs ys (inl (text, n, same)) =
       let f = numeral-first text xs ys n in
@@ -199,7 +199,7 @@ module _ (end : ℕ) (read : List ℕ → Option (Tree × List ℕ)) (Is : Tree 
       let more = (actuals-exact end (chain_with read pattern) (IsChain Is Pattern) chains).complete given n ys list in
       rw is (rw kind-dollar (rw c (rw more (rw (same, at, is) refl))))
 
-  operand-complete : (t : Tree) (xs ys : List ℕ) → IsOperand end Is Pattern t xs ys → operand_with Everything end read (quietly (chain_with read pattern)) pattern xs ≡ Some (t, ys)
+  operand-complete : (t : Tree) (xs ys : List ℕ) → IsOperand end Is Pattern t xs ys → operand_with Extended end read (quietly (chain_with read pattern)) pattern xs ≡ Some (t, ys)
   operand-complete t xs ys (inl h) = plain-complete t xs ys h
   operand-complete t xs ys (inr (m, is, inner)) = rw is (rw kind-open (rw (chains.complete t m (41 ∷ ys) inner) refl))
 
@@ -237,10 +237,10 @@ module _ (end : ℕ) (read : List ℕ → Option (Tree × List ℕ)) (Is : Tree 
   operand-after t xs ys (inr (m, is, inner)) =
       subst (λ z. After ys z) (sym is) (after_then (40 ∷ m) m ys (after-one 40 m) (after_then m (41 ∷ ys) ys (chains.after t m (41 ∷ ys) inner) (after-one 41 ys)))
 
-  pub operand-exact : Exact (operand_with Everything end read (quietly (chain_with read pattern)) pattern) (IsOperand end Is Pattern)
+  pub operand-exact : Exact (operand_with Extended end read (quietly (chain_with read pattern)) pattern) (IsOperand end Is Pattern)
   operand-exact = record { sound = start; complete = operand-complete; after = operand-after }
     where
-      start : (t : Tree) (xs ys : List ℕ) → operand_with Everything end read (quietly (chain_with read pattern)) pattern xs ≡ Some (t, ys) → IsOperand end Is Pattern t xs ys
+      start : (t : Tree) (xs ys : List ℕ) → operand_with Extended end read (quietly (chain_with read pattern)) pattern xs ≡ Some (t, ys) → IsOperand end Is Pattern t xs ys
       start t [] ys h = cc h
       start t (b ∷ xs) ys h = operand-sound (kind_of b) b refl t xs ys h
 

@@ -10,7 +10,7 @@ use Rattle.mlk_syntax.specs.declared.expr.Expr.TheVariants as rust
 use Rattle.mlk_syntax.specs.ExprTrees.{tree_of, trees, sub_trees, links, choices, trees_from, subs_from, links_from, choices_from}
 use Rattle.mlk_syntax.proofs.Variants.{tree_func, tree_local, tree_global, tree_binary, tree_select}
 use Rattle.mlk_expr.specs.declared.context.Allows.TheVariants.{NoTouches}
-use Rattle.mlk_expr.specs.Touches.{may_stand, subs_stand, trees_may, subs_may, links_may, choices_may}
+use Rattle.mlk_expr.specs.Touches.{function_may, may_stand, subs_stand, trees_may, subs_may, links_may, choices_may}
 use Rattle.mlk_expr.specs.Quiet.{quiet, quiet_subscript, quiet_link, quiet_choice}
 
 trees_all : (es : List Expr) → trees_may NoTouches (trees_from (trees es)) ≡ list_all quiet es
@@ -29,8 +29,8 @@ choices_all : (cs : List (Expr × Expr)) → choices_may NoTouches (choices_from
 choices_all [] = refl
 choices_all (c ∷ cs) = ap (λ b. quiet_choice c && b) (choices_all cs)
 
-pub of_func : (f : Function) (v : Vec Expr Global) → quiet (rust.Func f v) ≡ list_all quiet v.items
-of_func f v = ap (may_stand NoTouches) (tree_func f v) ∙ trees_all v.items
+pub of_func : (f : Function) (v : Vec Expr Global) → quiet (rust.Func f v) ≡ (function_may NoTouches f && list_all quiet v.items)
+of_func f v = ap (may_stand NoTouches) (tree_func f v) ∙ ap (λ b. function_may NoTouches f && b) (trees_all v.items)
 
 pub of_local : (name : List ℕ) (v : Vec Subscript Global) → quiet (rust.Local name v) ≡ list_all quiet_subscript v.items
 of_local name v = ap (may_stand NoTouches) (tree_local name v) ∙ subs_all v.items

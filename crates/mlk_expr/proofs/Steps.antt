@@ -15,10 +15,10 @@ use Rattle.mlk_text.specs.declared.failure.Failure.TheVariants.{OutOfMemory, Ref
 use Rattle.mlk_syntax.specs.ExprTrees.{Tree, LocalName, GlobalName, CallOf, Func, ActualTree, subs_from, trees_from, actuals_from, sub_of}
 use Rattle.mlk_expr.specs.declared.context.Allows.{Allows}
 use Rattle.mlk_expr.specs.declared.context.Passing.TheVariants.{ByReference}
-use Rattle.mlk_expr.specs.Touches.{globals_may}
+use Rattle.mlk_expr.specs.Touches.{globals_may, function_may}
 use Rattle.mlk_expr_tokens.specs.Words.{is_select, function_of}
 use Rattle.mlk_expr_tokens.specs.Lexemes.{column_of, kind_of, count_at, starts_reference}
-use Rattle.mlk_expr.specs.Grammar.{named, has_subscript, asks_subscript}
+use Rattle.mlk_expr.specs.Grammar.{named, has_subscript, takes}
 use Rattle.mlk_expr.specs.Reading.{where_may, at_most, next, list_with, matcher_by, some_atoms, pattern_at, subs_with, local_with, global_with, chain_with, operand_with, others_by, callee_at, actuals_with, call_with, function_with, arguments_with}
 use Rattle.mlk_text.specs.Failures.{FailsOn}
 use Rattle.mlk_expr.proofs.Parts.{pattern-exact}
@@ -106,16 +106,16 @@ call-fails OutOfMemory may end item column xs callee m n b f g h = tt
 call-fails (Refused r) may end item column xs callee m n b f g h = rw b (rw f (rw g (rw h refl)))
 
 -- functions
-pub function-gives : (atom item quiet : List ℕ → Option (Tree × List ℕ)) (w xs : List ℕ) (f : Function) (ts : List Tree) (ys : List ℕ)
-    → is_select w ≡ false → function_of w ≡ Some f → arguments_with atom item quiet f xs ≡ Some (ts, ys) → function_with atom item quiet w xs ≡ Some (Func f (trees_from ts), ys)
+pub function-gives : (a : Allows) (atom item quiet : List ℕ → Option (Tree × List ℕ)) (w xs : List ℕ) (f : Function) (ts : List Tree) (ys : List ℕ)
+    → is_select w ≡ false → function_of w ≡ Some f → function_may a f ≡ true → arguments_with atom item quiet f xs ≡ Some (ts, ys) → function_with a atom item quiet w xs ≡ Some (Func f (trees_from ts), ys)
 unfolding function_with
-function-gives atom item quiet w xs f ts ys s g h = rw s (rw g (rw h refl))
+function-gives a atom item quiet w xs f ts ys s g may h = rw s (rw g (rw may (rw h refl)))
 
-pub function-fails : (e : Failure Offence) (atom item quiet : List ℕ → Option (Tree × List ℕ)) (w xs : List ℕ) (f : Function)
-    → is_select w ≡ false → function_of w ≡ Some f → FailsOn e (arguments_with atom item quiet f xs) → FailsOn e (function_with atom item quiet w xs)
+pub function-fails : (e : Failure Offence) (a : Allows) (atom item quiet : List ℕ → Option (Tree × List ℕ)) (w xs : List ℕ) (f : Function)
+    → is_select w ≡ false → function_of w ≡ Some f → function_may a f ≡ true → FailsOn e (arguments_with atom item quiet f xs) → FailsOn e (function_with a atom item quiet w xs)
 unfolding function_with
-function-fails OutOfMemory atom item quiet w xs f s g h = tt
-function-fails (Refused r) atom item quiet w xs f s g h = rw s (rw g (rw h refl))
+function-fails OutOfMemory a atom item quiet w xs f s g may h = tt
+function-fails (Refused r) a atom item quiet w xs f s g may h = rw s (rw g (rw may (rw h refl)))
 
 -- a list with at most `most` items
 module _ {A : Type 0} (item : List ℕ → Option (A × List ℕ)) (most : ℕ) (xs : List ℕ) (first : A) (m : List ℕ) where
@@ -162,7 +162,7 @@ module _ (atom item quiet : List ℕ → Option (Tree × List ℕ)) (f : Functio
   abbrev argued : Option (List Tree × List ℕ)
   argued = put (first ∷ []) (many (byte_at 44) (next quiet) (suc (length m)) m) >>= at_most (suc most)
 
-  pub arguments-give : (args : List Tree) (rest ys : List ℕ) → named f ≡ Some most → starts_reference xs ≡ true → atom xs ≡ Some (first, m) → (asks_subscript f && not (has_subscript first)) ≡ false
+  pub arguments-give : (args : List Tree) (rest ys : List ℕ) → named f ≡ Some most → starts_reference xs ≡ true → atom xs ≡ Some (first, m) → takes f first ≡ true
       → argued ≡ Some (args, rest) → byte_at 41 rest ≡ Some (41, ys) → arguments_with atom item quiet f xs ≡ Some (args, ys)
   unfolding arguments_with
   arguments-give args rest ys n starts one asks more close =
@@ -173,7 +173,7 @@ module _ (atom item quiet : List ℕ → Option (Tree × List ℕ)) (f : Functio
       let small : nat_le (length w.0) most ≡ true = le-leb (length w.0) most (omega arith) in
       rw n (rw starts (rw one (rw asks (rw (w.1) (rw small (rw close (ap (λ l. Some (l, ys)) (sym w.2))))))))
 
-  pub arguments-close : (args : List Tree) (rest : List ℕ) → named f ≡ Some most → starts_reference xs ≡ true → atom xs ≡ Some (first, m) → (asks_subscript f && not (has_subscript first)) ≡ false
+  pub arguments-close : (args : List Tree) (rest : List ℕ) → named f ≡ Some most → starts_reference xs ≡ true → atom xs ≡ Some (first, m) → takes f first ≡ true
       → argued ≡ Some (args, rest) → byte_at 41 rest ≡ None → arguments_with atom item quiet f xs ≡ None
   unfolding arguments_with
   arguments-close args rest n starts one asks more close =
@@ -194,7 +194,7 @@ module _ (atom item quiet : List ℕ → Option (Tree × List ℕ)) (f : Functio
         cc (rw small at h)
   ]
 
-  pub arguments-fail : (e : Failure Offence) → named f ≡ Some most → starts_reference xs ≡ true → atom xs ≡ Some (first, m) → (asks_subscript f && not (has_subscript first)) ≡ false
+  pub arguments-fail : (e : Failure Offence) → named f ≡ Some most → starts_reference xs ≡ true → atom xs ≡ Some (first, m) → takes f first ≡ true
       → FailsOn e argued → FailsOn e (arguments_with atom item quiet f xs)
   unfolding arguments_with
   arguments-fail OutOfMemory n starts one asks more = tt

@@ -109,20 +109,28 @@ IsActuals Item at (a ∷ more) s = (inner : List ℕ) × IsEnclosed inner s
 abbrev pub named : Function → Option ℕ
 named function.Data = Some 0
 named function.Get = Some 1
+named function.Increment = Some 1
 named function.Name = Some 1
 named function.Order = Some 1
 named function.Query = Some 0
 named f = None
 
--- `$ORDER` requires a subscript
+-- whether a name has a subscript, and whether it is that of a global
 abbrev pub has_subscript : Tree → Bool
 has_subscript (LocalName name (sub column t more)) = true
 has_subscript (GlobalName column name (sub at t more)) = true
 has_subscript t = false
 
-abbrev pub asks_subscript : Function → Bool
-asks_subscript function.Order = true
-asks_subscript f = false
+abbrev pub is_global : Tree → Bool
+is_global (GlobalName column name subs) = true
+is_global t = false
+
+-- The names that a function takes: `$ORDER` requires a subscript. `$INCREMENT` of a local is not read, which is this project's own
+-- choice.
+abbrev pub takes : Function → Tree → Bool
+takes function.Order t = has_subscript t
+takes function.Increment t = is_global t
+takes f t = true
 
 -- Arguments: expressions, or a name and the arguments that may follow it, which contain no global and no call, since it is
 -- not certain whether the name's node or they are evaluated first. Standard: functions.
@@ -130,7 +138,7 @@ abbrev pub AreArguments : Spelled Tree → Spelled Tree → Function → Option 
 AreArguments Atom Item f None at args s = IsList Item at args s
 AreArguments Atom Item f (Some most) at args s = (first : Tree) × (others : List Tree) × (front rest : List ℕ)
     × (args ≡ first ∷ others) × (s ≡ front ++ rest) × Atom at first front × (starts_reference front ≡ true)
-    × (asks_subscript f ≡ true → has_subscript first ≡ true)
+    × (takes f first ≡ true)
     × AreNext (Standing (may_stand NoTouches) Item) (at + length front) others rest × (length others ≤ most)
 
 -- a condition and its value

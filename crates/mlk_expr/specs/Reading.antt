@@ -15,15 +15,15 @@ use Rattle.mlk_syntax.specs.ExprTrees.{Tree, Lit, Free, LocalName, GlobalName, S
 use Rattle.mlk_syntax.specs.ExprTrees.{Selected, BareCall, CallOf, ActualTree, Given, ByRef, Missing, trees_from, subs_from}
 use Rattle.mlk_syntax.specs.ExprTrees.{choices_from, actuals_from}
 use Rattle.mlk_expr.specs.declared.context.Allows.{Allows}
-use Rattle.mlk_expr.specs.declared.context.Allows.TheVariants.{Everything, NoTouches}
+use Rattle.mlk_expr.specs.declared.context.Allows.TheVariants.{Extended, NoTouches}
 use Rattle.mlk_expr.specs.declared.context.Context.{Context}
 use Rattle.mlk_expr.specs.declared.context.Passing.{Passing}
 use Rattle.mlk_expr.specs.declared.context.Passing.TheVariants.{ByReference}
-use Rattle.mlk_expr.specs.Touches.{globals_may, calls_may, may_stand, lends}
+use Rattle.mlk_expr.specs.Touches.{globals_may, calls_may, function_may, may_stand, lends}
 use Rattle.mlk_expr_tokens.specs.Words.{special_of, function_of, is_select}
 use Rattle.mlk_expr_tokens.specs.Lexemes.{column_of, kind_of, op_at, is_match, numeral_at, count_at, pattern_codes_at}
 use Rattle.mlk_expr_tokens.specs.Lexemes.{lent_at, starts_reference, is_missing, ends}
-use Rattle.mlk_expr.specs.Grammar.{chained, named, has_subscript, asks_subscript}
+use Rattle.mlk_expr.specs.Grammar.{chained, named, takes}
 
 -- a reader returns what it read with the rest, or nothing
 abbrev pub Reader : Type 0 → Type 0
@@ -162,8 +162,8 @@ others_by most first others = if nat_le (length others.0) most then with (λ _. 
 
 abbrev pub name_and : Reader Tree → Function → ℕ → Tree × List ℕ → Option (List Tree × List ℕ)
 name_and item f most first =
-    if asks_subscript f && not (has_subscript first.0) then None
-    else many (byte_at 44) (next item) (suc (length first.1)) first.1 >>= others_by most first.0
+    if takes f first.0 then many (byte_at 44) (next item) (suc (length first.1)) first.1 >>= others_by most first.0
+    else None
 
 -- `quiet` reads the arguments after a name
 abbrev pub arguments_by : Reader Tree → Reader Tree → Reader Tree → Function → Option ℕ → Reader (List Tree)
@@ -173,27 +173,28 @@ arguments_by atom item quiet f (Some most) xs = if starts_reference xs then atom
 unfoldable pub arguments_with : Reader Tree → Reader Tree → Reader Tree → Function → Reader (List Tree)
 arguments_with atom item quiet f xs = arguments_by atom item quiet f (named f) xs
 
-unfoldable pub function_with : Reader Tree → Reader Tree → Reader Tree → List ℕ → Reader Tree
-function_with atom item quiet w xs =
+unfoldable pub function_with : Allows → Reader Tree → Reader Tree → Reader Tree → List ℕ → Reader Tree
+function_with a atom item quiet w xs =
     if is_select w then with (λ cs. Selected (choices_from cs)) (list_with (choice_with item) xs)
-    else function_of w >>= λ f. with (λ ts. Func f (trees_from ts)) (arguments_with atom item quiet f xs)
+    else function_of w >>= λ f. where_may (function_may a f)
+    (with (λ ts. Func f (trees_from ts)) (arguments_with atom item quiet f xs))
 
 abbrev pub special_by : Option Special → Reader Tree
 special_by None rest = None
 special_by (Some special) rest = Some (SpecialName special, rest)
 
-abbrev pub word_by : Reader Tree → Reader Tree → Reader Tree → List ℕ
+abbrev pub word_by : Allows → Reader Tree → Reader Tree → Reader Tree → List ℕ
     × List ℕ → Option (ℕ × List ℕ) → Option (Tree × List ℕ)
-word_by atom item quiet w None = special_by (special_of w.0) w.1
-word_by atom item quiet w (Some open') = function_with atom item quiet w.0 open'.1
+word_by a atom item quiet w None = special_by (special_of w.0) w.1
+word_by a atom item quiet w (Some open') = function_with a atom item quiet w.0 open'.1
 
-abbrev pub dollar_by : Bool → ℕ → Reader Tree → Reader Tree → Reader Tree → ℕ → List ℕ → Option (ℕ
+abbrev pub dollar_by : Allows → ℕ → Reader Tree → Reader Tree → Reader Tree → ℕ → List ℕ → Option (ℕ
     × List ℕ) → Option (Tree × List ℕ)
-dollar_by may end atom item quiet column xs (Some dollar) = call_with may end item column dollar.1
-dollar_by may end atom item quiet column xs None = word_by atom item quiet (word_at xs) (byte_at 40 (word_at xs).1)
+dollar_by a end atom item quiet column xs (Some dollar) = call_with (calls_may a) end item column dollar.1
+dollar_by a end atom item quiet column xs None = word_by a atom item quiet (word_at xs) (byte_at 40 (word_at xs).1)
 
-unfoldable pub dollar_with : Bool → ℕ → Reader Tree → Reader Tree → Reader Tree → ℕ → Reader Tree
-dollar_with may end atom item quiet column xs = dollar_by may end atom item quiet column xs (byte_at 36 xs)
+unfoldable pub dollar_with : Allows → ℕ → Reader Tree → Reader Tree → Reader Tree → ℕ → Reader Tree
+dollar_with a end atom item quiet column xs = dollar_by a end atom item quiet column xs (byte_at 36 xs)
 
 -- names
 abbrev pub local_with : ℕ → Reader Tree → Reader Tree
@@ -215,7 +216,7 @@ atom_by a end deep quiet pattern kind.Letter b xs = local_with end (chain_with d
 atom_by a end deep quiet pattern kind.Caret b xs =
     global_with (globals_may a) end (column_of end (b ∷ xs)) (chain_with deep pattern) xs
 atom_by a end deep quiet pattern kind.Dollar b xs =
-    dollar_with (calls_may a) end deep (chain_with deep pattern) quiet (column_of end (b ∷ xs)) xs
+    dollar_with a end deep (chain_with deep pattern) quiet (column_of end (b ∷ xs)) xs
 atom_by a end deep quiet pattern kind.Open b xs = enclosed_with (chain_with deep pattern) xs
 atom_by a end deep quiet pattern (kind.Prefix op) b xs = with (Prefixed op) (deep xs)
 atom_by a end deep quiet pattern kind.Other b xs = None
@@ -231,7 +232,7 @@ quietly item xs = kept (may_stand NoTouches) (item xs)
 unfoldable pub atom_at : ℕ → ℕ → Reader Tree
 atom_at end zero xs = None
 atom_at end (suc k) xs =
-    operand_with Everything end (atom_at end k) (quietly (chain_with (atom_at end k) (pattern_at k))) (pattern_at k) xs
+    operand_with Extended end (atom_at end k) (quietly (chain_with (atom_at end k) (pattern_at k))) (pattern_at k) xs
 
 -- `atom_at` where a reader is
 unfoldable pub atom_in : Context → Reader Tree

@@ -1,11 +1,14 @@
--- What is allowed where the order of evaluation is not certain: nothing for which it could matter. The standard says little about
--- that order; which places these are is this project's own choice.
-use Rattle.std.specs.Prelude.{ℕ, ◌≡◌, ◌&&◌, Bool, true, false, List}
+-- What is allowed in an expression. Where the order of evaluation is not certain, nothing for which it could matter: the standard
+-- says little about that order, and which places these are is this project's own choice. `$INCREMENT`, which the standard does not
+-- have, is allowed in the extended dialect, where everything is.
+use Rattle.std.specs.Prelude.{ℕ, ◌≡◌, ◌&&◌, ◌||◌, not, Bool, true, false, List}
 use Rattle.std.specs.List.{list_all}
 use Rattle.mlk_expr.specs.declared.context.Allows.{Allows}
 use Rattle.mlk_expr.specs.declared.context.Allows.TheVariants as allows
 use Rattle.mlk_expr.specs.declared.context.Passing.{Passing}
 use Rattle.mlk_expr.specs.declared.context.Passing.TheVariants as passing
+use Rattle.mlk_syntax.specs.declared.expr.Function.{Function}
+use Rattle.mlk_syntax.specs.declared.expr.Function.TheVariants as function
 use Rattle.mlk_syntax.specs.ExprTrees.{Tree, Lit, Free, LocalName, GlobalName, SpecialName, Prefixed, Chain, PatternText}
 use Rattle.mlk_syntax.specs.ExprTrees.{Func, Selected, BareCall, CallOf, Trees, no_trees, tree, Subs, no_subs, sub, Links}
 use Rattle.mlk_syntax.specs.ExprTrees.{no_links, link, Choices, no_choices, choice, ActualTree, Given, ByRef, Missing}
@@ -13,15 +16,31 @@ use Rattle.mlk_syntax.specs.ExprTrees.{Actuals, no_actuals, actual}
 
 -- whether a global reference is allowed there,
 abbrev pub globals_may : Allows → Bool
+globals_may allows.Extended = true
 globals_may allows.Everything = true
 globals_may allows.NoCalls = true
 globals_may allows.NoTouches = false
 
--- and an extrinsic call
+-- an extrinsic call,
 abbrev pub calls_may : Allows → Bool
+calls_may allows.Extended = true
 calls_may allows.Everything = true
 calls_may allows.NoCalls = false
 calls_may allows.NoTouches = false
+
+-- and a function
+abbrev pub increments_may : Allows → Bool
+increments_may allows.Extended = true
+increments_may allows.Everything = false
+increments_may allows.NoCalls = false
+increments_may allows.NoTouches = false
+
+abbrev pub increments : Function → Bool
+increments function.Increment = true
+increments f = false
+
+abbrev pub function_may : Allows → Function → Bool
+function_may a f = increments_may a || not (increments f)
 
 -- Whether everything in a tree is allowed there, at any depth.
 abbrev mutual
@@ -34,7 +53,7 @@ abbrev mutual
   may_stand a (Prefixed op t) = may_stand a t
   may_stand a (Chain first rest) = may_stand a first && links_may a rest
   may_stand a (PatternText text) = true
-  may_stand a (Func function args) = trees_may a args
+  may_stand a (Func function args) = function_may a function && trees_may a args
   may_stand a (Selected choices) = choices_may a choices
   may_stand a (BareCall column callee) = calls_may a
   may_stand a (CallOf column callee actuals) = calls_may a && actuals_may a actuals

@@ -1,12 +1,16 @@
 // What is allowed in an expression, and where its reader is.
 
 ghost use Rattle.std.specs.Prelude.{◌≡◌};
-ghost use Rattle.mlk_expr.specs.Touches.{globals_may, calls_may, lends};
+ghost use Rattle.mlk_expr.specs.Touches.{globals_may, calls_may, function_may, lends};
 
-/// What is allowed in an expression, depending on how certain the order is in which its parts are evaluated.
-#[derive(Clone, Copy, Debug, Drop, PartialEq, Eq)]
+use mlk_syntax::Function;
+
+/// What is allowed in an expression, depending on the dialect and on how certain the order is in which its parts are evaluated.
+#[derive(Clone, Copy, Drop, PartialEq, Eq)]
 pub enum Allows {
-    /// everything, global references and extrinsic calls included
+    /// everything, with `$INCREMENT`, which the standard does not have
+    Extended,
+    /// everything of the standard, global references and extrinsic calls included
     Everything,
     /// no extrinsic calls
     NoCalls,
@@ -28,14 +32,24 @@ impl Allows {
         ensures { result ≡ calls_may self }
     {
         match self {
-            Allows::Everything => true,
+            Allows::Extended | Allows::Everything => true,
             _ => false,
+        }
+    }
+
+    pub(crate) fn function(self, function: Function) -> bool
+        ensures { result ≡ function_may self function }
+    {
+        match (self, function) {
+            (Allows::Extended, _) => true,
+            (_, Function::Increment) => false,
+            _ => true,
         }
     }
 }
 
 /// How actuals may be passed.
-#[derive(Clone, Copy, Debug, Drop, PartialEq, Eq)]
+#[derive(Clone, Copy, Drop, PartialEq, Eq)]
 pub enum Passing {
     /// by value or by reference
     ByReference,
@@ -55,7 +69,7 @@ impl Passing {
 }
 
 /// Where a reader is: in a line whose end has the column `end`, with `left` levels of nesting left, where `allows` is allowed.
-#[derive(Clone, Copy, Debug, Drop)]
+#[derive(Clone, Copy, Drop)]
 pub struct Context {
     pub end: usize,
     pub left: u8,

@@ -6,7 +6,7 @@ ghost use Rattle.mlk_text.specs.Lexemes.{name_at, label_at, inside};
 ghost use Rattle.mlk_text.specs.Reading.{with};
 ghost use Rattle.mlk_expr_tokens.specs.Lexemes.{numeral_at, lent_at};
 ghost use Rattle.mlk_syntax.specs.ExprTrees.{Lit, tree_of};
-ghost use Rattle.mlk_expr.specs.Grammar.{named, has_subscript, asks_subscript};
+ghost use Rattle.mlk_expr.specs.Grammar.{named, has_subscript, takes};
 ghost use Rattle.mlk_expr.specs.Reading.{where_may, number_of, callee_at};
 ghost use Rattle.mlk_expr.specs.Touches.{globals_may};
 
@@ -189,18 +189,8 @@ pub(crate) fn most_after_name(function: Function) -> Option<usize>
 {
     match function {
         Function::Data | Function::Query => Some(0),
-        Function::Get | Function::Name | Function::Order => Some(1),
+        Function::Get | Function::Increment | Function::Name | Function::Order => Some(1),
         _ => None,
-    }
-}
-
-/// Whether the first argument of `function` must have a subscript.
-pub(crate) fn asks_subscript(function: Function) -> bool
-    ensures { result ≡ asks_subscript function }
-{
-    match function {
-        Function::Order => true,
-        _ => false,
     }
 }
 
@@ -212,5 +202,17 @@ pub(crate) fn has_subscript(tree: &Expr) -> bool
         Expr::Local(_, subs) => !subs.is_empty(),
         Expr::Global(_, _, subs) => !subs.is_empty(),
         _ => false,
+    }
+}
+
+/// Whether `function`, whose first argument is a name, takes this one.
+pub(crate) fn takes(function: Function, tree: &Expr) -> bool
+    ensures { result ≡ takes function (tree_of tree.now) }
+{
+    match (function, tree) {
+        (Function::Order, _) => has_subscript(tree),
+        (Function::Increment, Expr::Global(_, _, _)) => true,
+        (Function::Increment, _) => false,
+        _ => true,
     }
 }

@@ -2,11 +2,11 @@
 
 ghost use Rattle.std.specs.Prelude.{◌≡◌, ◌≤◌, length, IfOk, IfErr};
 ghost use Rattle.mlk_syntax.specs.ExprTrees.{tree_of, actual_trees};
-ghost use Rattle.mlk_expr.specs.Grammar.{IsExpr, IsReference, IsActualList};
 ghost use Rattle.mlk_expr.specs.Grammar.{IsExprWhere, IsReferenceWhere, IsActualListWhere};
 ghost use Rattle.mlk_expr.specs.Reading.{expr_in, reference_in, actual_list_in};
 ghost use Rattle.mlk_text.specs.Failures.{Reads};
 ghost use Rattle.mlk_expr.specs.Theorem.{ExprEnds, ReferenceEnds, ListEnds, Stands, Only, Refuses, Faults};
+ghost use Rattle.mlk_expr.specs.declared.context.Allows.TheVariants.{Everything};
 ghost use Rattle.mlk_expr.specs.declared.context.Passing.TheVariants.{ByReference};
 
 use crate::context::{Allows, Context, Passing};
@@ -78,12 +78,12 @@ fn actual_list<'a>(
     actuals(alloc, context, passing, after)
 }
 
-/// Reads the expression at byte `at` of `line`: its tree, and the byte after it.
+/// Reads the expression of the standard dialect at byte `at` of `line`: its tree, and the byte after it.
 pub fn read_expr(alloc: Global, line: &[u8], at: usize) -> Result<(Expr, usize), Failure<Fault>>
     requires { at ≤ length line.now }
-    ensures found { IfOk result (λ r. Stands IsExpr ExprEnds line.now at (tree_of r.0) r.1) }
-    ensures only { IfOk result (λ r. Only IsExpr ExprEnds line.now at (tree_of r.0) r.1) }
-    ensures refused { IfErr result (λ e. Refuses IsExpr ExprEnds line.now at e) }
+    ensures found { IfOk result (λ r. Stands (IsExprWhere Everything) ExprEnds line.now at (tree_of r.0) r.1) }
+    ensures only { IfOk result (λ r. Only (IsExprWhere Everything) ExprEnds line.now at (tree_of r.0) r.1) }
+    ensures refused { IfErr result (λ e. Refuses (IsExprWhere Everything) ExprEnds line.now at e) }
     ensures fault { IfErr result (λ e. Faults ByReference line.now at e) }
 {
     read_expr_where(alloc, Allows::Everything, line, at)
@@ -118,9 +118,9 @@ pub fn read_expr_where(
 /// Reads the local or global with its subscripts at byte `at` of `line`: its tree, and the byte after it.
 pub fn read_ref(alloc: Global, line: &[u8], at: usize) -> Result<(Expr, usize), Failure<Fault>>
     requires { at ≤ length line.now }
-    ensures found { IfOk result (λ r. Stands IsReference ReferenceEnds line.now at (tree_of r.0) r.1) }
-    ensures only { IfOk result (λ r. Only IsReference ReferenceEnds line.now at (tree_of r.0) r.1) }
-    ensures refused { IfErr result (λ e. Refuses IsReference ReferenceEnds line.now at e) }
+    ensures found { IfOk result (λ r. Stands (IsReferenceWhere Everything) ReferenceEnds line.now at (tree_of r.0) r.1) }
+    ensures only { IfOk result (λ r. Only (IsReferenceWhere Everything) ReferenceEnds line.now at (tree_of r.0) r.1) }
+    ensures refused { IfErr result (λ e. Refuses (IsReferenceWhere Everything) ReferenceEnds line.now at e) }
     ensures fault { IfErr result (λ e. Faults ByReference line.now at e) }
 {
     read_ref_where(alloc, Allows::Everything, line, at)
@@ -159,9 +159,9 @@ pub fn read_actuals(
     at: usize,
 ) -> Result<(Vec<Actual>, usize), Failure<Fault>>
     requires { at ≤ length line.now }
-    ensures found { IfOk result (λ r. Stands IsActualList ListEnds line.now at (actual_trees r.0.items) r.1) }
-    ensures only { IfOk result (λ r. Only IsActualList ListEnds line.now at (actual_trees r.0.items) r.1) }
-    ensures refused { IfErr result (λ e. Refuses IsActualList ListEnds line.now at e) }
+    ensures found { IfOk result (λ r. Stands (IsActualListWhere Everything ByReference) ListEnds line.now at (actual_trees r.0.items) r.1) }
+    ensures only { IfOk result (λ r. Only (IsActualListWhere Everything ByReference) ListEnds line.now at (actual_trees r.0.items) r.1) }
+    ensures refused { IfErr result (λ e. Refuses (IsActualListWhere Everything ByReference) ListEnds line.now at e) }
     ensures fault { IfErr result (λ e. Faults ByReference line.now at e) }
 {
     read_actuals_where(alloc, Allows::Everything, Passing::ByReference, line, at)

@@ -7,6 +7,7 @@ ghost use Rattle.mlk_expr.specs.declared.context.Allows.TheVariants.{NoTouches};
 ghost use Rattle.mlk_expr.specs.Touches.{may_stand, subs_stand};
 ghost use Rattle.mlk_expr.specs.Quiet.{quiet, quiet_subscript, quiet_link, quiet_choice};
 
+use crate::context::Allows;
 use mlk_syntax::{Expr, Subscript};
 use mlk_text::Op;
 
@@ -22,7 +23,9 @@ pub fn is_quiet_expr(e: &Expr) -> bool
         Expr::Global(_, _, _) | Expr::Call(_, _, _) => false,
         Expr::Unary(_, operand) => is_quiet_expr(operand),
         Expr::Binary(first, rest) => is_quiet_expr(first) && is_quiet_chain(rest),
-        Expr::Func(_, arguments) => are_quiet(arguments),
+        Expr::Func(function, arguments) => {
+            Allows::NoTouches.function(*function) && are_quiet(arguments)
+        }
         Expr::Select(choices) => are_quiet_choices(choices),
     }
 }

@@ -7,7 +7,7 @@ use crate::context::{Allows, Passing};
 use mlk_expr_tokens::lexeme::{Kind, count_at, kind_of};
 use mlk_expr_tokens::numeral::mantissa_len;
 use mlk_expr_tokens::words::{function_of, is_select, special_of};
-use mlk_syntax::{Actual, Expr};
+use mlk_syntax::{Actual, Expr, Function};
 use mlk_text::lexeme::{byte_of, is_digit, word_at};
 use mlk_text::{Failure, LeftOut};
 use thiserror::Error;
@@ -211,6 +211,16 @@ pub(crate) fn no_word(bytes: &[u8], after: &[u8]) -> Failure<Offence>
     }
 }
 
+/// Why `function` does not take the name at the front of `bytes`, after which `rest` is left.
+pub(crate) fn not_taken(function: Function, bytes: &[u8], rest: &[u8]) -> Failure<Offence>
+    ensures { IsRefused result }
+{
+    match function {
+        Function::Increment => leaves_out(LeftOut::Function, bytes),
+        _ => refusal_at(Wrong::Form, rest),
+    }
+}
+
 /// Why there is no function `word` here, from its `$` on.
 pub(crate) fn no_function(bytes: &[u8], word: &[u8]) -> Failure<Offence>
     ensures { IsRefused result }
@@ -242,13 +252,13 @@ pub(crate) fn too_deep_pattern(bytes: &[u8]) -> Failure<Offence>
 }
 
 // Whether the text after a `$` is refused at the `$`, at any depth.
-fn is_left_out(after: &[u8]) -> bool {
+fn is_left_out(allows: Allows, after: &[u8]) -> bool {
     let (word, rest) = word_at(after);
     if word.is_empty() {
         return after.first().copied() == Some(b'&');
     }
     match byte_of(b'(', rest) {
-        Some(_) => !is_select(word) && function_of(word).is_none(),
+        Some(_) => !is_select(word) && !function_of(word).is_some_and(|it| allows.function(it)),
         None => special_of(word).is_none(),
     }
 }
@@ -272,7 +282,7 @@ pub(crate) fn too_deep(allows: Allows, bytes: &[u8]) -> Failure<Offence>
             if after.first().copied() == Some(b'$') && !allows.calls() {
                 return no_call(bytes);
             }
-            if is_left_out(after) {
+            if is_left_out(allows, after) {
                 return no_word(bytes, after);
             }
             refusal_at(Wrong::Deep, bytes)

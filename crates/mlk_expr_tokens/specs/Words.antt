@@ -46,9 +46,14 @@ function_to_fnumber w =
     else if is_either (codes "FN") (codes "FNUMBER") w then Some function.FormatNumber
     else None
 
+-- `$INCREMENT`, which the standard does not have and most vendors do
+abbrev pub is_increment : List ℕ → Bool
+is_increment w = is_either (codes "I") (codes "INCREMENT") w || str_eq_ignore_ascii_case w (codes "INCR")
+
 unfoldable pub function_to_piece : List ℕ → Option Function
 function_to_piece w =
     if is_either (codes "G") (codes "GET") w then Some function.Get
+    else if is_increment w then Some function.Increment
     else if is_either (codes "J") (codes "JUSTIFY") w then Some function.Justify
     else if is_either (codes "L") (codes "LENGTH") w then Some function.Length
     else if is_either (codes "NA") (codes "NAME") w then Some function.Name

@@ -9,7 +9,7 @@ use mlk_text::lexeme::{byte_of, digits, is_digit, is_letter};
 use mlk_text::{Column, Op, Relation, UnaryOp};
 
 /// What a byte may begin.
-#[derive(Clone, Copy, Debug, Drop, PartialEq, Eq)]
+#[derive(Clone, Copy, Drop, PartialEq, Eq)]
 pub enum Kind {
     Numeral,
     Quote,

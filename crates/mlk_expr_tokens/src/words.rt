@@ -3,7 +3,7 @@
 ghost use Rattle.std.specs.Prelude.{◌≡◌, Some, None, if◌then◌else◌};
 ghost use Rattle.mlk_expr_tokens.specs.Words.{is_either, special_to_principal, special_from_quit};
 ghost use Rattle.mlk_expr_tokens.specs.Words.{special_of, function_to_fnumber, function_to_piece, function_from_qlength};
-ghost use Rattle.mlk_expr_tokens.specs.Words.{function_of, is_select};
+ghost use Rattle.mlk_expr_tokens.specs.Words.{function_of, is_increment, is_select};
 
 use mlk_syntax::{Function, Special};
 
@@ -91,6 +91,13 @@ fn function_to_fnumber(word: &[u8]) -> Option<Function>
     }
 }
 
+// Whether `word` is that of `$INCREMENT`.
+fn is_increment(word: &[u8]) -> bool
+    ensures { result ≡ is_increment word.now }
+{
+    is_either(b"I", b"INCREMENT", word) || word.eq_ignore_ascii_case(b"INCR")
+}
+
 #[tactic(auto, unfolding(crate::specs::Words::function_to_piece))]
 fn function_to_piece(word: &[u8]) -> Option<Function>
     ensures { result ≡ function_to_piece word.now }
@@ -100,6 +107,7 @@ fn function_to_piece(word: &[u8]) -> Option<Function>
     };
     match first.to_ascii_uppercase() {
         b'G' => if_either(Function::Get, b"G", b"GET", word),
+        b'I' if is_increment(word) => Some(Function::Increment),
         b'J' => if_either(Function::Justify, b"J", b"JUSTIFY", word),
         b'L' => if_either(Function::Length, b"L", b"LENGTH", word),
         b'N' => if_either(Function::Name, b"NA", b"NAME", word),

@@ -8,7 +8,7 @@ use mlk_text::{List, Value};
 use std::alloc::AllocError;
 
 /// What a job does at an event.
-#[derive(Drop, Debug)]
+#[derive(Drop)]
 pub enum Act {
     /// It begins at an entry, with the given `$TEST` and values for the first formals.
     Begin(EntryId, bool, List<Value>),
@@ -19,7 +19,7 @@ pub enum Act {
 }
 
 /// An event: the number of a job, and what that job does.
-#[derive(Drop, Debug)]
+#[derive(Drop)]
 pub struct Event {
     pub job: u32,
     pub act: Act,

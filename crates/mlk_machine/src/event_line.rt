@@ -3,7 +3,7 @@
 use mlk_text::{List, Value};
 
 /// The begin of a job.
-#[derive(Drop, Debug)]
+#[derive(Drop)]
 pub struct Beginning {
     pub job: u32,
     /// the text of its entry
@@ -15,7 +15,7 @@ pub struct Beginning {
 }
 
 /// The content of a line of a file of events: what the job with a given number does.
-#[derive(Drop, Debug)]
+#[derive(Drop)]
 pub enum EventLine {
     Begin(Beginning),
     /// It makes a step that asks for no choice.

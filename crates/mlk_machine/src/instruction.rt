@@ -13,7 +13,7 @@ use mlk_machine_jobs::Choice;
 use mlk_program::Program;
 
 /// The instruction in a line.
-#[derive(Drop, Debug)]
+#[derive(Drop)]
 pub(crate) enum Instruction {
     /// an event happens
     Happens(Event),

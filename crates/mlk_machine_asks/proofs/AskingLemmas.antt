@@ -1,6 +1,6 @@
 -- What a job's state shows is asked, its next step asks.
 use Rattle.std.proofs.Common.{◌≡◌, ◌∙◌, ◌+◌, ◌∷◌, ◌++◌, ℕ, suc, Bool, true, false, List, [], drop, take, Option, Some, None, Ok, Err, refl, sym, ap, subst}
-use Rattle.std.specs.Prelude.{◌&&◌, if◌then◌else◌}
+use Rattle.std.specs.Prelude.{◌&&◌, ◌==◌, if◌then◌else◌}
 use Rattle.std.specs.List.{list_all}
 use Rattle.std.specs.Fmt.{decimal}
 use Rattle.mlk_text.specs.declared.operator.Op.{Op}
@@ -30,7 +30,7 @@ use Rattle.mlk_machine_jobs.specs.Assigning.{assignments, count_parts, merge_sou
 use Rattle.mlk_machine_jobs.specs.Locking.{count_all, names_of, by_sign, held_more, tested, if_free, granted, timed_claim, claim_step}
 use Rattle.mlk_machine_jobs.specs.Lines.{skipped, to_end, quit, answered, tasks_if, selected, chosen, next_line, next_command}
 use Rattle.mlk_machine_jobs.specs.Lines.{parameter_parts, first_round, later_round}
-use Rattle.mlk_machine_jobs.specs.Calling.{count_given, call_frame, entered, called, called_if, lines_after, back_to, frame_end}
+use Rattle.mlk_machine_jobs.specs.Calling.{count_given, call_frame, entered, called, called_if, gone, lines_after, back_to, frame_end}
 use Rattle.mlk_machine_jobs.specs.Advance.{advance}
 use Rattle.mlk_machine_jobs.specs.Seen.{State, asks, done, state, state_in}
 use Rattle.mlk_machine_asks.specs.declared.asking.Question.{Question}
@@ -197,6 +197,15 @@ called_if_bad : (t : Bool) (routines : List RoutineTree) (o : Option EntryId) (g
 called_if_bad true routines o given ts j = called_bad routines NoValue o given ts j
 called_if_bad false routines o given ts j = refl
 
+if_bad : (b : Bool) (i : Job) → is_bad (if b then Ok i else Err NotEnabled) ≡ false
+if_bad true i = refl
+if_bad false i = refl
+
+gone_bad : (routines : List RoutineTree) (o : Option EntryId) (ts : List Task) (j : Job)
+    → is_bad (gone routines o ts j) ≡ false
+gone_bad routines None ts j = refl
+gone_bad routines (Some e) ts j = if_bad (e.routine == j.routine) (doing (RunLines (lines_after routines e) ∷ to_end ts) j)
+
 selected_bad : (choices : Choices) (ts : List Task) (j : Job) → is_bad (selected choices ts j) ≡ false
 selected_bad no_choices ts j = refl
 selected_bad (one_choice condition value rest) ts j = refl
@@ -271,6 +280,9 @@ module _ (routines : List RoutineTree) (j : Job) where
   takes (task.StartJob callee given ∷ ts) = silent Nothing (Ok (doing ts (dropped (count_given given) j))) refl
   takes (task.Block lines ∷ ts) =
       silent Nothing (Ok (doing (RunLines (as_lines lines) ∷ EndBlock j.bindings j.next j.test ∷ ts) j)) refl
+  takes (task.GoTo callee ∷ ts) = silent Nothing (gone routines (target_of routines j.routine callee) ts j)
+      (gone_bad routines (target_of routines j.routine callee) ts j)
+  takes (task.GoIf callee ∷ ts) = by_truth_takes j (λ t i. Ok (doing (tasks_if t (task.GoTo callee ∷ []) ++ ts) i)) (λ t. refl)
   takes (RunLines lines ∷ ts) = silent Nothing (next_line lines ts j) (line_bad lines ts j)
   takes (RunCommands commands here ∷ ts) = silent Nothing (Ok (doing (next_command commands here ts) j)) refl
   takes (task.NextArgument action done ∷ ts) = silent Nothing (Ok (doing ts j)) refl

@@ -18,6 +18,7 @@ asked_by (task.Selected value others) = Truth
 asked_by task.SetTest = Truth
 asked_by (task.Conditionally action block) = Truth
 asked_by (task.CallIf callee given) = Truth
+asked_by (task.GoIf callee) = Truth
 asked_by (FirstRound v ps rest here) = Truth
 asked_by (LaterRound v ps rest here) = Truth
 asked_by task.AskTest = Time

@@ -16,7 +16,7 @@ use mlk_names::Access;
 use mlk_program::Program;
 
 /// What a step asks for.
-#[derive(Clone, Copy, Debug, Drop, PartialEq, Eq)]
+#[derive(Clone, Copy, Drop, PartialEq, Eq)]
 pub enum Question {
     /// nothing: the step is made without a choice
     Nothing,
@@ -87,15 +87,16 @@ fn asked_by_lock(task: &LockTask) -> Question
     }
 }
 
-// What the begin of a frame, of a block or of another job asks for, if it asks for anything.
+// What GOTO, or the begin of a frame, of a block or of another job, asks for, if it asks for anything.
 fn asked_by_scope(task: &ScopeTask) -> Question
     ensures { result ≡ asked_by (scope_task task.now) }
 {
     match task {
-        ScopeTask::CallIf(_, _) => Question::Truth,
-        ScopeTask::Call(_, _, _) | ScopeTask::StartJob(_, _) | ScopeTask::Block(_) => {
-            Question::Nothing
-        }
+        ScopeTask::CallIf(_, _) | ScopeTask::GoIf(_) => Question::Truth,
+        ScopeTask::Call(_, _, _)
+        | ScopeTask::StartJob(_, _)
+        | ScopeTask::Block(_)
+        | ScopeTask::GoTo(_) => Question::Nothing,
     }
 }
 

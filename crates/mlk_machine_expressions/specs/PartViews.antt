@@ -32,6 +32,7 @@ asked subs more = each_sub subs ++ each_tree more ++ AskValue (count_subs subs +
 abbrev pub naming_of : Naming → Function
 naming_of naming.Data = function.Data
 naming_of naming.Get = function.Get
+naming_of naming.Increment = function.Increment
 naming_of naming.Order = function.Order
 naming_of naming.Query = function.Query
 naming_of naming.Name = function.Name

@@ -4,7 +4,7 @@ ghost use Rattle.std.specs.Prelude.{◌≡◌, ◌++◌, OnOk, length, option_ma
 ghost use Rattle.mlk_syntax.specs.ExprTrees.{count_subs};
 ghost use Rattle.mlk_syntax.specs.declared.expr.Function.TheVariants as function;
 ghost use Rattle.mlk_machine_jobs.specs.Expressions.{each_sub, each_tree, count_trees, read_global};
-ghost use Rattle.mlk_machine_jobs.specs.Expressions.{read_local, special_parts, unused, of_global};
+ghost use Rattle.mlk_machine_jobs.specs.Expressions.{read_local, special_parts, unused, write_node, any_after, of_global};
 ghost use Rattle.mlk_machine_jobs.specs.TaskViews.{Adds};
 ghost use Rattle.mlk_machine_expressions.specs.PartViews.{subs_of, args_of, asked, naming_of, named_function};
 
@@ -211,11 +211,58 @@ fn read_parts<'a>(
     Ok(())
 }
 
+// Writes a node.
+fn write_node<'a>(
+    parts: &mut Vec<Task<'a>>,
+    name: &'a Name,
+    subscripts: &'a [Subscript],
+) -> Result<(), AllocError>
+    ensures { OnOk result (Adds (write_node name.now (subs_of subscripts.now)) parts.old.items parts.new.items) }
+{
+    each_subscript(parts, subscripts)?;
+    let form = Task::Value(ValueTask::FormReference(
+        name,
+        count_subscripts(subscripts),
+        Extent::Node,
+        Access::Writes,
+    ));
+    add(parts, form)?;
+    Ok(())
+}
+
+// Replaces the values of further arguments by any value.
+fn ask_after<'a>(parts: &mut Vec<Task<'a>>, arguments: &'a [Expr]) -> Result<(), AllocError>
+    ensures { OnOk result (Adds (any_after (args_of arguments.now)) parts.old.items parts.new.items) }
+{
+    each_argument(parts, arguments)?;
+    add(
+        parts,
+        Task::Value(ValueTask::AskValue(count_arguments(arguments))),
+    )?;
+    Ok(())
+}
+
+// `$INCREMENT` writes the node that it names, and gives any value.
+fn increment_parts<'a>(
+    parts: &mut Vec<Task<'a>>,
+    name: &'a Name,
+    subscripts: &'a [Subscript],
+    more: &'a [Expr],
+) -> Result<(), AllocError>
+    ensures { OnOk result (Adds (of_global function.Increment name.now (subs_of subscripts.now) (args_of more.now))
+        parts.old.items parts.new.items) }
+{
+    write_node(parts, name, subscripts)?;
+    ask_after(parts, more)?;
+    Ok(())
+}
+
 // Functions whose first argument is a name.
 #[derive(Clone, Copy, Drop)]
 pub(crate) enum Naming {
     Data,
     Get,
+    Increment,
     Order,
     Query,
     Name,
@@ -227,6 +274,7 @@ pub(crate) fn named_by(function: Function) -> Option<Naming>
     match function {
         Function::Data => Some(Naming::Data),
         Function::Get => Some(Naming::Get),
+        Function::Increment => Some(Naming::Increment),
         Function::Order => Some(Naming::Order),
         Function::Query => Some(Naming::Query),
         Function::Name => Some(Naming::Name),
@@ -259,6 +307,7 @@ pub(crate) fn of_global<'a>(
     match naming {
         Naming::Data => read_parts(parts, name, subscripts, Extent::Tree, more),
         Naming::Get => read_parts(parts, name, subscripts, Extent::Node, more),
+        Naming::Increment => increment_parts(parts, name, subscripts, more),
         Naming::Order => order_parts(parts, name, subscripts, more),
         Naming::Query => query_parts(parts, name, subscripts, more),
         Naming::Name => ask_parts(parts, subscripts, more),

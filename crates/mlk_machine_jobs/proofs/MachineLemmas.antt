@@ -28,7 +28,7 @@ use Rattle.mlk_machine_jobs.specs.Advance.{advance}
 use Rattle.mlk_machine_jobs.specs.Runs.{blank, by_value, formals_at, begun, aborted, seen, is_job_number, machine}
 use Rattle.mlk_machine_jobs.specs.Laws.{HeldApart, NumbersDistinct, OneRunOfMany, LeavingOut, ChangesOne, RingsAreFound, EndedStays}
 use Rattle.mlk_machine_jobs.proofs.StepLemmas.{Keeps, when_done, same, refused, unasked, of_value, of_truth, of_last, of_condition, of_result}
-use Rattle.mlk_machine_jobs.proofs.StepLemmas.{of_fetch, of_touch, of_select, of_choice, of_line, of_entered, of_call, of_call_if, of_answer, of_answer_held, of_end, of_claim, of_release, of_release_all}
+use Rattle.mlk_machine_jobs.proofs.StepLemmas.{of_fetch, of_touch, of_select, of_choice, of_line, of_entered, of_call, of_call_if, of_gone, of_answer, of_answer_held, of_end, of_claim, of_release, of_release_all}
 
 steps : (routines : List RoutineTree) (free : LockName → Bool) (c : Choice) (j : Job) (ts : List Task)
     → Keeps free j (advance routines free c j ts)
@@ -64,6 +64,8 @@ steps routines free c j (task.ReleaseAll ∷ ts) = of_release_all free j c _ ref
 steps routines free c j (task.Call extrinsic callee given ∷ ts) = unasked free j c _ (of_call free j routines (call_frame extrinsic j) _ given ts j refl refl)
 steps routines free c j (task.CallIf callee given ∷ ts) = of_condition free j c j (λ t i. called_if t routines (target_of routines i.routine callee) given ts i) (λ t. of_call_if free j t routines (target_of routines j.routine callee) given ts (dropped 1 j) refl refl)
 steps routines free c j (task.Block lines ∷ ts) = unasked free j c _ (same free j _ refl refl)
+steps routines free c j (task.GoTo callee ∷ ts) = unasked free j c _ (of_gone free j routines _ ts j refl refl)
+steps routines free c j (task.GoIf callee ∷ ts) = of_condition free j c j (λ t i. Ok (doing (tasks_if t (task.GoTo callee ∷ []) ++ ts) i)) (λ t. same free j _ refl refl)
 steps routines free c j (task.StartJob callee given ∷ ts) = unasked free j c _ (same free j _ refl refl)
 steps routines free c j (RunLines lines ∷ ts) = unasked free j c _ (of_line free j lines ts)
 steps routines free c j (RunCommands commands block ∷ ts) = unasked free j c _ (same free j _ refl refl)
@@ -145,6 +147,8 @@ steps_more routines free more f c j (task.ReleaseAll ∷ ts) i h = h
 steps_more routines free more f c j (task.Call extrinsic callee given ∷ ts) i h = h
 steps_more routines free more f c j (task.CallIf callee given ∷ ts) i h = h
 steps_more routines free more f c j (task.Block lines ∷ ts) i h = h
+steps_more routines free more f c j (task.GoTo callee ∷ ts) i h = h
+steps_more routines free more f c j (task.GoIf callee ∷ ts) i h = h
 steps_more routines free more f c j (task.StartJob callee given ∷ ts) i h = h
 steps_more routines free more f c j (RunLines lines ∷ ts) i h = h
 steps_more routines free more f c j (RunCommands commands block ∷ ts) i h = h

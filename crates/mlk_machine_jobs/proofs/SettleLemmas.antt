@@ -54,6 +54,8 @@ alike routines free j (task.ReleaseAll ∷ ts) is = refl
 alike routines free j (task.Call extrinsic callee given ∷ ts) is = refl
 alike routines free j (task.CallIf callee given ∷ ts) is = refl
 alike routines free j (task.Block lines ∷ ts) is = refl
+alike routines free j (task.GoTo callee ∷ ts) is = refl
+alike routines free j (task.GoIf callee ∷ ts) is = refl
 alike routines free j (task.StartJob callee given ∷ ts) is = refl
 alike routines free j (RunLines lines ∷ ts) is = refl
 alike routines free j (RunCommands commands block ∷ ts) is = refl
@@ -123,6 +125,8 @@ stays routines j why h e = on j.tasks e (let P : State → Type 0 = λ s. silent
     on (task.Call extrinsic callee given ∷ ts) quiet fails = asked (advance routines (λ n. true) choice.None j (task.Call extrinsic callee given ∷ ts)) quiet fails
     on (task.CallIf callee given ∷ ts) quiet fails = asked (advance routines (λ n. true) choice.None j (task.CallIf callee given ∷ ts)) quiet fails
     on (task.Block lines ∷ ts) quiet fails = asked (advance routines (λ n. true) choice.None j (task.Block lines ∷ ts)) quiet fails
+    on (task.GoTo callee ∷ ts) quiet fails = asked (advance routines (λ n. true) choice.None j (task.GoTo callee ∷ ts)) quiet fails
+    on (task.GoIf callee ∷ ts) quiet fails = asked (advance routines (λ n. true) choice.None j (task.GoIf callee ∷ ts)) quiet fails
     on (task.StartJob callee given ∷ ts) quiet fails = asked (advance routines (λ n. true) choice.None j (task.StartJob callee given ∷ ts)) quiet fails
     on (RunLines lines ∷ ts) quiet fails = asked (advance routines (λ n. true) choice.None j (RunLines lines ∷ ts)) quiet fails
     on (RunCommands commands block ∷ ts) quiet fails = asked (advance routines (λ n. true) choice.None j (RunCommands commands block ∷ ts)) quiet fails

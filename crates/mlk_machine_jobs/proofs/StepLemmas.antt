@@ -1,6 +1,6 @@
 -- What steps leave unchanged: a job's number, and what it holds, except by claims and releases.
 use Rattle.std.proofs.Common.{◌≡◌, ℕ, ◌<◌, Bool, true, false, List, [], ◌∷◌, Option, Some, None, refl, sym, subst, arith, inl}
-use Rattle.std.specs.Prelude.{◌⊎◌, ◌&&◌, if◌then◌else◌, Ok, Err}
+use Rattle.std.specs.Prelude.{◌⊎◌, ◌&&◌, ◌==◌, if◌then◌else◌, Ok, Err}
 use Rattle.std.specs.List.{list_all}
 use Rattle.std.proofs.lemmas.Bool.{and_parts}
 use Rattle.mlk_names.specs.declared.lock_name.LockName.{LockName}
@@ -20,7 +20,7 @@ use Rattle.mlk_numbers.specs.Operators.{truth_of_text}
 use Rattle.mlk_machine_jobs.specs.Choices.{Stepped, without_choice, with_value, with_truth, with_last, truth_or_asked, by_truth, given_or_asked, fetched, touched, dropped, doing}
 use Rattle.mlk_machine_jobs.specs.Locking.{claim_step, timed_claim, if_free}
 use Rattle.mlk_machine_jobs.specs.Lines.{selected, chosen, next_line, answered}
-use Rattle.mlk_machine_jobs.specs.Calling.{entered, called, called_if, frame_end}
+use Rattle.mlk_machine_jobs.specs.Calling.{entered, called, called_if, gone, frame_end}
 
 -- the effect of a step on number and names
 pub record Steps (free : LockName → Bool) (j i : Job) : Type 0 where
@@ -112,6 +112,15 @@ module _ (free : LockName → Bool) (j : Job) where
       (k : Job) → k.number ≡ j.number → k.held ≡ j.held → Keeps (called_if t routines o given ts k)
   of_call_if true routines o given ts k n h = of_call routines NoValue o given ts k n h
   of_call_if false routines o given ts k n h = same _ n h
+
+  of_if : (b : Bool) (s t : Stepped) → Keeps s → Keeps t → Keeps (if b then s else t)
+  of_if true s t p q = p
+  of_if false s t p q = q
+
+  pub of_gone : (routines : List RoutineTree) (o : Option EntryId) (ts : List Task) (k : Job) → k.number ≡ j.number
+      → k.held ≡ j.held → Keeps (gone routines o ts k)
+  of_gone routines None ts k n h = refused NotEnabled
+  of_gone routines (Some x) ts k n h = of_if (x.routine == k.routine) _ _ (same _ n h) (refused NotEnabled)
 
   pub of_answer : (ts : List Task) → (answered j ts).number ≡ j.number
   of_answer [] = refl

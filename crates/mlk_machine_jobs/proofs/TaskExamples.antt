@@ -173,6 +173,11 @@ pub get_gives : played (asked_of function.Get a1) (chosen.Value (codes "9") ∷ 
 unfolding settled
 get_gives = refl
 
+-- `$INCREMENT` writes it.
+pub increment_writes : played (asked_of function.Increment a1) [] ≡ writes_at (codes "1" ∷ [])
+unfolding settled
+increment_writes = refl
+
 -- `$DATA` reads all below the node, `$QUERY` the whole global, `$NAME` nothing.
 pub data_reads : played (asked_of function.Data a1) [] ≡ reads (codes "1" ∷ []) extent.Tree
 unfolding settled

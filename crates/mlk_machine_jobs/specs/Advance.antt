@@ -21,7 +21,7 @@ use Rattle.mlk_machine_jobs.specs.Assigning.{assignments, count_parts, merge_sou
 use Rattle.mlk_machine_jobs.specs.Locking.{count_all, names_of, by_sign, tested, claim_step}
 use Rattle.mlk_machine_jobs.specs.Lines.{skipped, to_end, quit, answered, tasks_if, selected, chosen, next_line, next_command}
 use Rattle.mlk_machine_jobs.specs.Lines.{parameter_parts, first_round, later_round}
-use Rattle.mlk_machine_jobs.specs.Calling.{count_given, call_frame, called, called_if, back_to, frame_end}
+use Rattle.mlk_machine_jobs.specs.Calling.{count_given, call_frame, called, called_if, gone, back_to, frame_end}
 
 -- The effect of a job's first task, given which names are free. The tasks after it are `ts`.
 abbrev pub advance : List RoutineTree → (LockName → Bool) → Choice → Job → List Task → Stepped
@@ -79,6 +79,10 @@ advance routines free c j (task.CallIf callee given ∷ ts) =
 advance routines free c j (task.StartJob callee given ∷ ts) = without_choice c (Ok (doing ts (dropped (count_given given) j)))
 advance routines free c j (task.Block lines ∷ ts) =
     without_choice c (Ok (doing (RunLines (as_lines lines) ∷ EndBlock j.bindings j.next j.test ∷ ts) j))
+advance routines free c j (task.GoTo callee ∷ ts) =
+    without_choice c (gone routines (target_of routines j.routine callee) ts j)
+advance routines free c j (task.GoIf callee ∷ ts) =
+    by_truth c j (λ t i. Ok (doing (tasks_if t (task.GoTo callee ∷ []) ++ ts) i))
 advance routines free c j (RunLines lines ∷ ts) = without_choice c (next_line lines ts j)
 advance routines free c j (RunCommands commands here ∷ ts) =
     without_choice c (Ok (doing (next_command commands here ts) j))

@@ -1,6 +1,7 @@
--- Calls: the bindings of formals, and what the end of a block or frame restores. Restates ISO/IEC 11756, parameter passing, DO,
--- extrinsic functions, QUIT.
-use Rattle.std.specs.Prelude.{ℕ, suc, Bool, true, false, List, [], ◌∷◌, ◌++◌, drop, Option, Some, None, Ok, Err, slice_get}
+-- Calls: the bindings of formals, and what the end of a block or frame restores; GOTO. Restates ISO/IEC 11756, parameter passing,
+-- DO, extrinsic functions, QUIT, GOTO.
+use Rattle.std.specs.Prelude.{ℕ, suc, ◌==◌, Bool, true, false, if◌then◌else◌, List, [], ◌∷◌, ◌++◌, drop}
+use Rattle.std.specs.Prelude.{Option, Some, None, Ok, Err, slice_get}
 use Rattle.mlk_machine_locks.specs.declared.refusal.Refusal.TheVariants.{NotEnabled}
 use Rattle.mlk_syntax.specs.ExprTrees.{ActualTree, Given, ByRef, Missing}
 use Rattle.mlk_syntax.specs.Trees.{HeadTree, LineHead, CommandTrees, RoutineTree}
@@ -11,6 +12,7 @@ use Rattle.mlk_machine_jobs.specs.Bindings.{Only, Binder, Fresh, ByReference, Bi
 use Rattle.mlk_machine_jobs.specs.Tasks.{Task, Job, LineTree, Frame, NoValue, AwaitsValue, HasValue, RunLines, RunCommands, EndFrame}
 use Rattle.mlk_machine_jobs.specs.Choices.{Stepped, without_choice, with_value, last_values, pushed, dropped, doing}
 use Rattle.mlk_machine_jobs.specs.Locking.{tested}
+use Rattle.mlk_machine_jobs.specs.Lines.{to_end}
 
 -- the actual of the next formal: past the end of the list it is missing
 abbrev pub next_actual : List ActualTree → ActualTree
@@ -88,6 +90,13 @@ called routines frame (Some e) given ts j = entered frame e.routine given (lines
 abbrev pub called_if : Bool → List RoutineTree → Option EntryId → List ActualTree → List Task → Job → Stepped
 called_if true routines entry given ts j = called routines NoValue entry given ts j
 called_if false routines entry given ts j = Ok (doing ts (dropped (count_given given) j))
+
+-- GOTO of a label of the running routine: the lines from the label's own on replace what is left of the block, or if there is none
+-- of the frame. Names, `$TEST` and locks stay. That no job goes into another routine so is this project's own choice.
+abbrev pub gone : List RoutineTree → Option EntryId → List Task → Job → Stepped
+gone routines None ts j = Err NotEnabled
+gone routines (Some e) ts j =
+    if e.routine == j.routine then Ok (doing (RunLines (lines_after routines e) ∷ to_end ts) j) else Err NotEnabled
 
 -- the bindings are restored, and the cells that were created since then are removed
 abbrev pub back_to : Bindings → ℕ → Job → Job

@@ -92,6 +92,8 @@ scope_task (a_scope.Call how callee given) = task.Call (is_extrinsic how) callee
 scope_task (a_scope.CallIf callee given) = task.CallIf callee.now (actual_trees given.now)
 scope_task (a_scope.StartJob callee given) = task.StartJob callee.now (actual_trees given.now)
 scope_task (a_scope.Block lines) = task.Block (block_of lines.now)
+scope_task (a_scope.GoTo callee) = task.GoTo callee.now
+scope_task (a_scope.GoIf callee) = task.GoIf callee.now
 
 abbrev pub line_task : LineTask → Task
 line_task (a_line.RunLines lines) = task.RunLines (map line_of lines.now)

@@ -68,6 +68,9 @@ pub data Task : Type 0 where
   Call : (extrinsic : Bool) → (callee : Callee) → (actuals : List ActualTree) → Task
   CallIf : (callee : Callee) → (actuals : List ActualTree) → Task
   Block : (lines : LineTrees) → Task
+  -- GOTO, and GOTO with a postconditional of its own, which was evaluated
+  GoTo : (callee : Callee) → Task
+  GoIf : (callee : Callee) → Task
   -- JOB: the actuals were evaluated.
   StartJob : (callee : Callee) → (actuals : List ActualTree) → Task
   -- Lines and commands; the commands are the rest of a line.

@@ -1,11 +1,13 @@
 // The changes that steps make to a job, one function each.
 
-ghost use Rattle.std.specs.Prelude.{◌≡◌, ◌<◌, ◌++◌, map, OnOk, OnErr, [], option_copied};
+ghost use Rattle.std.specs.Prelude.{◌≡◌, ◌<◌, ◌∷◌, ◌++◌, map, OnOk, OnErr, [], option_copied};
+ghost use Rattle.mlk_syntax.specs.Views.{line_of};
 ghost use Rattle.mlk_machine_jobs.specs.Bindings.{look};
 ghost use Rattle.mlk_machine_jobs.specs.Choices.{pushed, dropped, last_values, doing, stored};
 ghost use Rattle.mlk_machine_jobs.specs.Lines.{skipped, to_end, quit, answered};
 ghost use Rattle.mlk_machine_jobs.specs.Locking.{tested};
 ghost use Rattle.mlk_machine_jobs.specs.Sound.{Sound};
+ghost use Rattle.mlk_machine_jobs.specs.Tasks.{RunLines};
 ghost use Rattle.mlk_machine_jobs.specs.TaskViews.{task_of};
 ghost use Rattle.mlk_machine_jobs.specs.Views.{names_of};
 ghost use Rattle.mlk_machine_jobs.specs.JobViews.{job_of, cleared, killing, releasing, holding_nothing, KeepsPending};
@@ -15,9 +17,10 @@ use crate::cell::{clear, leave_out, store, value_of};
 use crate::job::Job;
 use crate::kill::{cells_of_formals, cells_spared};
 use crate::pending;
-use crate::task::Task;
+use crate::task::{LineTask, Task};
 use mlk_machine_locks::Held;
 use mlk_names::LockName;
+use mlk_syntax::Line;
 use mlk_text::Value;
 use std::alloc::{AllocError, Global};
 
@@ -158,6 +161,18 @@ impl<'a> Job<'a> {
         ensures sound { Sound self.old → Sound self.new }
     {
         pending::go_to_end(&mut self.pending);
+    }
+
+    /// Puts `lines` in the place of what is left of the block, or if there is none of the frame.
+    pub fn go_to(&mut self, lines: &'a [Line]) -> Result<(), AllocError>
+        ensures ok { OnOk result (job_of self.new
+            ≡ doing (RunLines (map line_of lines.now) ∷ to_end (job_of self.old).tasks) (job_of self.old)) }
+        ensures err { OnErr result (job_of self.new ≡ job_of self.old) }
+        ensures room { OnErr result (KeepsPending self.old self.new) }
+        ensures sound { Sound self.old → Sound self.new }
+    {
+        pending::replace_to_end(&mut self.pending, Task::Line(LineTask::RunLines(lines)))?;
+        Ok(())
     }
 
     /// Quits the innermost FOR of the line, or if there is none the block, or if there is none the frame. Allocates nothing.

@@ -14,7 +14,7 @@ use crate::task::{LineTask, Task};
 use std::alloc::AllocError;
 
 /// What a frame owes at its end.
-#[derive(Clone, Copy, Debug, Drop, PartialEq, Eq)]
+#[derive(Clone, Copy, Drop, PartialEq, Eq)]
 pub enum Frame {
     NoValue,
     /// a value; `$TEST` is restored
@@ -24,7 +24,7 @@ pub enum Frame {
 }
 
 /// The situation at the begin of a block or frame: the number of binders, and the first unused generation.
-#[derive(Clone, Copy, Debug, Drop, PartialEq, Eq)]
+#[derive(Clone, Copy, Drop, PartialEq, Eq)]
 pub struct Back {
     pub binders: usize,
     pub next: usize,
@@ -132,6 +132,26 @@ pub(crate) fn go_to_end(pending: &mut Vec<Pending>)
 {
     let kept = kept_to_end(pending.as_slice());
     pending.truncate(kept);
+}
+
+/// Puts `task` in the place of what is left of the block, or if there is none of the frame. If memory runs out, nothing is
+/// changed.
+#[tactic(auto, using(crate::proofs::SoundLemmas::stands_taken, crate::proofs::SoundLemmas::stands_task))]
+pub(crate) fn replace_to_end<'a>(
+    pending: &mut Vec<Pending<'a>>,
+    task: Task<'a>,
+) -> Result<(), AllocError>
+    ensures stands { (binders : List Binder) (n : ℕ) → Stands binders n pending.old.items → Stands binders n pending.new.items }
+    ensures ok { OnOk result ((binders : List Binder) → tasks_of binders pending.new.items
+        ≡ task_of task.entry ∷ to_end (tasks_of binders pending.old.items)) }
+    ensures err { OnErr result (pending.new.items ≡ pending.old.items) }
+    ensures room { OnErr result (vec_capacity pending.old ≤ vec_capacity pending.new) }
+{
+    pending.reserve(1)?;
+    let kept = kept_to_end(pending.as_slice());
+    pending.truncate(kept);
+    pending.push_reserved(Pending::Task(task));
+    Ok(())
 }
 
 /// Puts `tasks` before all others, in this order. If memory runs out, nothing is changed.

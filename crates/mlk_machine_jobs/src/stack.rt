@@ -7,7 +7,7 @@ use std::alloc::{AllocError, Global};
 use std::marker::Model;
 
 /// Values that were computed and not used yet. A contract sees the last one first.
-#[derive(Drop, Debug)]
+#[derive(Drop)]
 pub struct Stack {
     values: Vec<Value>,
 }

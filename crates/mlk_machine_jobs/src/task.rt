@@ -78,7 +78,7 @@ pub enum LockTask<'a> {
     ReleaseAll,
 }
 
-/// The begin of a frame, of a block or of another job.
+/// The begin of a frame, of a block or of another job, and GOTO.
 #[derive(Clone, Drop)]
 pub enum ScopeTask<'a> {
     Call(Calling, &'a Callee, &'a [Actual]),
@@ -86,6 +86,10 @@ pub enum ScopeTask<'a> {
     /// JOB of an entry whose actuals were evaluated
     StartJob(&'a Callee, &'a [Actual]),
     Block(&'a [Line]),
+    /// GOTO
+    GoTo(&'a Callee),
+    /// GOTO with a postconditional of its own, which was evaluated
+    GoIf(&'a Callee),
 }
 
 /// Lines: their commands, the rounds of FOR, and QUIT and HALT.

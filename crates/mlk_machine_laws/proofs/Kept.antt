@@ -1,6 +1,6 @@
 -- What a block or a frame restores at its end, and the effect of steps on those that are open.
 use Rattle.std.proofs.Common.{◌≡◌, ℕ, suc, Bool, true, false, List, [], ◌∷◌, ◌++◌, map, Option, Some, None, refl, ap, subst}
-use Rattle.std.specs.Prelude.{◌&&◌, if◌then◌else◌, Ok, Err}
+use Rattle.std.specs.Prelude.{◌&&◌, ◌==◌, if◌then◌else◌, Ok, Err}
 use Rattle.mlk_names.specs.declared.lock_name.LockName.{LockName}
 use Rattle.mlk_names.specs.declared.reference.Access.{Access}
 use Rattle.mlk_names.specs.declared.reference.Access.TheVariants.{Reads, Writes}
@@ -18,8 +18,8 @@ use Rattle.mlk_machine_jobs.specs.Tasks.{Task, Job, LineTree, Frame, NoValue, Aw
 use Rattle.mlk_numbers.specs.Operators.{truth_of_text}
 use Rattle.mlk_machine_jobs.specs.Choices.{Stepped, last_values, without_choice, with_value, with_truth, with_last, truth_or_asked, by_truth, given_or_asked, fetched, touched, dropped, doing}
 use Rattle.mlk_machine_jobs.specs.Locking.{claim_step, timed_claim, if_free}
-use Rattle.mlk_machine_jobs.specs.Lines.{selected, chosen, next_line}
-use Rattle.mlk_machine_jobs.specs.Calling.{binders, with_actuals, count_given, formals_in, lines_after, entered, called, called_if}
+use Rattle.mlk_machine_jobs.specs.Lines.{to_end, selected, chosen, next_line}
+use Rattle.mlk_machine_jobs.specs.Calling.{binders, with_actuals, count_given, formals_in, lines_after, entered, called, called_if, gone}
 use Rattle.mlk_machine_laws.specs.Outside.{changes_name}
 
 -- what an open block or frame restores
@@ -172,3 +172,8 @@ module _ (routines : List RoutineTree) (j : Job) where
       → marks ts ≡ marks j.tasks → Moves (called_if t routines o given ts (dropped 1 j))
   of_call_if true o given ts e = of_call NoValue o given ts (dropped 1 j) e refl refl refl (λ t h. cc)
   of_call_if false o given ts e = same _ e refl refl refl
+
+  -- GOTO keeps what is open
+  pub of_gone : (o : Option EntryId) (ts : List Task) → marks (to_end ts) ≡ marks j.tasks → Moves (gone routines o ts j)
+  of_gone None ts e = refused NotEnabled
+  of_gone (Some x) ts e = of_if (x.routine == j.routine) _ _ (same _ e refl refl refl) (refused NotEnabled)

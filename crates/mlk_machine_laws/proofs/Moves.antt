@@ -22,7 +22,7 @@ use Rattle.mlk_machine_jobs.specs.Advance.{advance}
 use Rattle.mlk_machine_jobs.specs.Runs.{aborted}
 use Rattle.mlk_machine_laws.specs.Outside.{changes_name}
 use Rattle.mlk_machine_laws.proofs.Plain.{Plain, expressions, actions, assigns, merged_source, merged_target, signed, rounds_of, round_first, round_later, next_commands}
-use Rattle.mlk_machine_laws.proofs.Kept.{test_in, kept_by, kept, Bound, untouched, stores, kills, news, as_block, stays, opens, ends, halts, Moves, done, refused, same, unasked, of_value, of_truth, of_last, of_condition, of_result, of_fetch, of_touch, of_select, of_choice, of_line, of_claim, of_call, of_call_if}
+use Rattle.mlk_machine_laws.proofs.Kept.{test_in, kept_by, kept, Bound, untouched, stores, kills, news, as_block, stays, opens, ends, halts, Moves, done, refused, same, unasked, of_value, of_truth, of_last, of_condition, of_result, of_fetch, of_touch, of_select, of_choice, of_line, of_claim, of_call, of_call_if, of_gone}
 
 -- What is skipped or quit ends nothing.
 no_end : (t : Task) (ts : List Task) → is_end t ≡ false → marks (t ∷ ts) ≡ marks ts
@@ -57,6 +57,8 @@ no_end task.ReleaseAll ts e = refl
 no_end (task.Call extrinsic callee given) ts e = refl
 no_end (task.CallIf callee given) ts e = refl
 no_end (task.Block lines) ts e = refl
+no_end (task.GoTo callee) ts e = refl
+no_end (task.GoIf callee) ts e = refl
 no_end (task.StartJob callee given) ts e = refl
 no_end (task.RunLines lines) ts e = refl
 no_end (task.RunCommands commands block) ts e = refl
@@ -139,6 +141,8 @@ after_answer j (task.ReleaseAll ∷ ts) = refl
 after_answer j (task.Call extrinsic callee given ∷ ts) = refl
 after_answer j (task.CallIf callee given ∷ ts) = refl
 after_answer j (task.Block lines ∷ ts) = refl
+after_answer j (task.GoTo callee ∷ ts) = refl
+after_answer j (task.GoIf callee ∷ ts) = refl
 after_answer j (task.StartJob callee given ∷ ts) = refl
 after_answer j (task.RunLines lines ∷ ts) = refl
 after_answer j (task.RunCommands commands block ∷ ts) = refl
@@ -190,6 +194,8 @@ answer_bound j (task.ReleaseAll ∷ ts) = untouched refl refl refl
 answer_bound j (task.Call extrinsic callee given ∷ ts) = untouched refl refl refl
 answer_bound j (task.CallIf callee given ∷ ts) = untouched refl refl refl
 answer_bound j (task.Block lines ∷ ts) = untouched refl refl refl
+answer_bound j (task.GoTo callee ∷ ts) = untouched refl refl refl
+answer_bound j (task.GoIf callee ∷ ts) = untouched refl refl refl
 answer_bound j (task.StartJob callee given ∷ ts) = untouched refl refl refl
 answer_bound j (task.RunLines lines ∷ ts) = untouched refl refl refl
 answer_bound j (task.RunCommands commands block ∷ ts) = untouched refl refl refl
@@ -269,6 +275,8 @@ moves routines free c j (task.ReleaseAll ∷ ts) e = unasked routines j c _ (sam
 moves routines free c j (task.Call extrinsic callee given ∷ ts) e = unasked routines j c _ (of_call routines j (call_frame extrinsic j) _ given ts j (sym (ap marks e)) refl refl refl (own_test extrinsic j))
 moves routines free c j (task.CallIf callee given ∷ ts) e = of_condition routines j c j (λ t i. called_if t routines (target_of routines i.routine callee) given ts i) (λ t. of_call_if routines j t (target_of routines j.routine callee) given ts (sym (ap marks e)))
 moves routines free c j (task.Block lines ∷ ts) e = unasked routines j c _ (done routines j _ (opens (Some j.test) (ap (λ ks. record { back = j.bindings; next = j.next; test = Some j.test } ∷ ks) (sym (ap kept e))) (λ t h. cc) (as_block refl refl refl)))
+moves routines free c j (task.GoTo callee ∷ ts) e = unasked routines j c _ (of_gone routines j _ ts (to_its_end ts ∙ sym (ap marks e)))
+moves routines free c j (task.GoIf callee ∷ ts) e = of_condition routines j c j (λ t i. Ok (doing (tasks_if t (task.GoTo callee ∷ []) ++ ts) i)) (λ t. same routines j _ (run_if t (task.GoTo callee ∷ []) ts (λ us. refl) ∙ sym (ap marks e)) refl refl refl)
 moves routines free c j (task.StartJob callee given ∷ ts) e = unasked routines j c _ (same routines j _ (sym (ap marks e)) refl refl refl)
 moves routines free c j (task.RunLines lines ∷ ts) e = unasked routines j c _ (of_line routines j lines ts (sym (ap marks e)))
 moves routines free c j (task.RunCommands commands block ∷ ts) e = unasked routines j c _ (same routines j _ (next_commands commands block ts ∙ sym (ap marks e)) refl refl refl)

@@ -138,7 +138,7 @@ fn copy_entries(
 }
 
 /// The lock names that a job holds, each with its count.
-#[derive(Drop, Debug)]
+#[derive(Drop)]
 pub struct Held {
     entries: Vec<(LockName, u32)>,
 }

@@ -16,7 +16,7 @@ use crate::table::LockTable;
 use std::alloc::{AllocError, Global};
 
 // The progress of the search at a job.
-#[derive(Clone, Copy, Debug, Drop)]
+#[derive(Clone, Copy, Drop)]
 enum Mark {
     // not visited yet
     New,
@@ -28,7 +28,7 @@ enum Mark {
 
 // A job on a path, by its index, and the indexes of the jobs to which the search may still have to follow it: the job waits for
 // no other one that may be in a ring.
-#[derive(Debug, Drop)]
+#[derive(Drop)]
 struct Stop {
     place: usize,
     left: Vec<usize>,

@@ -1,6 +1,6 @@
 -- A step leaves all values unchanged, except the last ones, as many as its task uses.
 use Rattle.std.proofs.Common.{◌≡◌, ◌∙◌, ℕ, zero, suc, ◌+◌, Bool, true, false, List, [], ◌∷◌, ◌++◌, Option, Some, None, refl, sym, ap, subst, drop, take}
-use Rattle.std.specs.Prelude.{◌&&◌, Ok}
+use Rattle.std.specs.Prelude.{◌&&◌, ◌==◌, Ok}
 use Rattle.std.specs.List.{list_all}
 use Rattle.std.proofs.lemmas.List.{take-append-drop}
 use Rattle.mlk_names.specs.declared.lock_name.LockName.{LockName}
@@ -22,11 +22,11 @@ use Rattle.mlk_machine_jobs.specs.Assigning.{count_parts}
 use Rattle.mlk_machine_jobs.specs.Choices.{Stepped, without_choice, fetched, touched, doing, dropped}
 use Rattle.mlk_machine_jobs.specs.Locking.{count_all, tested, claim_step, timed_claim, if_free}
 use Rattle.mlk_machine_jobs.specs.Lines.{to_end, selected, chosen, next_line, tasks_if, answered}
-use Rattle.mlk_machine_jobs.specs.Calling.{count_given, entered, called, called_if, call_frame, frame_end, lines_after}
+use Rattle.mlk_machine_jobs.specs.Calling.{count_given, entered, called, called_if, gone, call_frame, frame_end, lines_after}
 use Rattle.mlk_machine_jobs.specs.Advance.{advance}
 use Rattle.mlk_machine_progress.specs.Progress.{uses}
 use Rattle.mlk_machine_progress.specs.Laws.{UsesNoMore}
-use Rattle.mlk_machine_progress.proofs.Outcomes.{Each, done, refused, unasked, of_value, of_truth, of_last, of_condition, of_result}
+use Rattle.mlk_machine_progress.proofs.Outcomes.{Each, done, refused, unasked, of_value, of_truth, of_last, of_if, of_condition, of_result}
 
 -- all but the last `n` of these values are there
 abbrev Below : ℕ → List (List ℕ) → Job → Type 0
@@ -97,6 +97,10 @@ module _ (n : ℕ) (vs : List (List ℕ)) where
   of_call_if routines true o given ts j e = of_call routines NoValue o given ts j e
   of_call_if routines false o given ts j e = none _ e
 
+  of_gone : (routines : List RoutineTree) (o : Option EntryId) (ts : List Task) (j : Job) → j.values ≡ drop n vs → Leaves (gone routines o ts j)
+  of_gone routines None ts j e = refused (Below n vs) NotEnabled
+  of_gone routines (Some x) ts j e = of_if (Below n vs) (x.routine == j.routine) _ _ (none _ e) (refused (Below n vs) NotEnabled)
+
 of_frame_end : (c : Choice) (frame : Frame) (back : Bindings) (next routine : ℕ) (k : Job) → Leaves (uses (EndFrame frame back next routine)) k.values (frame_end c frame k)
 of_frame_end c NoValue back next routine k = unasked (Below 0 k.values) c _ (none 0 k.values k refl)
 of_frame_end c (AwaitsValue test) back next routine k = of_value (Below 0 k.values) c _ (λ v. now 0 k.values _ (v ∷ []) refl)
@@ -142,6 +146,9 @@ module _ (routines : List RoutineTree) (free : LockName → Bool) (c : Choice) (
       of_condition (Below (suc (count_given given)) j.values) c j (λ t i. called_if t routines (target_of routines i.routine callee) given ts i)
       (λ t. of_call_if (suc (count_given given)) j.values routines t (target_of routines j.routine callee) given ts (dropped 1 j) (after_one (count_given given) j.values))
   below (task.StartJob callee given) ts = takes (count_given given) _ refl
+  below (task.GoTo callee) ts = unasked (Below 0 j.values) c _ (of_gone 0 j.values routines (target_of routines j.routine callee) ts j refl)
+  below (task.GoIf callee) ts =
+      of_condition (Below 1 j.values) c j (λ t i. Ok (doing (tasks_if t (task.GoTo callee ∷ []) ++ ts) i)) (λ t. none 1 j.values _ refl)
   below (RunLines lines) ts = unasked (Below 0 j.values) c _ (of_line 0 j.values lines ts j refl)
   below (FirstRound v ps rest block) ts = of_truth (Below 0 j.values) c _ (λ t. none 0 j.values _ refl)
   below (LaterRound v ps rest block) ts = of_truth (Below 0 j.values) c _ (λ t. none 0 j.values _ refl)

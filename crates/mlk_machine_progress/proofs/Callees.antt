@@ -1,6 +1,7 @@
 -- At each moment of each run of one job of a program, the calls in what is pending are found.
-use Rattle.std.proofs.Common.{ℕ, Bool, true, false, List, [], ◌∷◌, ◌++◌, length, Option, Some, None, drop}
-use Rattle.std.specs.Prelude.{◌&&◌, nat_lt, if◌then◌else◌, Ok}
+use Rattle.std.proofs.Common.{◌≡◌, ℕ, Bool, true, false, List, [], ◌∷◌, ◌++◌, length, Option, Some, None, drop, refl, subst}
+use Rattle.std.specs.Prelude.{◌&&◌, ◌==◌, nat_lt, if◌then◌else◌, Ok, Err}
+use Rattle.std.proofs.lemmas.Bool.{eqb-true}
 use Rattle.std.specs.List.{list_all}
 use Rattle.mlk_names.specs.declared.lock_name.LockName.{LockName}
 use Rattle.mlk_names.specs.declared.reference.Access.{Access}
@@ -22,11 +23,11 @@ use Rattle.mlk_machine_jobs.specs.Commands.{action_parts}
 use Rattle.mlk_machine_jobs.specs.Choices.{fetched, touched, doing, dropped, same_truth}
 use Rattle.mlk_machine_jobs.specs.Locking.{tested, claim_step, timed_claim, if_free}
 use Rattle.mlk_machine_jobs.specs.Lines.{skipped, to_end, selected, chosen, next_line, tasks_if, answered}
-use Rattle.mlk_machine_jobs.specs.Calling.{entered, called, called_if, call_frame, frame_end, lines_after}
+use Rattle.mlk_machine_jobs.specs.Calling.{entered, called, called_if, gone, call_frame, frame_end, lines_after}
 use Rattle.mlk_machine_jobs.specs.Advance.{advance}
 use Rattle.mlk_machine_jobs.specs.Runs.{machine, is_job_number, blank, by_value, formals_at, aborted}
 use Rattle.mlk_machine_progress.proofs.Found.{AreFound, found_left, found_right, AreFoundAt, found_as_lines, AllFind, find_skipped, find_to_end, find_quit, entry_found}
-use Rattle.mlk_machine_progress.proofs.FoundParts.{PartsFound, expressions, actions, next_commands, next_parameter, first_rounds, later_rounds, assigns, signed, merged}
+use Rattle.mlk_machine_progress.proofs.FoundParts.{PartsFound, one, expressions, actions, next_commands, next_parameter, first_rounds, later_rounds, assigns, signed, merged}
 use Rattle.mlk_machine_progress.proofs.Outcomes.{Each, done, refused, unasked, of_value, of_truth, of_last, of_if, of_condition, of_result, each_moment}
 
 module _ (routines : List RoutineTree) (p : IsProgram routines) where
@@ -89,6 +90,14 @@ module _ (routines : List RoutineTree) (p : IsProgram routines) where
   of_call_if true o given ts j f = of_call NoValue o given ts j f
   of_call_if false o given ts j f = now _ f
 
+  of_gone : (o : Option EntryId) (ts : List Task) (j : Job) → AllFind routines j.routine ts → Each FindsAll (gone routines o ts j)
+  of_gone None ts j f = refused FindsAll NotEnabled
+  of_gone (Some e) ts j f = by (e.routine == j.routine) refl
+    where
+      by : (b : Bool) → (e.routine == j.routine) ≡ b → Each FindsAll (if b then Ok (doing (RunLines (lines_after routines e) ∷ to_end ts) j) else Err NotEnabled)
+      by true is = now _ (subst (λ r. AreFoundAt routines r (lines_after routines e)) (eqb-true e.routine j.routine is) (entry_found routines p e), find_to_end routines j.routine ts f)
+      by false is = refused FindsAll NotEnabled
+
   of_frame_end : (c : Choice) (frame : Frame) (k : Job) → FindsAll k → Each FindsAll (frame_end c frame k)
   of_frame_end c NoValue k f = unasked FindsAll c _ (now k f)
   of_frame_end c (AwaitsValue test) k f = of_value FindsAll c _ (λ v. now _ f)
@@ -145,6 +154,10 @@ module _ (routines : List RoutineTree) (p : IsProgram routines) where
       (λ t. of_call_if t (target_of routines j.routine callee) given ts (dropped 1 j) f)
   knows free c j (task.StartJob callee given ∷ ts) (h, f) = unasked FindsAll c _ (now _ f)
   knows free c j (task.Block lines ∷ ts) (h, f) = unasked FindsAll c _ (now _ (found_as_lines routines j.routine lines h, (tt, f)))
+  knows free c j (task.GoTo callee ∷ ts) (h, f) = unasked FindsAll c _ (of_gone (target_of routines j.routine callee) ts j f)
+  knows free c j (task.GoIf callee ∷ ts) (h, f) =
+      of_condition FindsAll c j (λ t i. Ok (doing (tasks_if t (task.GoTo callee ∷ []) ++ ts) i))
+      (λ t. now _ (run_if j t (task.GoTo callee ∷ []) ts (one routines j.routine (task.GoTo callee) refl tt) f))
   knows free c j (RunLines lines ∷ ts) (h, f) = unasked FindsAll c _ (of_line lines ts j h f)
   knows free c j (RunCommands commands here ∷ ts) (h, f) = unasked FindsAll c _ (now _ (next_commands routines j.routine commands here h.0 h.1 ts f))
   knows free c j (task.NextArgument action done ∷ ts) (h, f) = unasked FindsAll c _ (now _ f)

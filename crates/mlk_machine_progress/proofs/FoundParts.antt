@@ -121,6 +121,7 @@ module _ (routines : List RoutineTree) (r : ℕ) where
   globals : (f : Function) (name : List ℕ) (ss : Subs) (more : Trees) → Found (in_subs ss) → Found (in_trees more) → PartsFound (of_global f name ss more)
   globals function.Data name ss more h k = both (of_read name ss extent.Tree h) (of_unused more k)
   globals function.Get name ss more h k = both (of_read name ss extent.Node h) (of_unused more k)
+  globals function.Increment name ss more h k = both (both (subs ss h) (one (task.FormReference _ _ _ _) refl tt)) (of_values more _ k)
   globals function.Order name ss more h k =
       both (subs ss h) (both (one (task.Drop _) refl tt) (both (one (task.FormReference _ _ _ _) refl tt) (of_unused more k)))
   globals function.Query name ss more h k =

@@ -9,6 +9,7 @@ use Rattle.mlk_machine_locks.specs.declared.refusal.Refusal.TheVariants.{NotEnab
 use Rattle.mlk_syntax.specs.declared.expr.Callee.{Callee}
 use Rattle.mlk_syntax.specs.ExprTrees.{Tree, Choices, no_choices, choice as condition, ActualTree}
 use Rattle.mlk_syntax.specs.Trees.{RoutineTree, LineHead}
+use Rattle.mlk_program.specs.declared.entry.EntryId.{EntryId}
 use Rattle.mlk_program.specs.Entries.{target_of}
 use Rattle.mlk_machine_jobs.specs.declared.choice.Choice.{Choice}
 use Rattle.mlk_machine_jobs.specs.declared.choice.Choice.TheVariants as choice
@@ -21,9 +22,9 @@ use Rattle.mlk_machine_jobs.specs.Choices.{Stepped, without_choice, with_value, 
 use Rattle.mlk_machine_jobs.specs.Choices.{given_or_asked, fetched, touched, doing, dropped}
 use Rattle.mlk_machine_jobs.specs.Locking.{tested, claim_step, if_free}
 use Rattle.mlk_machine_jobs.specs.Lines.{chosen, tasks_if}
-use Rattle.mlk_machine_jobs.specs.Calling.{called, called_if, call_frame, frame_end}
+use Rattle.mlk_machine_jobs.specs.Calling.{called, called_if, gone, call_frame, frame_end}
 use Rattle.mlk_machine_jobs.specs.Advance.{advance}
-use Rattle.mlk_machine_progress.specs.Progress.{is_granted, can_go, claiming}
+use Rattle.mlk_machine_progress.specs.Progress.{is_granted, is_in, can_go, claiming}
 use Rattle.mlk_machine_progress.specs.Laws.{JobsContinue, ClaimsAreGranted}
 use Rattle.mlk_machine_progress.proofs.Rests.{Suits}
 use Rattle.mlk_machine_progress.proofs.Found.{Reaches, AllFind}
@@ -101,7 +102,11 @@ module _ (routines : List RoutineTree) where
   calls_if true r callee x given ts j = calls NoValue r callee x given ts j
   calls_if false r callee x given ts j = (_, refl)
 
-  goes : (free : LockName → Bool) (j : Job) (ts : List Task) → Suits (length j.values) ts → AllFind routines j.routine ts → can_go free j ts ≡ true
+  goes_to : (o : Option EntryId) (ts : List Task) (j : Job) → is_in j.routine o ≡ true → Makes (gone routines o ts j)
+  goes_to None ts j h = cc
+  goes_to (Some e) ts j h = rw h (_, refl)
+
+  goes : (free : LockName → Bool) (j : Job) (ts : List Task) → Suits (length j.values) ts → AllFind routines j.routine ts → can_go routines free j ts ≡ true
       → MakesBySome (λ c. advance routines free c j ts)
   goes free j [] s f h = cc
   goes free j (task.Evaluate t ∷ ts) s f h = makes _
@@ -144,6 +149,9 @@ module _ (routines : List RoutineTree) where
       (λ t. calls_if t j.routine callee f.0 given ts (dropped 1 j))
   goes free j (task.StartJob callee given ∷ ts) s f h = makes _
   goes free j (task.Block lines ∷ ts) s f h = makes _
+  goes free j (task.GoTo callee ∷ ts) s f h = silent _ (goes_to (target_of routines j.routine callee) ts j h)
+  goes free j (task.GoIf callee ∷ ts) s f h =
+      by_condition j (λ t i. Ok (doing (tasks_if t (task.GoTo callee ∷ []) ++ ts) i)) (omega (arith, s.1)) (λ t. (_, refl))
   goes free j (RunLines [] ∷ ts) s f h = makes _
   goes free j (RunLines ((LineHead n level end label None commands, block) ∷ lines) ∷ ts) s f h = makes _
   goes free j (RunLines ((LineHead n level end label (Some formals) commands, block) ∷ lines) ∷ ts) s f h = cc
@@ -172,19 +180,24 @@ never_granted : (b : Bool) (k : Job) → b ≡ false → Each Never (if_free b k
 never_granted true k h = cc
 never_granted false k h = refused Never NotEnabled
 
-stands : (routines : List RoutineTree) (free : LockName → Bool) (c : Choice) (j : Job) (ts : List Task) → can_go free j ts ≡ false
+never_gone : (routines : List RoutineTree) (o : Option EntryId) (ts : List Task) (j : Job) → is_in j.routine o ≡ false → Each Never (gone routines o ts j)
+never_gone routines None ts j h = refused Never NotEnabled
+never_gone routines (Some e) ts j h = rw h (refused Never NotEnabled)
+
+stands : (routines : List RoutineTree) (free : LockName → Bool) (c : Choice) (j : Job) (ts : List Task) → can_go routines free j ts ≡ false
     → Each Never (advance routines free c j ts)
 stands routines free c j [] h = refused Never NotEnabled
 stands routines free c j (task.Fetch name ∷ ts) h = unasked Never c _ (never_fetched j ts _ h)
 stands routines free c j (task.Select no_choices ∷ ts) h = unasked Never c _ (refused Never NotEnabled)
 stands routines free c j (task.Claim names false ∷ ts) h = unasked Never c _ (never_granted _ _ h)
 stands routines free c j (RunLines ((LineHead n level end label (Some formals) commands, block) ∷ lines) ∷ ts) h = unasked Never c _ (refused Never NotEnabled)
+stands routines free c j (task.GoTo callee ∷ ts) h = unasked Never c _ (never_gone routines (target_of routines j.routine callee) ts j h)
 stands routines free c j ts h = cc
 
 pub jobs_continue : JobsContinue
 jobs_continue routines declared p e test values k first j acts b r = record {
   goes = λ free h.
-      goes routines free j j.tasks (suited routines declared e test values k first j acts b r (λ z. let w : false ≡ true = subst (λ ts. can_go free j ts ≡ true) z h in cc))
+      goes routines free j j.tasks (suited routines declared e test values k first j acts b r (λ z. let w : false ≡ true = subst (λ ts. can_go routines free j ts ≡ true) z h in cc))
       (finds_all routines p declared e test values k first j acts b r) h;
   stands = λ free h m. stands routines free m.0 j j.tasks h m.1.0 m.1.1;
 }

@@ -94,6 +94,8 @@ subs_first ss more =
 globals : (f : Function) (name : List ℕ) (ss : Subs) (more : Trees) → HasEffect 0 1 (of_global f name ss more)
 globals function.Data name ss more = both (of_read name ss extent.Tree) (of_unused more)
 globals function.Get name ss more = both (of_read name ss extent.Node) (of_unused more)
+globals function.Increment name ss more =
+    both (both (subs ss 0) (one (task.FormReference name (count_subs ss) extent.Node Writes) 0 refl (omega arith) refl)) (of_values more)
 globals function.Order name ss more =
     both (subs ss 0) (both (one (task.Drop (count_subs ss - all_but_last ss)) (all_but_last ss) {b = all_but_last ss} refl (omega arith) (omega arith))
     (both (one (task.FormReference name (all_but_last ss) extent.Tree Reads) 0 refl (omega arith) refl) (of_unused more)))

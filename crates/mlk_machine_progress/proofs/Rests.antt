@@ -1,6 +1,7 @@
 -- Commands, lines and rounds need what is needed behind them, and so does what is left after they are skipped or quit.
-use Rattle.std.proofs.Common.{◌≡◌, ◌∙◌, ℕ, suc, ◌+◌, Bool, true, false, List, [], ◌∷◌, ◌++◌, Option, Some, None, refl, sym, ap, arith, append_assoc}
+use Rattle.std.proofs.Common.{◌≡◌, ◌∙◌, ℕ, suc, ◌+◌, Bool, true, false, List, [], ◌∷◌, ◌++◌, Option, Some, None, refl, sym, ap, arith, append_assoc, ⊎_elim}
 use Rattle.std.specs.Prelude.{if◌then◌else◌}
+use Rattle.std.proofs.lemmas.Bool.{cases_Bool}
 use Rattle.mlk_syntax.specs.ExprTrees.{Tree}
 use Rattle.mlk_syntax.specs.Trees.{ActionTree, Do, Else, Halt, Hang, If, Job, Kill, Lock, Merge, New, Quit, Read, Set, Write, LineTrees}
 use Rattle.mlk_syntax.specs.Trees.{ParameterTree, Once, Endless, Limited, CommandTree, Does, CommandTrees, ControlTree, Runs, finished, then_command, then_for}
@@ -174,3 +175,14 @@ lines_before n lines t ts h s = cc
 
 pub lines_rest : (lines : List LineTree) (ts : List Task) → IsRest ts → IsRest (RunLines lines ∷ ts)
 lines_rest lines ts r = at_round (RunLines lines) ts refl refl refl refl r
+
+-- what is left at the end of a block or frame
+at_first : (t : Task) (ts : List Task) → is_end t ≡ true → IsRest (t ∷ ts)
+at_first (EndBlock back next test) ts h = at_end (EndBlock back next test) ts refl refl
+at_first (EndFrame frame back next routine) ts h = at_end (EndFrame frame back next routine) ts refl refl
+at_first t ts h = cc
+
+pub ends_rest : (ts : List Task) → IsRest (to_end ts)
+ends_rest [] = record { skips = refl; ends = refl }
+ends_rest (t ∷ ts) =
+    ⊎_elim (λ (u : is_end t ≡ true). rw u (at_first t ts u)) (λ (u : is_end t ≡ false). rw u (ends_rest ts)) (cases_Bool (is_end t))

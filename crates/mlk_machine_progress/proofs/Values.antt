@@ -1,6 +1,6 @@
 -- At each moment of each run of one job, the pending values are exactly enough for the pending tasks.
 use Rattle.std.proofs.Common.{◌≡◌, ◌∙◌, ℕ, suc, ◌+◌, ◌-◌, ◌≤◌, Bool, true, false, List, [], ◌∷◌, ◌++◌, length, Option, Some, None, refl, sym, ap, subst, arith, drop}
-use Rattle.std.specs.Prelude.{◌&&◌, nat_lt, Ok}
+use Rattle.std.specs.Prelude.{◌&&◌, ◌==◌, nat_lt, Ok}
 use Rattle.std.specs.List.{list_all}
 use Rattle.std.proofs.lemmas.List.{length-drop, length-reverse}
 use Rattle.mlk_names.specs.declared.lock_name.LockName.{LockName}
@@ -23,15 +23,15 @@ use Rattle.mlk_machine_jobs.specs.Assigning.{count_parts}
 use Rattle.mlk_machine_jobs.specs.Choices.{fetched, touched, doing, dropped, same_truth}
 use Rattle.mlk_machine_jobs.specs.Locking.{count_all, tested, claim_step, timed_claim, if_free}
 use Rattle.mlk_machine_jobs.specs.Lines.{is_end, to_end, selected, chosen, next_line, tasks_if, answered}
-use Rattle.mlk_machine_jobs.specs.Calling.{count_given, commands_in, entered, called, called_if, call_frame, frame_end, lines_after}
+use Rattle.mlk_machine_jobs.specs.Calling.{count_given, commands_in, entered, called, called_if, gone, call_frame, frame_end, lines_after}
 use Rattle.mlk_machine_jobs.specs.Advance.{advance}
 use Rattle.mlk_machine_jobs.specs.Runs.{machine, is_job_number, blank, present, by_value, formals_at, aborted}
 use Rattle.mlk_machine_progress.specs.Progress.{given_by, value_of, AreEnough}
 use Rattle.mlk_machine_progress.specs.Laws.{ValuesSuffice}
-use Rattle.mlk_machine_progress.proofs.Effects.{needs, IsRest, Fits, fits_from, enough, one}
+use Rattle.mlk_machine_progress.proofs.Effects.{needs, IsRest, Fits, fits_from, enough, none, one}
 use Rattle.mlk_machine_progress.proofs.Parts.{expressions, assigns, merged, signed}
-use Rattle.mlk_machine_progress.proofs.Rests.{Suits, turned, actions, put, running, next_commands, next_parameter, first_rounds, later_rounds}
-use Rattle.mlk_machine_progress.proofs.Rests.{a_round, stores_then, skip_if, run_if, quits, lines_before, lines_rest, at_end}
+use Rattle.mlk_machine_progress.proofs.Rests.{Suits, turned, behind, actions, put, running, next_commands, next_parameter, first_rounds, later_rounds}
+use Rattle.mlk_machine_progress.proofs.Rests.{a_round, stores_then, skip_if, run_if, quits, lines_before, lines_rest, at_end, ends_rest}
 use Rattle.mlk_machine_progress.proofs.Outcomes.{Each, done, refused, unasked, of_value, of_truth, of_last, of_if, of_condition, of_result, each_moment}
 
 -- while tasks are left
@@ -114,6 +114,14 @@ of_frame_end c NoValue back next routine ts j k ((b, r, f), e) t v = unasked Sui
 of_frame_end c (AwaitsValue test) back next routine ts j k ((b, r, f), e) t v = of_value Suited c _ (λ x. now _ (rw (t, v) (f, omega (arith, b, e))))
 of_frame_end c (HasValue test) back next routine ts j k ((b, r, f), e) t v = unasked Suited c _ (now _ (rw (t, v) (f, omega (arith, b, e))))
 
+-- GOTO
+of_gone : (routines : List RoutineTree) (o : Option EntryId) (ts : List Task) (j : Job) → IsRest ts → Suits (length j.values) ts → Each Suited (gone routines o ts j)
+of_gone routines None ts j r s = refused Suited NotEnabled
+of_gone routines (Some x) ts j r (f, e) =
+    of_if Suited (x.routine == j.routine) _ _
+    (now _ (put (length j.values) (RunLines (lines_after routines x)) (to_end ts) refl refl (ends_rest ts) (fits_from is_end ts f, r.ends ∙ e)))
+    (refused Suited NotEnabled)
+
 -- QUIT with a value
 answered_suits : (j : Job) (ts : List Task) → Fits ts → length j.values ≡ 1 + needs ts → Suits (length (answered j ts).values) (answered j ts).tasks
 answered_suits j (EndFrame (AwaitsValue test) back next routine ∷ ts) (b, r, f) e = ((b, (λ z. cc), f), omega (arith, b, e))
@@ -176,6 +184,11 @@ goes routines free c j (task.StartJob callee given ∷ ts) ((b, r, f), e) = unas
 goes routines free c j (task.Block lines ∷ ts) ((b, r, f), e) =
     unasked Suited c _ (now _ (lines_before (length j.values) (as_lines lines) (EndBlock j.bindings j.next j.test) ts refl
     ((omega arith, (λ z. cc), f), omega (arith, e))))
+goes routines free c j (task.GoTo callee ∷ ts) ((b, r, f), e) =
+    unasked Suited c _ (of_gone routines (target_of routines j.routine callee) ts j (r refl) (f, omega (arith, e)))
+goes routines free c j (task.GoIf callee ∷ ts) ((b, r, f), e) =
+    of_condition Suited c j (λ t i. Ok (doing (tasks_if t (task.GoTo callee ∷ []) ++ ts) i))
+    (λ t. now _ (run_if _ t (task.GoTo callee ∷ []) ts (behind none (task.GoTo callee) refl refl) (r refl) (f, omega (arith, e, length-drop 1 j.values))))
 goes routines free c j (RunLines lines ∷ ts) ((b, r, f), e) = unasked Suited c _ (of_line lines ts j (r refl) (f, omega (arith, e)))
 goes routines free c j (RunCommands commands block ∷ ts) ((b, r, f), e) =
     unasked Suited c _ (now _ (next_commands (length j.values) commands block ts (r refl) (f, omega (arith, e))))

@@ -1,5 +1,6 @@
 -- How many values a task uses and leaves, and whether a job can take a step. This project's own choice.
-use Rattle.std.specs.Prelude.{◌≡◌, ℕ, suc, ◌+◌, ◌&&◌, Bool, true, false, List, [], ◌∷◌, ◌++◌, drop, length, is_some, Ok}
+use Rattle.std.specs.Prelude.{◌≡◌, ℕ, suc, ◌+◌, ◌&&◌, ◌==◌, Bool, true, false, List, [], ◌∷◌, ◌++◌, drop, length}
+use Rattle.std.specs.Prelude.{Option, Some, None, is_some, Ok}
 use Rattle.std.specs.List.{list_all}
 use Rattle.mlk_names.specs.declared.lock_name.LockName.{LockName}
 use Rattle.mlk_names.specs.declared.reference.Access.{Access}
@@ -7,7 +8,8 @@ use Rattle.mlk_names.specs.declared.reference.Access.TheVariants.{Reads, Writes}
 use Rattle.mlk_machine_locks.specs.Counts.{has_room}
 use Rattle.mlk_syntax.specs.ExprTrees.{no_choices}
 use Rattle.mlk_syntax.specs.Trees.{RoutineTree}
-use Rattle.mlk_program.specs.Entries.{has_no_formals}
+use Rattle.mlk_program.specs.declared.entry.EntryId.{EntryId}
+use Rattle.mlk_program.specs.Entries.{has_no_formals, target_of}
 use Rattle.mlk_machine_jobs.specs.declared.choice.Choice.{Choice}
 use Rattle.mlk_machine_jobs.specs.declared.choice.Choice.TheVariants as choice
 use Rattle.mlk_machine_jobs.specs.Bindings.{look}
@@ -35,6 +37,7 @@ uses (task.Conditionally action block) = 1
 uses (task.LockNamed sign names timed) = count_all names
 uses (task.Call extrinsic callee given) = count_given given
 uses (task.CallIf callee given) = suc (count_given given)
+uses (task.GoIf callee) = 1
 uses (task.StartJob callee given) = count_given given
 uses task.QuitWithValue = 1
 uses (EndFrame (HasValue test) back next routine) = 1
@@ -88,15 +91,22 @@ LeavesBelow routines j = (t : Task) (ts : List Task) (free : LockName → Bool) 
 abbrev pub is_granted : (LockName → Bool) → Job → List LockName → Bool
 is_granted free j names = list_all free names && has_room names j.held
 
+-- the entry is in this routine
+abbrev pub is_in : ℕ → Option EntryId → Bool
+is_in routine None = false
+is_in routine (Some e) = e.routine == routine
+
 -- Whether a job with these tasks can take a step, if these names are free: not if it has ended, if a local has no value, if no
--- condition of `$SELECT` was true, if a claim has to wait, or before a line with a formal list.
-abbrev pub can_go : (LockName → Bool) → Job → List Task → Bool
-can_go free j [] = false
-can_go free j (task.Fetch name ∷ ts) = is_some (j.cells (look j.bindings name))
-can_go free j (task.Select no_choices ∷ ts) = false
-can_go free j (task.Claim names false ∷ ts) = is_granted free j names
-can_go free j (RunLines (l ∷ lines) ∷ ts) = has_no_formals l
-can_go free j ts = true
+-- condition of `$SELECT` was true, if a claim has to wait, before a line with a formal list, or at GOTO of a label that its
+-- routine does not have.
+abbrev pub can_go : List RoutineTree → (LockName → Bool) → Job → List Task → Bool
+can_go routines free j [] = false
+can_go routines free j (task.Fetch name ∷ ts) = is_some (j.cells (look j.bindings name))
+can_go routines free j (task.Select no_choices ∷ ts) = false
+can_go routines free j (task.Claim names false ∷ ts) = is_granted free j names
+can_go routines free j (RunLines (l ∷ lines) ∷ ts) = has_no_formals l
+can_go routines free j (task.GoTo callee ∷ ts) = is_in j.routine (target_of routines j.routine callee)
+can_go routines free j ts = true
 
 -- a step by this choice, and one by some choice
 abbrev pub Steps : List RoutineTree → (LockName → Bool) → Choice → Job → Type 0
@@ -107,8 +117,8 @@ HasStep routines free j = (c : Choice) × Steps routines free c j
 
 -- it has a next step if it can take one, and none otherwise
 pub record Continues (routines : List RoutineTree) (j : Job) : Type 0 where
-  pub goes : (free : LockName → Bool) → can_go free j j.tasks ≡ true → HasStep routines free j
-  pub stands : (free : LockName → Bool) → can_go free j j.tasks ≡ false → HasStep routines free j → ⊥
+  pub goes : (free : LockName → Bool) → can_go routines free j j.tasks ≡ true → HasStep routines free j
+  pub stands : (free : LockName → Bool) → can_go routines free j j.tasks ≡ false → HasStep routines free j → ⊥
 
 -- the choice by which a claim is made: it does not let a timed claim fail
 abbrev pub claiming : Bool → Choice

@@ -27,7 +27,7 @@ use Rattle.mlk_numbers.specs.Operators.{truth_of_text}
 use Rattle.mlk_machine_jobs.specs.Choices.{Stepped, without_choice, with_last, truth_or_asked, doing, dropped, fetched, touched}
 use Rattle.mlk_machine_jobs.specs.Lines.{to_end, selected, chosen, next_line}
 use Rattle.mlk_machine_jobs.specs.Calling as calling
-use Rattle.mlk_machine_jobs.specs.Calling.{called, called_if, entered, lines_after}
+use Rattle.mlk_machine_jobs.specs.Calling.{called, called_if, entered, gone, lines_after}
 use Rattle.mlk_machine_jobs.specs.Advance.{advance}
 use Rattle.mlk_machine_jobs.specs.TaskViews.{value_task, local_task, test_task, lock_task, scope_task, line_task}
 use Rattle.mlk_machine_jobs.proofs.AnswerLemmas.{answered_again}
@@ -67,6 +67,11 @@ called_if_again : (t : Bool) (routines : List RoutineTree) (e : Option EntryId) 
     (j : Job) → called_if t routines e given ts (dropped 1 (doing us j)) ≡ called_if t routines e given ts (dropped 1 j)
 called_if_again true routines e given us ts j = called_again routines task.NoValue e given us ts (dropped 1 j)
 called_if_again false routines e given us ts j = refl
+
+gone_again : (routines : List RoutineTree) (e : Option EntryId) (us ts : List Task) (j : Job)
+    → gone routines e ts (doing us j) ≡ gone routines e ts j
+gone_again routines None us ts j = refl
+gone_again routines (Some e) us ts j = refl
 
 next_again : (lines : List LineTree) (us ts : List Task) (j : Job) → next_line lines ts (doing us j) ≡ next_line lines ts j
 next_again [] us ts j = refl
@@ -118,6 +123,8 @@ again routines free c j us (task.CallIf callee given) ts =
     same_tested j.values c _ _ (λ t. called_if_again t routines (target_of routines j.routine callee) given us ts j)
 again routines free c j us (task.StartJob callee given) ts = refl
 again routines free c j us (task.Block lines) ts = refl
+again routines free c j us (task.GoTo callee) ts = ap (without_choice c) (gone_again routines (target_of routines j.routine callee) us ts j)
+again routines free c j us (task.GoIf callee) ts = refl
 again routines free c j us (task.RunLines lines) ts = ap (without_choice c) (next_again lines us ts j)
 again routines free c j us (task.RunCommands commands here) ts = refl
 again routines free c j us (task.NextArgument action done) ts = refl
@@ -180,6 +187,8 @@ module _ (routines : List RoutineTree) (free : LockName → Bool) (c : Choice) (
   scope_alone (a_scope.CallIf callee given) = refl
   scope_alone (a_scope.StartJob callee given) = refl
   scope_alone (a_scope.Block lines) = refl
+  scope_alone (a_scope.GoTo callee) = refl
+  scope_alone (a_scope.GoIf callee) = refl
 
   pub line_alone : (t : LineTask) → advance routines free c j (line_task t ∷ ts) ≡ alone (line_task t)
   line_alone (a_line.RunLines lines) = refl

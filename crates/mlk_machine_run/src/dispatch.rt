@@ -13,14 +13,15 @@ ghost use Rattle.mlk_machine_run.specs.Frames.{claimed_in};
 
 use crate::call::{Invocation, call, call_if};
 use crate::formals::count_given;
+use crate::goto::go_to;
 use mlk_machine_jobs::{
     Choice, Job, LineTask, LocalTask, LockTask, ScopeTask, Task, TestTask, ValueTask,
 };
 use mlk_machine_locks::Refusal;
 use mlk_machine_steps::{
     Reference, apply_binary, apply_unary, ask_test, ask_value, assign, begin_block, choose, claim,
-    drop_values, evaluate, fetch, form_reference, halt, kill, make_new, merge, name_locks,
-    nothing_asked, push_copy, push_job, push_test, quit_here, quit_with_value, release,
+    drop_values, evaluate, fetch, form_reference, go_if_true, halt, kill, make_new, merge,
+    name_locks, nothing_asked, push_copy, push_job, push_test, quit_here, quit_with_value, release,
     release_all, run_commands, run_first_round, run_forever, run_if_true, run_later_round,
     run_lines, run_next_value, run_parameters, select, set_test, skip_if, store, store_any,
     store_last, touch,
@@ -140,7 +141,7 @@ pub(crate) fn lock_step<'a>(
     }
 }
 
-/// Runs a task that begins a frame, a block or another job, which is separate.
+/// Runs GOTO, or a task that begins a frame, a block or another job, which is separate.
 pub(crate) fn scope_step<'a>(
     alloc: Global,
     program: &Program<'a>,
@@ -173,6 +174,8 @@ pub(crate) fn scope_step<'a>(
         }
         ScopeTask::StartJob(_, given) => drop_values(job, choice, count_given(given)),
         ScopeTask::Block(lines) => begin_block(job, choice, lines),
+        ScopeTask::GoTo(callee) => go_to(program, job, choice, callee),
+        ScopeTask::GoIf(callee) => go_if_true(alloc, job, choice, callee),
     }
 }
 

@@ -6,6 +6,7 @@ mod call;
 mod dispatch;
 mod formals;
 mod frame;
+mod goto;
 mod silent;
 mod stepping;
 mod system;

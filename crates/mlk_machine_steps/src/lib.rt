@@ -32,4 +32,4 @@ pub use quit::{end_frame, halt, quit_here, quit_with_value};
 pub use replace::evaluate;
 pub use scope::{begin_block, end_block, make_new};
 pub use touching::{Reference, form_reference, touch};
-pub use truth::{choose, run_if_true, set_test};
+pub use truth::{choose, go_if_true, run_if_true, set_test};

@@ -11,15 +11,16 @@ ghost use Rattle.mlk_machine_jobs.specs.Locking.{tested};
 ghost use Rattle.mlk_machine_jobs.specs.JobViews.{job_of, KeepsPending};
 ghost use Rattle.mlk_machine_jobs.specs.Sound.{Sound};
 ghost use Rattle.mlk_machine_jobs.specs.TaskViews.{Adds, block_of};
+ghost use Rattle.mlk_machine_jobs.specs.Tasks.{GoTo};
 ghost use Rattle.mlk_machine_steps.specs.Truths.{truth_chosen, truth_known, step_truth, part_chosen};
 
 use crate::ask::or_refused;
 use mlk_machine_expressions::add;
-use mlk_machine_jobs::{Choice, Job, Task, ValueTask};
+use mlk_machine_jobs::{Choice, Job, ScopeTask, Task, ValueTask};
 use mlk_machine_locks::Refusal;
 use mlk_machine_tasks::action_parts;
 use mlk_numbers::known_truth;
-use mlk_syntax::{Action, Expr, Line};
+use mlk_syntax::{Action, Callee, Expr, Line};
 use mlk_text::Failure;
 use std::alloc::{AllocError, Global};
 
@@ -106,6 +107,42 @@ pub fn run_if_true<'a>(
     let is_true = or_refused(last_truth(job, choice))?;
     let mut parts = Vec::new(alloc);
     parts_if(&mut parts, is_true, action, block)?;
+    job.do_first(parts)?;
+    job.use_up(1);
+    Ok(())
+}
+
+// GOTO, if its postconditional is true.
+fn go_to_if<'a>(
+    parts: &mut Vec<Task<'a>>,
+    is_true: bool,
+    callee: &'a Callee,
+) -> Result<(), AllocError>
+    ensures { OnOk result (Adds (tasks_if is_true (GoTo callee.now ∷ [])) parts.old.items parts.new.items) }
+{
+    if is_true {
+        add(parts, Task::Scope(ScopeTask::GoTo(callee)))
+    } else {
+        Ok(())
+    }
+}
+
+/// GOTO whose own postconditional was evaluated.
+pub fn go_if_true<'a>(
+    alloc: Global,
+    job: &mut Job<'a>,
+    choice: &Choice,
+    callee: &'a Callee,
+) -> Result<(), Failure<Refusal>>
+    ensures answer { Answers (λ _. job_of job.new) result (by_truth choice.now (job_of job.old)
+        (λ t i. Ok (doing (tasks_if t (GoTo callee.now ∷ []) ++ (job_of job.old).tasks) i))) }
+    ensures stays { OnErr result (job_of job.new ≡ job_of job.old) }
+    ensures room { OnErr result (KeepsPending job.old job.new) }
+    ensures sound { Sound job.old → Sound job.new }
+{
+    let is_true = or_refused(last_truth(job, choice))?;
+    let mut parts = Vec::new(alloc);
+    go_to_if(&mut parts, is_true, callee)?;
     job.do_first(parts)?;
     job.use_up(1);
     Ok(())

@@ -1,11 +1,12 @@
 -- What a step without a choice shows of a job.
-use Rattle.std.proofs.Common.{◌≡◌, ◌∙◌, ◌++◌, ℕ, suc, Bool, true, false, List, [], ◌∷◌, drop, Option, Some, None, Ok, refl, ap}
-use Rattle.std.specs.Prelude.{is_some}
+use Rattle.std.proofs.Common.{◌≡◌, ◌∙◌, ◌++◌, ℕ, suc, Bool, true, false, List, [], ◌∷◌, drop, Option, Some, None, Ok, Err, refl, ap}
+use Rattle.std.specs.Prelude.{◌==◌, if◌then◌else◌, is_some}
 use Rattle.mlk_text.specs.declared.operator.Op.{Op}
 use Rattle.mlk_text.specs.declared.operator.UnaryOp.{UnaryOp}
 use Rattle.mlk_syntax.specs.declared.expr.Callee.{Callee}
 use Rattle.mlk_syntax.specs.ExprTrees.{Tree, Choices, no_choices, choice, ActualTree}
 use Rattle.mlk_machine_locks.specs.Lists.{is_some_there}
+use Rattle.mlk_machine_locks.specs.declared.refusal.Refusal.TheVariants.{NotEnabled}
 use Rattle.mlk_syntax.specs.Trees.{RoutineTree, LineHead, LineTrees, ActionTree, TargetTree}
 use Rattle.mlk_program.specs.declared.entry.EntryId.{EntryId}
 use Rattle.mlk_program.specs.Entries.{target_of}
@@ -19,10 +20,10 @@ use Rattle.mlk_machine_jobs.specs.Choices.{doing, pushed, stored, last_values}
 use Rattle.mlk_machine_jobs.specs.Commands.{action_parts}
 use Rattle.mlk_machine_jobs.specs.Assigning.{assignments, count_parts}
 use Rattle.mlk_machine_jobs.specs.Locking.{tested}
-use Rattle.mlk_machine_jobs.specs.Lines.{tasks_if, chosen as part_chosen, next_line}
-use Rattle.mlk_machine_jobs.specs.Calling.{call_frame, called, called_if, entered, lines_after, back_to, frame_end}
+use Rattle.mlk_machine_jobs.specs.Lines.{to_end, tasks_if, chosen as part_chosen, next_line}
+use Rattle.mlk_machine_jobs.specs.Calling.{call_frame, called, called_if, entered, gone, lines_after, back_to, frame_end}
 use Rattle.mlk_machine_jobs.specs.Seen.{State, Silent, asks, state_in}
-use Rattle.mlk_machine_view.specs.Asked.{if_enabled, if_known, by_value, by_last, by_unary, by_binary, by_known_truth, by_last_truth, by_target, by_lines, by_frame, has_choices}
+use Rattle.mlk_machine_view.specs.Asked.{if_enabled, if_known, by_value, by_last, by_unary, by_binary, by_known_truth, by_last_truth, by_target, by_goto, by_lines, by_frame, has_choices}
 
 fetched_asks : (j : Job) (ts : List Task) (o : Option (List ℕ)) → asks (fetched j ts o) ≡ by_value o
 fetched_asks j ts None = refl
@@ -75,6 +76,15 @@ called_asks : (routines : List RoutineTree) (frame : Frame) (o : Option EntryId)
     (ts : List Task) (j : Job) → asks (called routines frame o given ts j) ≡ by_target routines o
 called_asks routines frame None given ts j = refl
 called_asks routines frame (Some e) given ts j = entered_asks frame e.routine given (lines_after routines e) ts j
+
+if_asks : (b : Bool) (i : Job) → asks (if b then Ok i else Err NotEnabled) ≡ if_enabled b
+if_asks true i = refl
+if_asks false i = refl
+
+gone_asks : (routines : List RoutineTree) (o : Option EntryId) (ts : List Task) (j : Job)
+    → asks (gone routines o ts j) ≡ by_goto j.routine o
+gone_asks routines None ts j = refl
+gone_asks routines (Some e) ts j = if_asks (e.routine == j.routine) (doing (RunLines (lines_after routines e) ∷ to_end ts) j)
 
 line_asks : (ls : List LineTree) (ts : List Task) (j : Job) → asks (next_line ls ts j) ≡ by_lines ls
 line_asks [] ts j = refl
@@ -134,6 +144,13 @@ module _ (routines : List RoutineTree) (j : Job) (ts : List Task) where
       truth_asks j (λ t i. called_if t routines (target_of routines i.routine callee) given ts i)
       ∙ ap (λ (s : State). by_last_truth j.values s Silent)
       (called_asks routines NoValue (target_of routines j.routine callee) given ts (dropped 1 j))
+
+  pub goto_shows : (callee : Callee)
+      → state_in routines j (task.GoTo callee ∷ ts) ≡ by_goto j.routine (target_of routines j.routine callee)
+  goto_shows callee = gone_asks routines (target_of routines j.routine callee) ts j
+
+  pub goto_if_shows : (callee : Callee) → state_in routines j (task.GoIf callee ∷ ts) ≡ by_last_truth j.values Silent Silent
+  goto_if_shows callee = truth_asks j (λ t i. Ok (doing (tasks_if t (task.GoTo callee ∷ []) ++ ts) i))
 
   pub lines_show : (ls : List LineTree) → state_in routines j (RunLines ls ∷ ts) ≡ by_lines ls
   lines_show ls = line_asks ls ts j

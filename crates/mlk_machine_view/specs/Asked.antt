@@ -1,5 +1,5 @@
 -- What a job does next, depending on what a step needs. This project's own.
-use Rattle.std.specs.Prelude.{ℕ, Bool, true, false, if◌then◌else◌, List, [], ◌∷◌, Option, Some, None, is_some}
+use Rattle.std.specs.Prelude.{ℕ, ◌==◌, Bool, true, false, if◌then◌else◌, List, [], ◌∷◌, Option, Some, None, is_some}
 use Rattle.mlk_text.specs.declared.operator.Op.{Op}
 use Rattle.mlk_text.specs.declared.operator.UnaryOp.{UnaryOp}
 use Rattle.mlk_syntax.specs.ExprTrees.{Choices, no_choices, choice}
@@ -59,6 +59,11 @@ by_last_truth (v ∷ values) one other = by_known_truth (truth_of_text v) one ot
 abbrev pub by_target : List RoutineTree → Option EntryId → State
 by_target routines None = Stuck
 by_target routines (Some e) = if_enabled (is_some_there (lines_after routines e))
+
+-- GOTO from a line of this routine
+abbrev pub by_goto : ℕ → Option EntryId → State
+by_goto routine None = Stuck
+by_goto routine (Some e) = if_enabled (e.routine == routine)
 
 -- the next line
 abbrev pub by_lines : List LineTree → State

@@ -1,4 +1,4 @@
-// The state of a job at a call, and at lines.
+// The state of a job at a call, at GOTO, and at lines.
 
 ghost use Rattle.std.specs.Prelude.{◌≡◌, map};
 ghost use Rattle.mlk_machine_locks.specs.Lists.{is_some_there};
@@ -6,7 +6,7 @@ ghost use Rattle.mlk_program.specs.Entries.{target_of};
 ghost use Rattle.mlk_syntax.specs.Views.{line_of, routine_of};
 ghost use Rattle.mlk_machine_jobs.specs.Calling.{lines_after};
 ghost use Rattle.mlk_machine_jobs.specs.JobViews.{job_of};
-ghost use Rattle.mlk_machine_view.specs.Asked.{by_lines, by_target};
+ghost use Rattle.mlk_machine_view.specs.Asked.{by_goto, by_lines, by_target};
 ghost use Rattle.mlk_machine_view.specs.StateViews.{state_of};
 
 use crate::shown::State;
@@ -34,6 +34,23 @@ pub(crate) fn call_state<'j>(program: &Program, job: &Job, callee: &Callee) -> S
     match program.target(job.routine, callee) {
         Some(entry) => {
             if has_line(program, entry) {
+                State::Silent
+            } else {
+                State::Stuck
+            }
+        }
+        None => State::Stuck,
+    }
+}
+
+/// The state of a job at GOTO.
+pub(crate) fn goto_state<'j>(program: &Program, job: &Job, callee: &Callee) -> State<'j>
+    ensures { state_of result ≡ by_goto (job_of job.now).routine
+        (target_of (map routine_of program.now) (job_of job.now).routine callee.now) }
+{
+    match program.target(job.routine, callee) {
+        Some(entry) => {
+            if entry.routine() == job.routine {
                 State::Silent
             } else {
                 State::Stuck

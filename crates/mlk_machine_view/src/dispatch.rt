@@ -12,7 +12,7 @@ ghost use Rattle.mlk_machine_view.specs.StateViews.{state_of};
 use crate::asking::{
     applies_binary, applies_unary, ends_frame, fetch_state, select_state, uses_last, uses_truth,
 };
-use crate::call::{call_state, lines_state};
+use crate::call::{call_state, goto_state, lines_state};
 use crate::shown::State;
 use mlk_machine_jobs::{
     Job, LineTask, LocalTask, LockTask, Pending, ScopeTask, Task, TestTask, ValueTask,
@@ -85,8 +85,8 @@ fn lock_state<'j>(program: &Program, job: &Job, task: &'j LockTask) -> State<'j>
     }
 }
 
-// The state at the begin of a frame, of a block or of another job.
-#[tactic(auto, using(crate::proofs::AskedLemmas::call_shows, crate::proofs::AskedLemmas::call_if_shows))]
+// The state at GOTO, or at the begin of a frame, of a block or of another job.
+#[tactic(auto, using(crate::proofs::AskedLemmas::call_shows, crate::proofs::AskedLemmas::call_if_shows, crate::proofs::AskedLemmas::goto_shows, crate::proofs::AskedLemmas::goto_if_shows))]
 fn scope_state<'j>(program: &Program, job: &Job, task: &'j ScopeTask) -> State<'j>
     ensures { (ts : List TaskOf) → state_of result
         ≡ state_in (map routine_of program.now) (job_of job.now) (scope_task task.now ∷ ts) }
@@ -96,6 +96,8 @@ fn scope_state<'j>(program: &Program, job: &Job, task: &'j ScopeTask) -> State<'
         ScopeTask::CallIf(callee, _) => {
             uses_truth(job, call_state(program, job, callee), State::Silent)
         }
+        ScopeTask::GoTo(callee) => goto_state(program, job, callee),
+        ScopeTask::GoIf(_) => uses_truth(job, State::Silent, State::Silent),
         ScopeTask::StartJob(_, _) | ScopeTask::Block(_) => State::Silent,
     }
 }

@@ -15,7 +15,7 @@ use std::alloc::AllocError;
 const MOST_WALKS: usize = 1_000_000;
 
 // What the walk of a line changes: the cases that it is walked from, and those in which the block around it may end.
-#[derive(Clone, Copy, Debug, Drop)]
+#[derive(Clone, Copy, Drop)]
 struct Turn {
     again: bool,
     ends: bool,

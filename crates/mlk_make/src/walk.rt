@@ -34,7 +34,7 @@ pub(crate) struct Start<'a> {
 }
 
 /// What a call in a line names: the column of the call, its entry, and whether a job begins there.
-#[derive(Clone, Copy, Debug, Drop)]
+#[derive(Clone, Copy, Drop)]
 pub(crate) struct CalledEntry {
     pub(crate) column: Column,
     pub(crate) entry: EntryId,

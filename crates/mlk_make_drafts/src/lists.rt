@@ -10,14 +10,14 @@ use std::alloc::{AllocError, Global};
 use std::mem;
 
 /// A point: a line, and 0 or the number of a FOR on it.
-#[derive(Clone, Copy, Debug, Drop, PartialEq, Eq)]
+#[derive(Clone, Copy, Drop, PartialEq, Eq)]
 pub struct At {
     pub line: LineNumber,
     pub round: usize,
 }
 
 /// The result of listing something.
-#[derive(Clone, Copy, Debug, Drop, PartialEq, Eq)]
+#[derive(Clone, Copy, Drop, PartialEq, Eq)]
 pub enum Listing {
     /// it is there already
     Known,

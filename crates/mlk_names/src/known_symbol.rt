@@ -8,7 +8,7 @@ use std::default::MadeWith;
 ///
 /// It is a type of its own, so that a lock term can't have an unknown subscript: a term then denotes one name, and no
 /// function on terms has an impossible case.
-#[derive(Clone, Drop, Debug, PartialEq, Eq)]
+#[derive(Clone, Drop, PartialEq, Eq)]
 pub enum KnownSym {
     /// this value
     Const(Value),

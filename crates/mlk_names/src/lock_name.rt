@@ -7,7 +7,7 @@ use crate::list::begins;
 use mlk_text::{Root, Subscripts, Value};
 
 /// A lock name, whose subscripts are values.
-#[derive(Clone, Drop, Debug, PartialEq, Eq)]
+#[derive(Clone, Drop, PartialEq, Eq)]
 pub struct LockName {
     pub root: Root,
     pub subs: Subscripts<Value, 4>,

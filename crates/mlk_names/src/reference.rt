@@ -4,7 +4,7 @@ use crate::symbol::Sym;
 use mlk_text::{Name, Subscripts};
 
 /// How far a reference reaches.
-#[derive(Clone, Copy, Debug, PartialEq, Eq)]
+#[derive(Clone, Copy, PartialEq, Eq)]
 pub enum Extent {
     /// one node
     Node,
@@ -13,7 +13,7 @@ pub enum Extent {
 }
 
 /// What a reference does.
-#[derive(Clone, Copy, Debug, PartialEq, Eq)]
+#[derive(Clone, Copy, PartialEq, Eq)]
 pub enum Access {
     Reads,
     Writes,
@@ -23,7 +23,7 @@ pub enum Access {
 pub type ReferenceSubs = Subscripts<Sym, 4>;
 
 /// A reference to a global, whose subscripts are symbols.
-#[derive(Clone, Drop, Debug, PartialEq, Eq)]
+#[derive(Clone, Drop, PartialEq, Eq)]
 pub struct Reference {
     /// The global's name, without its `^`.
     pub root: Name,

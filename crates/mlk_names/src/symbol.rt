@@ -9,7 +9,7 @@ use std::alloc::{AllocError, Global};
 use std::default::MadeWith;
 
 /// The symbol of a subscript or of an actual.
-#[derive(Clone, Drop, Debug, PartialEq, Eq)]
+#[derive(Clone, Drop, PartialEq, Eq)]
 pub enum Sym {
     /// a constant
     Const(Value),

@@ -12,7 +12,7 @@ use mlk_text::{Name, Root, Subscripts};
 pub type TermSubs = Subscripts<KnownSym, 2>;
 
 /// A lock name whose subscripts are symbols, each of which denotes one value.
-#[derive(Clone, Drop, Debug, PartialEq, Eq)]
+#[derive(Clone, Drop, PartialEq, Eq)]
 pub struct LockTerm {
     pub root: Root,
     pub subs: TermSubs,

@@ -13,5 +13,6 @@ pub use checking::report_by_certificate;
 pub use conversion::convert;
 pub use gate::OpenGate;
 pub use making::{certificate_for, certificate_text};
+pub use mlk_pool::CheckError;
 pub use refusal::NoReport;
 pub use replaying::{Showing, declared_entries, jobs_text};

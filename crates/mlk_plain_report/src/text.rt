@@ -9,7 +9,7 @@ use std::alloc::{AllocError, Global};
 use std::marker::Model;
 
 /// A text that is put together piece by piece.
-#[derive(Drop, Debug)]
+#[derive(Drop)]
 pub struct ReportText {
     bytes: Vec<u8>,
 }

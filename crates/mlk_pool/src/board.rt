@@ -34,7 +34,7 @@ pub enum Slot {
 }
 
 /// One change of a board.
-#[derive(Clone, Copy, Debug, Drop, PartialEq, Eq)]
+#[derive(Clone, Copy, Drop, PartialEq, Eq)]
 pub enum Event {
     Claim { worker: usize, task: usize },
     Post { worker: usize, task: usize },

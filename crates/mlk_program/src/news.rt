@@ -10,7 +10,7 @@ use mlk_text::{Column, Name};
 use std::alloc::{AllocError, Global};
 
 /// What an argument of NEW creates.
-#[derive(Clone, Copy, Debug, Drop)]
+#[derive(Clone, Copy, Drop)]
 pub enum NewNames<'a> {
     /// this local, with the column of its name
     One(Column, &'a Name),

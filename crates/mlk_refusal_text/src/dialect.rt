@@ -11,7 +11,15 @@ const VALUE: &str = "`--dialect extended` reads it, as any value";
 const LINE: &str =
     "`--dialect extended` reads it, as any value, if names and digits alone say which line";
 
+const INCREMENT: &str = "`--dialect extended` reads it in SET, of a global, as a write";
+
 const SIGNS: &str = "`--dialect extended` reads `<=` and `>=`";
+
+const DEVICE: &str =
+    "`--dialect extended` reads it, if no `^`, `$` or `@` is behind a device's colon";
+
+const TRAP: &str =
+    "`--dialect extended` reads SET of it to code such as \"HALT\" or \"L  N  D LABEL^ROUTINE H\"";
 
 const TAB: &str = "`--dialect extended` reads a TAB as a space";
 
@@ -21,18 +29,46 @@ fn name_at(line: &[u8], column: Column) -> &[u8] {
     token.strip_prefix(b"$").unwrap_or(token)
 }
 
+// Whether `name` is that of `$INCREMENT`.
+fn is_increment(name: &[u8]) -> bool {
+    let names: [&[u8]; 3] = [b"I", b"INCR", b"INCREMENT"];
+    names.iter().any(|it| name.eq_ignore_ascii_case(it))
+}
+
 fn function_note(name: &[u8]) -> Option<&'static str> {
     if is_function(name) || is_zdata(name) {
         Some(VALUE)
     } else if is_text_name(name) {
         Some(LINE)
+    } else if is_increment(name) {
+        Some(INCREMENT)
     } else {
         None
     }
 }
 
-fn variable_note(name: &[u8]) -> Option<&'static str> {
-    if is_variable(name) { Some(VALUE) } else { None }
+// Whether `name` is that of an error trap.
+fn is_trap(name: &[u8]) -> bool {
+    let names: [&[u8]; 4] = [b"ET", b"ETRAP", b"ZT", b"ZTRAP"];
+    names.iter().any(|it| name.eq_ignore_ascii_case(it))
+}
+
+// What is read of the special variable `name`, with whose `$` `rest` begins.
+fn variable_note(name: &[u8], rest: &[u8]) -> Option<&'static str> {
+    if is_variable(name) {
+        Some(VALUE)
+    } else if is_trap(name) && rest.get(name.len() + 1) == Some(&b'=') {
+        Some(TRAP)
+    } else {
+        None
+    }
+}
+
+fn command_note(word: &[u8]) -> Option<&'static str> {
+    match word {
+        b"OPEN" | b"USE" | b"CLOSE" => Some(DEVICE),
+        _ => None,
+    }
 }
 
 // What is read of `rest`, behind `front`, where no part of M is named that is left out.
@@ -57,7 +93,11 @@ pub fn extended_note(
     let column = fault.place.column;
     let note = match &fault.left_out {
         Some(LeftOut::Function) => function_note(name_at(line, column)),
-        Some(LeftOut::Special) => variable_note(name_at(line, column)),
+        Some(LeftOut::Special) => {
+            let (_, rest) = split_at_column(line, column);
+            variable_note(name_at(line, column), rest)
+        }
+        Some(LeftOut::Command(word)) => command_note(word.as_bytes()),
         Some(_) => None,
         None => {
             let (front, rest) = split_at_column(line, column);

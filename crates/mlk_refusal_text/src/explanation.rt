@@ -14,7 +14,7 @@ pub struct GivenFile<'a> {
 }
 
 /// A place in a text: a line, and a column of it in bytes, if one is known.
-#[derive(Clone, Copy, Debug, Drop, PartialEq, Eq)]
+#[derive(Clone, Copy, Drop, PartialEq, Eq)]
 pub struct Spot {
     pub line: LineNumber,
     pub column: Option<Column>,

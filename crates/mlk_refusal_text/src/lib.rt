@@ -1,5 +1,5 @@
 //! Explanations of refusals for people: the line at which the input was refused, with a caret, what is wrong there, and what
-//! helps. The line of the refusal itself is written by `mlk_app`.
+//! helps. The line of the refusal itself is written by `mlk_refusal_lines`.
 #![tactic(auto)]
 
 mod dialect;

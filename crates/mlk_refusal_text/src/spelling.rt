@@ -6,7 +6,7 @@ use mlk_text::limit::LONGEST_NAME;
 use std::alloc::{AllocError, Global};
 
 /// The form that a text of a rule file must have.
-#[derive(Clone, Copy, Debug, Drop, PartialEq, Eq)]
+#[derive(Clone, Copy, Drop, PartialEq, Eq)]
 pub(crate) enum Form {
     /// the pattern of a cover or a readonly rule
     Pattern,

@@ -18,7 +18,7 @@ pub struct Entered<'a> {
 }
 
 /// The effect of a line that a person enters.
-#[derive(Clone, Copy, Debug, Drop, PartialEq, Eq)]
+#[derive(Clone, Copy, Drop, PartialEq, Eq)]
 pub enum Reply {
     /// it is one event more
     Taken,

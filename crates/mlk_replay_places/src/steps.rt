@@ -186,7 +186,12 @@ fn add_operation<'a>(
 fn takes_name(function: Function) -> bool {
     matches!(
         function,
-        Function::Data | Function::Get | Function::Order | Function::Query | Function::Name
+        Function::Data
+            | Function::Get
+            | Function::Increment
+            | Function::Order
+            | Function::Query
+            | Function::Name
     )
 }
 
@@ -230,7 +235,7 @@ fn add_named<'a>(
     }
 }
 
-// Adds what a function of a global does once the subscripts are known: some drop subscripts, and all but `$NAME` read.
+// Adds what a function of a global does once the subscripts are known: some drop subscripts, and all but `$NAME` touch it.
 fn add_reading<'a>(
     steps: &mut Steps<'a>,
     function: Function,

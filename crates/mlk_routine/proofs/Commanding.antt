@@ -2,7 +2,8 @@
 use Rattle.mlk_dialect.specs.declared.dialect.Dialect.{Dialect}
 use Rattle.mlk_text.specs.Places.{column_at}
 use Rattle.std.proofs.Common.{◌≡◌, ◌+◌, ℕ, suc, List, [], ◌∷◌, ◌++◌, length, Some, None, Bool, true, false, inl, inr, refl, sym, ap, ◌∙◌, subst, add-one, arith, ◌==◌}
-use Rattle.std.specs.Prelude.{Option, ◌⊎◌}
+use Rattle.std.specs.Prelude.{Option, ◌⊎◌, map}
+use Rattle.std.specs.List.{list_any}
 use Rattle.std.proofs.lemmas.Bool.{cases_Bool}
 use Rattle.std.proofs.lemmas.Bool.Decides.{nat_tests}
 use Rattle.mlk_text.specs.Lexemes.{is_letter}
@@ -11,13 +12,17 @@ use Rattle.mlk_expr.specs.Grammar.{Spelled}
 use Rattle.mlk_expr_tokens.specs.Lexemes.{ends}
 use Rattle.mlk_expr.specs.Theorem.{ExprEnds}
 use Rattle.mlk_routine_arguments.specs.declared.word.Word.{Word}
-use Rattle.mlk_syntax.specs.Trees.{ActionTree, Do, Else, Halt, Hang, If, Job, Kill, Lock, Merge, New, Quit, Read, Set, Write, CommandTree, Does}
+use Rattle.mlk_routine_arguments.specs.declared.word.Word.TheVariants as word
+use Rattle.mlk_routine_arguments.specs.declared.word.AddedWord.{AddedWord}
+use Rattle.mlk_routine_arguments.specs.declared.word.AddedWord.TheVariants as added
+use Rattle.mlk_routine_arguments.specs.Traps.{IsTrap}
+use Rattle.mlk_syntax.specs.Trees.{LockTree, NewTree, ActionTree, Do, Else, Halt, Hang, If, Job, Kill, Lock, Merge, New, Quit, Read, Set, Write, CommandTree, Does}
 use Rattle.mlk_routine_arguments.specs.Ends.{Lacks, starts, is_command_end, StopEnds, CommandEnd}
 use Rattle.mlk_routine_arguments.specs.CommandWords.{may_have_condition, has_arguments}
-use Rattle.mlk_routine_arguments.specs.CommandGrammar.{Both, IsValue, IsDo, IsJob, IsKill, IsLock, IsMerge, IsNew, IsRead, IsSet, IsWrite, IsCondition, AreSome, ArePerhaps, AreArgumentsOf, IsQuit, IsCommand}
-use Rattle.mlk_routine_arguments.specs.Kinds.{kind, halts_or_hangs, Means, IsNamed, WordEnds, has_condition, IsConditionOf, ConditionEnds, IsActionOf, ActionEnds}
+use Rattle.mlk_routine_arguments.specs.CommandGrammar.{Both, IsValue, IsDo, IsJob, IsKill, IsLock, IsMerge, IsNew, IsRead, IsSet, IsWrite, IsCondition, AreSome, ArePerhaps, AreArgumentsOf, IsQuit, DeviceTree, claim_of, naming, opening, AreDevices, AreAdded, IsNewed, locals_of, new_or_nothing, AreNews, IsCommand}
+use Rattle.mlk_routine_arguments.specs.Kinds.{kind, halts_or_hangs, Means, word_in, IsNamed, WordEnds, has_condition, IsConditionOf, ConditionEnds, IsActionOf, ActionEnds}
 use Rattle.mlk_routine_arguments.proofs.Sequences.{Parts}
-use Rattle.mlk_routine_arguments.proofs.Words.{means_written, written_means}
+use Rattle.mlk_routine_arguments.proofs.Words.{means_written, written_means, added_written, added_named}
 
 -- a postconditional and what the command does, after the word
 abbrev pub IsTail : Word → Dialect → Bool → ℕ → Option Tree × ActionTree → List ℕ → Type 0
@@ -76,12 +81,26 @@ arguments_space d returns k (Merge merges) s is = inr (some_space IsMerge k merg
 arguments_space d returns k (New news) s is = perhaps_space IsNew k news s is
 arguments_space d returns k (Quit value) s is = quit_space returns k value s is
 arguments_space d returns k (Read reads) s is = inr (some_space (IsRead d) k reads s is)
-arguments_space d returns k (Set sets) s is = inr (some_space IsSet k sets s is)
+arguments_space d returns k (Set sets) s is = inr (some_space (IsSet d) k sets s is)
 arguments_space d returns k (Write writes) s is = inr (some_space IsWrite k writes s is)
 
+devices_space : (does : List DeviceTree → ActionTree) (k : ℕ) (a : ActionTree) (s : List ℕ) → AreDevices does k a s → (s ≡ []) ⊎ ((r : List ℕ) × (s ≡ 32 ∷ r))
+devices_space does k a s (devices, same, (r, is, list)) = inr (r, is)
+
+added_space : (w : AddedWord) (k : ℕ) (a : ActionTree) (s : List ℕ) → AreAdded w k a s → (s ≡ []) ⊎ ((r : List ℕ) × (s ≡ 32 ∷ r))
+added_space added.Close k a s is = devices_space naming k a s is
+added_space added.Open k a s is = devices_space opening k a s is
+added_space added.Use k a s is = devices_space naming k a s is
+
+action_space : (w : Word) (d : Dialect) (returns : Bool) (k : ℕ) (a : ActionTree) (s : List ℕ) → IsActionOf w d returns k a s → (s ≡ []) ⊎ ((r : List ℕ) × (s ≡ 32 ∷ r))
+action_space w d returns k a s (inl (means, is)) = arguments_space d returns k a s is
+action_space w d returns k a s (inr (inl (one, same, is))) = added_space one k a s is
+action_space w d returns k a s (inr (inr (inl (same, extended, (name, code, is, trap, plain, handles))))) = inr (36 ∷ (name ++ 61 ∷ 34 ∷ (code ++ 34 ∷ [])), is)
+action_space w d returns k a s (inr (inr (inr (same, extended, (items, made, is))))) = perhaps_space IsNewed k items s is
+
 -- so what precedes them is followed by a space, or by what may end the command
-before_arguments : (d : Dialect) (returns : Bool) (k : ℕ) (a : ActionTree) (s rest : List ℕ) → AreArgumentsOf d returns k a s → ActionEnds a rest → is_command_end (s ++ rest) ≡ true
-before_arguments d returns k a s rest is e = go (arguments_space d returns k a s is)
+before_arguments : (w : Word) (d : Dialect) (returns : Bool) (k : ℕ) (a : ActionTree) (s rest : List ℕ) → IsActionOf w d returns k a s → ActionEnds a rest → is_command_end (s ++ rest) ≡ true
+before_arguments w d returns k a s rest is e = go (action_space w d returns k a s is)
   where
     go : (s ≡ []) ⊎ ((r : List ℕ) × (s ≡ 32 ∷ r)) → is_command_end (s ++ rest) ≡ true
     go (inl h) = ap (λ l. is_command_end (l ++ rest)) h ∙ stop_lacks (has_arguments a) rest e
@@ -124,6 +143,38 @@ halting_condition (Read reads) h = refl
 halting_condition (Set sets) h = refl
 halting_condition (Write writes) h = refl
 
+-- commands of devices have arguments, and may have a postconditional
+opening_as : (P : ActionTree → Type 0) → ((devices : List DeviceTree) → P (naming devices)) → ((l : LockTree) (more : List LockTree) → P (Lock (l ∷ more))) → (devices : List DeviceTree) → P (opening devices)
+opening_as P named locked [] = named []
+opening_as P named locked (device ∷ devices) = elim (cases_Bool (list_any (λ device. device.1) (device ∷ devices))) [
+  | inl e ↦ rw e (locked (claim_of device) (map claim_of devices))
+  | inr e ↦ rw e (named (device ∷ devices))
+]
+
+pub opening_ends : (devices : List DeviceTree) → has_arguments (opening devices) ≡ true
+opening_ends = opening_as (λ a. has_arguments a ≡ true) (λ devices. refl) (λ l more. refl)
+
+added_condition : (w : AddedWord) (k : ℕ) (a : ActionTree) (s : List ℕ) → AreAdded w k a s → may_have_condition a ≡ true
+added_condition added.Close k a s (devices, same, list) = ap may_have_condition same
+added_condition added.Open k a s (devices, same, list) = ap may_have_condition same ∙ opening_as (λ a. may_have_condition a ≡ true) (λ devices. refl) (λ l more. refl) devices
+added_condition added.Use k a s (devices, same, list) = ap may_have_condition same
+
+trap_condition : (k : ℕ) (a : ActionTree) (s : List ℕ) → IsTrap k a s → may_have_condition a ≡ true
+trap_condition k a s (name, code, is, trap, plain, inl (same, ends)) = ap may_have_condition same
+trap_condition k a s (name, code, is, trap, plain, inr (call, same, restarts)) = ap may_have_condition same
+
+local_condition : (news : List NewTree) → may_have_condition (new_or_nothing news) ≡ true
+local_condition [] = refl
+local_condition (x ∷ news) = refl
+
+news_condition : (k : ℕ) (a : ActionTree) (s : List ℕ) → AreNews k a s → may_have_condition a ≡ true
+news_condition k a s ([], same, is) = ap may_have_condition same
+news_condition k a s (item ∷ items, same, is) = ap may_have_condition same ∙ local_condition (locals_of (item ∷ items))
+
+own_word : (a : ActionTree) (w : Word) → halts_or_hangs a ≡ false → Means w a → kind a ≡ w
+own_word a w other (inl same) = same
+own_word a w other (inr (same, halts)) = cc (sym other ∙ halts)
+
 means_condition : (w : Word) (a : ActionTree) → Means w a → has_condition w ≡ may_have_condition a
 means_condition w a (inl same) = ap has_condition (sym same) ∙ own_condition a
 means_condition w a (inr (same, h)) = ap has_condition same ∙ sym (halting_condition a h)
@@ -134,7 +185,7 @@ module _ (d : Dialect) (returns : Bool) (line : List ℕ) where
     into = λ condition a s t one two. (s, t, refl, one, two);
     ends = λ condition a k t rest is before e. e;
     apart = λ c u rest h (s, t, is, one, two) e.
-        (c.0, c.1, s, t, is, refl, one, two, condition_end w (c.0) (t ++ rest) (before_arguments d returns (suc at + length s) (c.1) t rest two.1 e), e);
+        (c.0, c.1, s, t, is, refl, one, two, condition_end w (c.0) (t ++ rest) (before_arguments w d returns (suc at + length s) (c.1) t rest two e), e);
   }
 
   -- nothing after the word continues it
@@ -143,32 +194,53 @@ module _ (d : Dialect) (returns : Bool) (line : List ℕ) where
       ap (λ l. starts is_letter (l ++ rest)) is ∙ go (t.0) one.1
     where
       after : is_command_end (back ++ rest) ≡ true
-      after = before_arguments d returns (k + length front) (t.1) back rest two.1 e
+      after = before_arguments w d returns (k + length front) (t.1) back rest two e
 
       go : (condition : Option Tree) → IsCondition k condition front → starts is_letter ((front ++ back) ++ rest) ≡ false
       go None none = ap (λ l. starts is_letter ((l ++ back) ++ rest)) none ∙ no_letter (back ++ rest) after
       go (Some x) (r, colon, value) = ap (λ l. starts is_letter ((l ++ back) ++ rest)) colon
 
-  pub command_parts : (at : ℕ) → Parts line at IsNamed WordEnds (λ w. IsTail w d returns) (λ w. TailEnds) (IsCommand d returns) CommandEnd (λ w t. Does (column_at (at + 1)) (t.0) (t.1))
+  pub command_parts : (at : ℕ) → Parts line at (IsNamed d) WordEnds (λ w. IsTail w d returns) (λ w. TailEnds) (IsCommand d returns) CommandEnd (λ w t. Does (column_at (at + 1)) (t.0) (t.1))
   command_parts at = record {
     into = λ w t s r one two. into w t s r one two;
     ends = λ w t k r rest is before e. e;
     apart = λ c u rest h is e. go c u rest is e;
   }
     where
-      into : (w : Word) (t : Option Tree × ActionTree) (s r : List ℕ) → IsNamed (suc at) w s → IsTail w d returns (suc at + length s) t r → IsCommand d returns (suc at) (Does (column_at (at + 1)) (t.0) (t.1)) (s ++ r)
-      into w t s r one (front, back, is, cond, (means, arguments)) =
-          (ap column_at (add-one at), either cond.0, (s, r, refl, means_written w (t.1) s means one.1, (front, back, is, cond.1, arguments)))
+      into : (w : Word) (t : Option Tree × ActionTree) (s r : List ℕ) → IsNamed d (suc at) w s → IsTail w d returns (suc at + length s) t r → IsCommand d returns (suc at) (Does (column_at (at + 1)) (t.0) (t.1)) (s ++ r)
+      into w t s r one (front, back, is, cond, (inr (inl (v, same, arguments)))) =
+          let p = added_written d v s (one.1 ∙ ap Some same) in
+          (ap column_at (add-one at), inr (added_condition v (suc at + length s + length front) (t.1) back arguments), inr (p.0, inl (v, (s, r, refl, p.1, (front, back, is, cond.1, arguments)))))
+      into w t s r one (front, back, is, cond, (inr (inr (inl (same, extended, arguments))))) =
+          (ap column_at (add-one at), inr (trap_condition (suc at + length s + length front) (t.1) back arguments), inr (extended, inr (inl (s, r, refl, means_written d w (Set []) s (inl (sym same)) one.1, (front, back, is, cond.1, arguments)))))
+      into w t s r one (front, back, is, cond, (inr (inr (inr (same, extended, arguments))))) =
+          (ap column_at (add-one at), inr (news_condition (suc at + length s + length front) (t.1) back arguments), inr (extended, inr (inr (s, r, refl, means_written d w (New []) s (inl (sym same)) one.1, (front, back, is, cond.1, arguments)))))
+      into w t s r one (front, back, is, cond, (inl (means, arguments))) =
+          (ap column_at (add-one at), either cond.0, inl (s, r, refl, means_written d w (t.1) s means one.1, (front, back, is, cond.1, arguments)))
         where
           either : (t.0 ≡ None) ⊎ (has_condition w ≡ true) → (t.0 ≡ None) ⊎ (may_have_condition (t.1) ≡ true)
           either (inl none) = inl none
           either (inr may) = inr (sym (means_condition w (t.1) means) ∙ may)
 
       go : (c : CommandTree) (u rest : List ℕ) → IsCommand d returns (suc at) c u → CommandEnd c rest
-          → (w : Word) × (t : Option Tree × ActionTree) × (s r : List ℕ) × (u ≡ s ++ r) × (c ≡ Does (column_at (at + 1)) (t.0) (t.1)) × IsNamed (suc at) w s × IsTail w d returns (suc at + length s) t r × WordEnds w (r ++ rest) × TailEnds t rest
-      go (Does column condition action) u rest (place, may, (s, r, is, word_is, (front, back, also, cond, arguments))) e =
-          let (w, letters, named, means) = written_means action s word_is in
-          let tail : IsTail w d returns (suc at + length s) (condition, action) r = (front, back, also, (either w means may, cond), (means, arguments)) in
+          → (w : Word) × (t : Option Tree × ActionTree) × (s r : List ℕ) × (u ≡ s ++ r) × (c ≡ Does (column_at (at + 1)) (t.0) (t.1)) × IsNamed d (suc at) w s × IsTail w d returns (suc at + length s) t r × WordEnds w (r ++ rest) × TailEnds t rest
+      go (Does column condition action) u rest (place, may, inr (extended, inr (inl (s, r, is, word_is, (front, back, also, cond, arguments))))) e =
+          let (w, letters, named, means) = written_means d (Set []) s word_is in
+          let own : word.Set ≡ w = own_word (Set []) w refl means in
+          let tail : IsTail w d returns (suc at + length s) (condition, action) r = (front, back, also, (inr (ap has_condition (sym own)), cond), inr (inr (inl (sym own, extended, arguments)))) in
+          (w, (condition, action), s, r, is, ap (λ k. Does k condition action) (place ∙ ap column_at (sym (add-one at))), (letters, named), tail, after_word w (suc at + length s) (condition, action) r rest tail e, e)
+      go (Does column condition action) u rest (place, may, inr (extended, inr (inr (s, r, is, word_is, (front, back, also, cond, arguments))))) e =
+          let (w, letters, named, means) = written_means d (New []) s word_is in
+          let own : word.New ≡ w = own_word (New []) w refl means in
+          let tail : IsTail w d returns (suc at + length s) (condition, action) r = (front, back, also, (inr (ap has_condition (sym own)), cond), inr (inr (inr (sym own, extended, arguments)))) in
+          (w, (condition, action), s, r, is, ap (λ k. Does k condition action) (place ∙ ap column_at (sym (add-one at))), (letters, named), tail, after_word w (suc at + length s) (condition, action) r rest tail e, e)
+      go (Does column condition action) u rest (place, may, inr (extended, inl (v, (s, r, is, word_is, (front, back, also, cond, arguments))))) e =
+          let named = added_named v s word_is in
+          let tail : IsTail (word.Added v) d returns (suc at + length s) (condition, action) r = (front, back, also, (inr refl, cond), inr (inl (v, refl, arguments))) in
+          (word.Added v, (condition, action), s, r, is, ap (λ k. Does k condition action) (place ∙ ap column_at (sym (add-one at))), (named.0, ap (λ x. word_in x s) extended ∙ named.1), tail, after_word (word.Added v) (suc at + length s) (condition, action) r rest tail e, e)
+      go (Does column condition action) u rest (place, may, inl (s, r, is, word_is, (front, back, also, cond, arguments))) e =
+          let (w, letters, named, means) = written_means d action s word_is in
+          let tail : IsTail w d returns (suc at + length s) (condition, action) r = (front, back, also, (either w means may, cond), inl (means, arguments)) in
           (w, (condition, action), s, r, is, ap (λ k. Does k condition action) (place ∙ ap column_at (sym (add-one at))), (letters, named), tail, after_word w (suc at + length s) (condition, action) r rest tail e, e)
         where
           either : (w : Word) → Means w action → (condition ≡ None) ⊎ (may_have_condition action ≡ true) → (condition ≡ None) ⊎ (has_condition w ≡ true)

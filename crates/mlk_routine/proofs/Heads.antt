@@ -4,6 +4,7 @@ use Rattle.std.specs.Prelude.{Option, ◌⊎◌, is_some}
 use Rattle.std.specs.List.{list_all}
 use Rattle.std.proofs.Math.Seq.{take-append_seam}
 use Rattle.mlk_dialect.specs.declared.dialect.Dialect.{Dialect}
+use Rattle.mlk_dialect.specs.declared.dialect.Dialect.TheVariants as dialect
 use Rattle.mlk_text.specs.Places.{column_at}
 use Rattle.mlk_text.specs.declared.failure.Failure.{Failure}
 use Rattle.mlk_text.specs.declared.failure.Failure.TheVariants.{OutOfMemory, Refused}
@@ -18,7 +19,7 @@ use Rattle.mlk_syntax.specs.declared.routine.Line.TheViews.{roll-Line}
 use Rattle.mlk_syntax.specs.declared.routine.Line.TheFolds.{fold-roll-Line}
 use Rattle.mlk_routine_arguments.specs.PartsRead.{Found, Nowhere, Denied}
 use Rattle.mlk_routine_arguments.specs.Faults.{IsFaulty}
-use Rattle.mlk_routine.specs.RoutineGrammar.{IsLabelled, IsComment, IsBody, IsLine, is_line_byte}
+use Rattle.mlk_routine.specs.RoutineGrammar.{IsLabelled, IsComment, IsBody, MayHaveLabel, IsLine, is_line_byte}
 use Rattle.mlk_routine.specs.Lines.{IsLabelPart, IsFormalsPart, IsOpening, OpeningEnds, IsFront, FrontEnds, AtEnd, IsTailOf, level_in, IsKept, Fits, FitsAfter, IsLineOnly, NoLine, head_of}
 use Rattle.mlk_routine_arguments.proofs.Sequences.{next_is}
 use Rattle.mlk_routine.proofs.Tails.{comment_ends, tail_no_lead}
@@ -61,12 +62,12 @@ module _ (d : Dialect) (line : List ℕ) (f : Front) (next : ℕ) (found : Found
   at_next = let e = next_is line found.0.text 0 next (omega arith) found.0.within found.0.joined in omega (arith, e)
 
   -- the parts of any line of this text
-  pub line_apart : (n : ℕ) (h : HeadTree) → IsLine d n h line → (c : CommandTrees) × (h ≡ head_tree n line f c) × IsKept f.label (level_in f.level) × IsTailOf d f.level (suc next) c (drop next line)
+  pub line_apart : (n : ℕ) (h : HeadTree) → IsLine d n h line → (c : CommandTrees) × (h ≡ head_tree n line f c) × IsKept d f.label f.formals (level_in f.level) × IsTailOf d f.level (suc next) c (drop next line)
   line_apart n (LineHead number level end label formals commands) (front, body, is, count, last, labelled, only, inside) = go (labelled_parts label formals front labelled) (body_parts d level (suc (length front)) commands body inside)
     where
       go : (l r : List ℕ) × (front ≡ l ++ r) × IsLabelPart 1 label l × IsFormalsPart (is_some label) (1 + length l) formals r
           → (o : Option ℕ) × (start tail : List ℕ) × (body ≡ start ++ tail) × IsOpening (suc (length front)) o start × IsTailOf d o (suc (length front) + length start) commands tail × (level ≡ level_in o) × (level ≤ 15) × OpeningEnds o tail
-          → (c : CommandTrees) × (LineHead number level end label formals commands ≡ head_tree n line f c) × IsKept f.label (level_in f.level) × IsTailOf d f.level (suc next) c (drop next line)
+          → (c : CommandTrees) × (LineHead number level end label formals commands ≡ head_tree n line f c) × IsKept d f.label f.formals (level_in f.level) × IsTailOf d f.level (suc next) c (drop next line)
       go (l, r, front_is, one, two) (o, start, tail, body_is, opening, rest, same, few, ends) =
           let g : Front = record { label = label; formals = formals; level = o } in
           let size : length front ≡ length l + length r = ap length front_is ∙ length-append l r in
@@ -79,24 +80,26 @@ module _ (d : Dialect) (line : List ℕ) (f : Front) (next : ℕ) (found : Found
           let met = found.1 g (l ++ (r ++ start)) tail joined whole ends in
           let there = next_is line (l ++ (r ++ start)) 0 next (omega arith) found.0.within (joined ∙ ap (λ x. (l ++ (r ++ start)) ++ x) met.1) in
           let column : suc (length front) + length start ≡ suc next = omega (arith, size, size_all, size_more, there) in
-          let kept : IsKept label (level_in o) = (lower same only, subst (λ k. k ≤ 15) same few) in (
+          let kept : IsKept d label formals (level_in o) = (lower same only, subst (λ k. k ≤ 15) same few) in (
             commands,
             ap (λ k. LineHead k level end label formals commands) count ∙ ap (λ k. LineHead n k end label formals commands) same ∙ ap (λ k. LineHead n (level_in o) k label formals commands) last ∙ ap (λ x. head_tree n line x commands) met.0,
-            subst (λ x. IsKept x.label (level_in x.level)) met.0 kept,
+            subst (λ x. IsKept d x.label x.formals (level_in x.level)) met.0 kept,
             subst (λ x. IsTailOf d x.level (suc next) commands (drop next line)) met.0 (subst (λ t. IsTailOf d o (suc next) commands t) met.1 (subst (λ k. IsTailOf d o k commands tail) column rest)),
           )
         where
-          lower : level ≡ level_in o → (label ≡ None) ⊎ (level ≡ 1) → (label ≡ None) ⊎ (level_in o ≤ 1)
+          lower : level ≡ level_in o → MayHaveLabel d level label formals → (label ≡ None) ⊎ (level_in o ≤ 1) ⊎ ((d ≡ dialect.Extended) × (formals ≡ None))
           lower same (inl none) = inl none
-          lower same (inr first) = inr (omega (arith, same, first))
+          lower same (inr (inl first)) = inr (inl (omega (arith, same, first)))
+          lower same (inr (inr bare)) = inr (inr bare)
 
   -- a line, from its parts
-  pub line_whole : (n : ℕ) (c : CommandTrees) → IsKept f.label (level_in f.level) → IsTailOf d f.level (suc next) c (drop next line) → IsLine d n (head_tree n line f c) line
+  pub line_whole : (n : ℕ) (c : CommandTrees) → IsKept d f.label f.formals (level_in f.level) → IsTailOf d f.level (suc next) c (drop next line) → IsLine d n (head_tree n line f c) line
   line_whole n c kept tail = go found.0.spelled
     where
-      only : (k : ℕ) (start : List ℕ) → IsOpening k f.level start → (f.label ≡ None) ⊎ (level_in f.level ≤ 1) → (f.label ≡ None) ⊎ (level_in f.level ≡ 1)
+      only : (k : ℕ) (start : List ℕ) → IsOpening k f.level start → (f.label ≡ None) ⊎ (level_in f.level ≤ 1) ⊎ ((d ≡ dialect.Extended) × (f.formals ≡ None)) → MayHaveLabel d (level_in f.level) f.label f.formals
       only k start opening (inl none) = inl none
-      only k start opening (inr low) = let high = opening_level k f.level start opening in inr (omega (arith, low, high))
+      only k start opening (inr (inl low)) = let high = opening_level k f.level start opening in inr (inl (omega (arith, low, high)))
+      only k start opening (inr (inr bare)) = inr (inr bare)
 
       go : IsFront 1 f found.0.text → IsLine d n (head_tree n line f c) line
       go (l, more, is, one, (r, start, more_is, two, opening)) =
@@ -114,7 +117,7 @@ module _ (d : Dialect) (line : List ℕ) (f : Front) (next : ℕ) (found : Found
     tail_is : (other : CommandTrees) → IsTailOf d f.level (suc next) other (drop next line) → other ≡ c
     tail_is other is = (tail.1 other (drop next line) [] (sym (append-nil (drop next line))) is refl).0
 
-    pub line_only : (n : ℕ) → IsKept f.label (level_in f.level) → IsLineOnly d n line (head_tree n line f c)
+    pub line_only : (n : ℕ) → IsKept d f.label f.formals (level_in f.level) → IsLineOnly d n line (head_tree n line f c)
     line_only n kept =
         let whole : tail.0.text ≡ drop next line = sym (tail.0.joined ∙ ap (λ x. tail.0.text ++ x) tail.0.ended ∙ append-nil tail.0.text) in (
           line_whole n c kept (subst (λ t. IsTailOf d f.level (suc next) c t) whole tail.0.spelled),
@@ -128,7 +131,7 @@ module _ (d : Dialect) (line : List ℕ) (f : Front) (next : ℕ) (found : Found
       let r = line_apart n h is in
       none r.0 (drop next line) [] (sym (append-nil (drop next line))) r.3 refl
 
-  pub misplaced_line : (before : Before) → (IsKept f.label (level_in f.level) → Fits before f.label (level_in f.level) → ⊥) → (n : ℕ) (h : HeadTree) → IsLine d n h line → FitsAfter before h → ⊥
+  pub misplaced_line : (before : Before) → (IsKept d f.label f.formals (level_in f.level) → Fits before f.label (level_in f.level) → ⊥) → (n : ℕ) (h : HeadTree) → IsLine d n h line → FitsAfter before h → ⊥
   misplaced_line before bad n h is fits =
       let r = line_apart n h is in
       bad r.2 (subst (FitsAfter before) r.1 fits)
@@ -172,7 +175,7 @@ pub refused_tail : (d : Dialect) (before : Before) (n : ℕ) (line : List ℕ) (
 refused_tail d before n line f next found OutOfMemory h = tt
 refused_tail d before n line f next found (Refused fault) h = (λ head is plain fits. no_tail_line d line f next found h.0 n head is, h.1)
 
-pub refused_place : (d : Dialect) (before : Before) (n : ℕ) (line : List ℕ) (f : Front) (next : ℕ) → Found IsFront FrontEnds line 0 f next → (e : Failure Fault) → IsFaulty line e → (IsKept f.label (level_in f.level) → Fits before f.label (level_in f.level) → ⊥) → NoLine d before n line e
+pub refused_place : (d : Dialect) (before : Before) (n : ℕ) (line : List ℕ) (f : Front) (next : ℕ) → Found IsFront FrontEnds line 0 f next → (e : Failure Fault) → IsFaulty line e → (IsKept d f.label f.formals (level_in f.level) → Fits before f.label (level_in f.level) → ⊥) → NoLine d before n line e
 refused_place d before n line f next found OutOfMemory fault bad = tt
 refused_place d before n line f next found (Refused fault) is_fault bad = (λ head is plain fits. misplaced_line d line f next found before bad n head is fits, is_fault)
 

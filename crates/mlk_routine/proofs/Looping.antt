@@ -1,5 +1,6 @@
 -- The commands of a line, one after another, and FOR.
 use Rattle.mlk_dialect.specs.declared.dialect.Dialect.{Dialect}
+use Rattle.mlk_dialect.specs.declared.dialect.Dialect.TheVariants as dialect
 use Rattle.mlk_text.specs.Places.{column_at}
 use Rattle.std.proofs.Common.{◌≡◌, ◌<◌, ◌≤◌, ◌+◌, ◌-◌, ℕ, suc, List, [], ◌∷◌, ◌++◌, length, drop, Some, None, Bool, true, false, inl, inr, refl, sym, ap, ◌∙◌, subst, add-one, arith, ◌==◌, append_assoc, append-nil}
 use Rattle.std.specs.Prelude.{Option, Result, Ok, Err, ◌⊎◌, ◌&&◌, is_some, not, nat_eq, slice_get}
@@ -18,28 +19,32 @@ use Rattle.mlk_text.proofs.Spelled.{word-reads}
 use Rattle.mlk_expr.specs.Theorem.{Stands}
 use Rattle.mlk_routine_arguments.specs.declared.word.Word.{Word}
 use Rattle.mlk_routine_arguments.specs.declared.word.Word.TheVariants as word
-use Rattle.mlk_syntax.specs.Trees.{CommandTree, Does, ControlTree, Runs, CommandTrees, finished, then_command, then_for}
+use Rattle.mlk_syntax.specs.Trees.{New, Set, CommandTree, Does, ControlTree, Runs, CommandTrees, finished, then_command, then_for}
 use Rattle.mlk_routine_arguments.specs.PartsRead.{Found, Nowhere, Denied, ReadsPart}
 use Rattle.mlk_routine_arguments.specs.Faults.{IsFaulty}
 use Rattle.mlk_routine_arguments.specs.Ends.{is_stop, starts, ControlEnds, ParameterEnds, IsRun, RunEnds, is_command_end, is_commands_end, is_bare_end, StopEnds, CommandEnd, CommandsEnd}
-use Rattle.mlk_routine_arguments.specs.CommandWords.{is_for, has_arguments, least_after}
+use Rattle.mlk_routine_arguments.specs.CommandWords.{is_for, is_added, has_arguments, least_after}
 use Rattle.mlk_routine_arguments.specs.CommandGrammar.{is_space, IsGap, IsCommand, least_of, IsParameter, IsControl, IsForHead, AreCommands}
 use Rattle.mlk_routine_arguments.specs.Stops.{parameter_stop}
 use Rattle.mlk_routine_arguments.specs.Begins.{front_begins, parameter_begins, control_begins}
-use Rattle.mlk_routine_arguments.specs.Kinds.{word_of, is_written, WordEnds}
+use Rattle.mlk_routine_arguments.specs.Kinds.{word_of, added_word_of, word_in, is_written, WordEnds}
 use Rattle.mlk_syntax.specs.Views.{commands_from}
 use Rattle.mlk_routine.specs.Leading.{LeadsTo, IsPerhapsControl, IsLoop, LoopEnds}
 use Rattle.mlk_routine_arguments.proofs.Sequences.{Parts, Turned, stands_at, both_found, first_nowhere, second_nowhere, denied_second, not_after, next_is}
 use Rattle.mlk_routine_arguments.proofs.Bytes.{AfterByte}
 use Rattle.mlk_routine_arguments.proofs.Stopping.{command_stop, list_ended}
 use Rattle.mlk_routine.proofs.Commanding.{stop_lacks, no_letter, command_parts}
-use Rattle.mlk_routine_arguments.proofs.Words.{written_means, either_for, stops_not, ends_stop}
+use Rattle.mlk_routine_arguments.proofs.Words.{written_means, added_named, either_for, for_unnamed, stops_not, ends_stop}
 
 -- Words, and nothing else, begin with letters.
-word_letter : (s : List ℕ) (w : Word) → IsWord s → word_of s ≡ Some w → starts is_letter s ≡ true
-unfolding word_of is_written
-word_letter [] w h of = cc of
-word_letter (b ∷ s) w h of = (and_parts (is_letter b) (list_all is_letter s) h).0
+no_empty_word : (d : Dialect) → word_in d [] ≡ None
+unfolding word_of added_word_of is_written is_added
+no_empty_word dialect.Standard = refl
+no_empty_word dialect.Extended = refl
+
+word_letter : (d : Dialect) (s : List ℕ) (w : Word) → IsWord s → word_in d s ≡ Some w → starts is_letter s ≡ true
+word_letter d [] w h of = cc (sym (no_empty_word d) ∙ of)
+word_letter d (b ∷ s) w h of = (and_parts (is_letter b) (list_all is_letter s) h).0
 
 front_letter : (s rest : List ℕ) → starts is_letter s ≡ true → starts is_letter (s ++ rest) ≡ true
 front_letter [] rest h = cc h
@@ -58,9 +63,18 @@ letter_not_bare [] h = cc h
 letter_not_bare (b ∷ s) h = let no : (b == 32) ≡ false = grind (arith, nat_tests) in rw no (grind (arith, nat_tests))
 
 pub command_letter : (d : Dialect) (returns : Bool) (at : ℕ) (c : CommandTree) (s : List ℕ) → IsCommand d returns at c s → starts is_letter s ≡ true
-command_letter d returns at (Does column condition action) s (place, may, (front, rest, is, word_is, more)) =
-    let (w, letters, named, means) = written_means action front word_is in
-    ap (starts is_letter) is ∙ front_letter front rest (word_letter front w letters named)
+command_letter d returns at (Does column condition action) s (place, may, inl (front, rest, is, word_is, more)) =
+    let (w, letters, named, means) = written_means d action front word_is in
+    ap (starts is_letter) is ∙ front_letter front rest (word_letter d front w letters named)
+command_letter d returns at (Does column condition action) s (place, may, inr (extended, inr (inl (front, rest, is, word_is, more)))) =
+    let (w, letters, named, means) = written_means d (Set []) front word_is in
+    ap (starts is_letter) is ∙ front_letter front rest (word_letter d front w letters named)
+command_letter d returns at (Does column condition action) s (place, may, inr (extended, inr (inr (front, rest, is, word_is, more)))) =
+    let (w, letters, named, means) = written_means d (New []) front word_is in
+    ap (starts is_letter) is ∙ front_letter front rest (word_letter d front w letters named)
+command_letter d returns at (Does column condition action) s (place, may, inr (extended, inl (w, (front, rest, is, word_is, more)))) =
+    let (letters, named) = added_named w front word_is in
+    ap (starts is_letter) is ∙ front_letter front rest (word_letter dialect.Extended front (word.Added w) letters named)
 
 for_letter : (s : List ℕ) → is_for s ≡ true → starts is_letter s ≡ true
 unfolding is_for
@@ -213,7 +227,7 @@ module _ (d : Dialect) (level loops : ℕ) (line : List ℕ) where
       let far : drop at line ≡ r.2 ++ (r.3 ++ rest) = h ∙ ap (λ l. l ++ rest) (r.4) ∙ append_assoc (r.2) (r.3) rest in
       let read = word-reads (r.2) (r.3 ++ rest) (r.6).0 (ends_stop (r.0) (r.3 ++ rest) (r.8)) in
       let here : is_for (r.2) ≡ true = sym (ap (λ p. is_for p.0) read) ∙ sym (ap (λ l. is_for (word_at l).0) far) ∙ for_is in
-      let bad : ◌≡◌ {A = Option Word} (Some (r.0)) None = sym (r.6).1 ∙ (either_for (r.2) here).1 in
+      let bad : ◌≡◌ {A = Option Word} (Some (r.0)) None = sym (r.6).1 ∙ for_unnamed d (r.2) here in
       cc bad
 
   -- a command, and the commands after it

@@ -5,6 +5,7 @@ use Rattle.std.proofs.lemmas.Bool.{cases_Bool}
 use Rattle.std.proofs.lemmas.List.{append_cancel_right}
 use Rattle.std.proofs.lemmas.Option.{same_Some}
 use Rattle.mlk_dialect.specs.declared.dialect.Dialect.{Dialect}
+use Rattle.mlk_dialect.specs.declared.dialect.Dialect.TheVariants as dialect
 use Rattle.mlk_text.specs.Lexemes.{is_letter, word_at}
 use Rattle.mlk_expr.specs.declared.context.Allows.TheVariants.{Everything}
 use Rattle.mlk_syntax.specs.ExprTrees.{Tree}
@@ -12,25 +13,30 @@ use Rattle.mlk_expr.specs.Grammar.{Spelled, IsList}
 use Rattle.mlk_expr.specs.Theorem.{ExprEnds}
 use Rattle.mlk_routine_arguments.specs.declared.word.Word.{Word}
 use Rattle.mlk_routine_arguments.specs.declared.word.Word.TheVariants as word
+use Rattle.mlk_routine_arguments.specs.declared.word.AddedWord.{AddedWord}
+use Rattle.mlk_routine_arguments.specs.declared.word.AddedWord.TheVariants as added
 use Rattle.mlk_syntax.specs.Trees.{Quit, finished}
-use Rattle.mlk_routine_arguments.specs.Ends.{is_stop, AreEnded, DoEnds, JobEnds, KillEnds, NewEnds, MergeEnds, LockEnds, ReadEnds, WriteEnds, SetEnds, starts, is_bare_end, is_commands_end, StopEnds, CommandEnd, CommandsEnd}
-use Rattle.mlk_routine_arguments.specs.Stops.{expr_stop, do_stop, job_stop, kill_stop, merge_stop, new_stop, lock_stop, read_stop, write_stop, set_stop}
-use Rattle.mlk_routine_arguments.specs.Begins.{expr_begins, do_begins, job_begins, kill_begins, merge_begins, new_begins, lock_begins, read_begins, write_begins, set_begins}
-use Rattle.mlk_routine_arguments.specs.Kinds.{IsNamed, WordEnds, has_condition, IsConditionOf, ConditionEnds, IsActionOf, ActionEnds, word_of}
+use Rattle.mlk_routine_arguments.specs.Ends.{is_stop, AreEnded, DoEnds, JobEnds, KillEnds, NewEnds, NewedEnds, MergeEnds, LockEnds, ReadEnds, WriteEnds, SetEnds, DeviceEnds, starts, is_bare_end, is_commands_end, StopEnds, CommandEnd, CommandsEnd}
+use Rattle.mlk_routine_arguments.specs.Stops.{expr_stop, do_stop, job_stop, kill_stop, merge_stop, new_stop, newed_stop, lock_stop, read_stop, write_stop, set_stop, device_stop}
+use Rattle.mlk_routine_arguments.specs.Begins.{expr_begins, do_begins, job_begins, kill_begins, merge_begins, new_begins, newed_begins, lock_begins, read_begins, write_begins, set_begins, device_begins}
+use Rattle.mlk_routine_arguments.specs.Kinds.{IsNamed, WordEnds, has_condition, IsConditionOf, ConditionEnds, IsActionOf, ActionEnds, word_in}
 use Rattle.mlk_routine.specs.Leading.{IsPerhapsControl, IsLoop, LoopEnds}
 use Rattle.mlk_routine_arguments.specs.CommandWords.{has_any, is_for}
-use Rattle.mlk_routine_arguments.specs.CommandGrammar.{IsValue, IsDo, IsJob, IsKill, IsNew, IsLock, IsMerge, IsRead, IsWrite, IsSet, AreSome, ArePerhaps, IsQuit, is_space, IsCommand, AreCommands}
+use Rattle.mlk_routine_arguments.specs.CommandGrammar.{IsValue, IsDo, IsJob, IsKill, IsNew, IsLock, IsMerge, IsRead, IsWrite, IsSet, IsDevice, AreSome, ArePerhaps, IsQuit, AreAdded, IsNewed, is_space, IsCommand, AreCommands}
 use Rattle.mlk_routine_arguments.proofs.Sequences.{next_is}
 use Rattle.mlk_routine_arguments.proofs.Bytes.{AfterByte}
 use Rattle.mlk_routine_arguments.proofs.Stretches.{one_run}
 use Rattle.mlk_routine_arguments.proofs.Stopping.{bare_found, list_end, value_end}
 use Rattle.mlk_routine_arguments.proofs.Words.{either_for}
-use Rattle.mlk_routine.proofs.Doing.{opened, halting_turned, no_value_found}
+use Rattle.mlk_routine.proofs.Doing.{opened, opening_turned, naming_turned, added_turned, set_turned, trap_turned, new_turned, news_turned, halting_turned, no_value_found}
 use Rattle.mlk_routine.proofs.Commanding.{IsTail, TailEnds, tail_parts, command_parts}
 use Rattle.mlk_routine.proofs.Looping.{command_letter, head_letter, spaced_parts, GapThen, forget, has_own, Returns, then_parts, ended_found, no_control_found, control_turned, control_end, IsForWord, ForWordEnds, head_parts, loop_parts}
 use Rattle.mlk_routine_arguments.proofs.Sole.{Sole, Alone, sole_only, sole_found, sole_within, alone_after, sole_both, sole_as, sole_turned}
+use Rattle.mlk_routine_arguments.specs.TrapParts.{sets_trap}
+use Rattle.mlk_routine_arguments.proofs.Traps.{trap_alone}
+use Rattle.mlk_routine_arguments.proofs.News.{newed_alone}
 use Rattle.mlk_routine_arguments.proofs.SoleArguments.{expr_alone, optional_alone, run_alone, list_alone, do_alone, job_alone, kill_alone, new_alone, merge_alone, lock_alone}
-use Rattle.mlk_routine_arguments.proofs.SoleFormats.{write_alone, read_alone, set_alone, control_alone}
+use Rattle.mlk_routine_arguments.proofs.SoleFormats.{write_alone, read_alone, set_alone, control_alone, device_alone}
 
 -- arguments after one space, or none
 module _ {A : Type 0} (Is : Spelled A) (Ends : A → List ℕ → Type 0) (stop : (a : A) (rest : List ℕ) → is_stop rest ≡ true → Ends a rest) (begin : (k : ℕ) (a : A) (s : List ℕ) → Is k a s → is_stop s ≡ false) (alone : Alone Is Ends) where
@@ -72,34 +78,47 @@ quit_alone returns line at less = elim (cases_Bool (is_bare_end (drop at line)))
 nothing_alone : Alone {A = Unit {0}} (λ k c s. s ≡ []) (λ c. StopEnds false)
 nothing_alone line at less = sole_only tt at (λ c u rest h is e. (refl, sym (h ∙ ap (λ l. l ++ rest) is)))
 
+devices_alone : Alone (AreSome IsDevice) (λ devices. StopEnds true)
+devices_alone = some_alone IsDevice DeviceEnds device_stop device_begins device_alone
+
+added_alone : (w : AddedWord) → Alone (AreAdded w) ActionEnds
+added_alone added.Close line at less = sole_turned (naming_turned line at) (devices_alone line at less)
+added_alone added.Open line at less = sole_turned (opening_turned line at) (devices_alone line at less)
+added_alone added.Use line at less = sole_turned (naming_turned line at) (devices_alone line at less)
+
 -- what a command does, by its word
 action_alone : (w : Word) (d : Dialect) (returns : Bool) → Alone (IsActionOf w d returns) ActionEnds
-action_alone word.Do d r line at less = sole_turned (opened word.Do (λ e. cc e) d r line at) (perhaps_alone IsDo DoEnds do_stop do_begins do_alone line at less)
-action_alone word.Else d r line at less = sole_turned (opened word.Else (λ e. cc e) d r line at) (nothing_alone line at less)
-action_alone word.Halt d r line at less = sole_turned (opened word.Halt (λ e. cc e) d r line at) (nothing_alone line at less)
-action_alone word.Hang d r line at less = sole_turned (opened word.Hang (λ e. cc e) d r line at) (values_alone line at less)
+action_alone (word.Added w) d r line at less = sole_turned (added_turned w d r line at) (added_alone w line at less)
+action_alone word.Do d r line at less = sole_turned (opened word.Do refl d r line at) (perhaps_alone IsDo DoEnds do_stop do_begins do_alone line at less)
+action_alone word.Else d r line at less = sole_turned (opened word.Else refl d r line at) (nothing_alone line at less)
+action_alone word.Halt d r line at less = sole_turned (opened word.Halt refl d r line at) (nothing_alone line at less)
+action_alone word.Hang d r line at less = sole_turned (opened word.Hang refl d r line at) (values_alone line at less)
 action_alone word.HaltOrHang d r line at less = sole_turned (halting_turned d r line at) (perhaps_values line at less)
-action_alone word.If d r line at less = sole_turned (opened word.If (λ e. cc e) d r line at) (perhaps_values line at less)
-action_alone word.Job d r line at less = sole_turned (opened word.Job (λ e. cc e) d r line at) (some_alone IsJob JobEnds job_stop job_begins job_alone line at less)
-action_alone word.Kill d r line at less = sole_turned (opened word.Kill (λ e. cc e) d r line at) (perhaps_alone IsKill KillEnds kill_stop kill_begins kill_alone line at less)
-action_alone word.Lock d r line at less = sole_turned (opened word.Lock (λ e. cc e) d r line at) (perhaps_alone (IsLock d) LockEnds lock_stop (lock_begins d) (lock_alone d) line at less)
-action_alone word.Merge d r line at less = sole_turned (opened word.Merge (λ e. cc e) d r line at) (some_alone IsMerge MergeEnds merge_stop merge_begins merge_alone line at less)
-action_alone word.New d r line at less = sole_turned (opened word.New (λ e. cc e) d r line at) (perhaps_alone IsNew NewEnds new_stop new_begins new_alone line at less)
-action_alone word.Quit d r line at less = sole_turned (opened word.Quit (λ e. cc e) d r line at) (quit_alone r line at less)
-action_alone word.Read d r line at less = sole_turned (opened word.Read (λ e. cc e) d r line at) (some_alone (IsRead d) ReadEnds read_stop (read_begins d) (read_alone d) line at less)
-action_alone word.Set d r line at less = sole_turned (opened word.Set (λ e. cc e) d r line at) (some_alone IsSet SetEnds set_stop set_begins set_alone line at less)
-action_alone word.Write d r line at less = sole_turned (opened word.Write (λ e. cc e) d r line at) (some_alone IsWrite WriteEnds write_stop write_begins write_alone line at less)
+action_alone word.If d r line at less = sole_turned (opened word.If refl d r line at) (perhaps_values line at less)
+action_alone word.Job d r line at less = sole_turned (opened word.Job refl d r line at) (some_alone IsJob JobEnds job_stop job_begins job_alone line at less)
+action_alone word.Kill d r line at less = sole_turned (opened word.Kill refl d r line at) (perhaps_alone IsKill KillEnds kill_stop kill_begins kill_alone line at less)
+action_alone word.Lock d r line at less = sole_turned (opened word.Lock refl d r line at) (perhaps_alone (IsLock d) LockEnds lock_stop (lock_begins d) (lock_alone d) line at less)
+action_alone word.Merge d r line at less = sole_turned (opened word.Merge refl d r line at) (some_alone IsMerge MergeEnds merge_stop merge_begins merge_alone line at less)
+action_alone word.New dialect.Standard r line at less = sole_turned (new_turned dialect.Standard r line at refl) (perhaps_alone IsNew NewEnds new_stop new_begins new_alone line at less)
+action_alone word.New dialect.Extended r line at less = sole_turned (news_turned dialect.Extended r line at refl) (perhaps_alone IsNewed NewedEnds newed_stop newed_begins newed_alone line at less)
+action_alone word.Quit d r line at less = sole_turned (opened word.Quit refl d r line at) (quit_alone r line at less)
+action_alone word.Read d r line at less = sole_turned (opened word.Read refl d r line at) (some_alone (IsRead d) ReadEnds read_stop (read_begins d) (read_alone d) line at less)
+action_alone word.Set d r line at less = elim (cases_Bool (sets_trap d (drop at line))) [
+  | inl sets ↦ sole_turned (trap_turned d r line at sets) (trap_alone line at less)
+  | inr other ↦ sole_turned (set_turned d r line at other) (some_alone (IsSet d) SetEnds set_stop (set_begins d) (set_alone d) line at less)
+]
+action_alone word.Write d r line at less = sole_turned (opened word.Write refl d r line at) (some_alone IsWrite WriteEnds write_stop write_begins write_alone line at less)
 
 -- words
 same_text : (s t ys zs : List ℕ) → s ++ ys ≡ t ++ zs → ys ≡ zs → s ≡ t
 same_text s t ys zs h same = append_cancel_right s t zs (ap (λ l. s ++ l) (sym same) ∙ h)
 
-word_alone : Alone IsNamed WordEnds
-word_alone line at less a n s b u rest h is e =
+word_alone : (d : Dialect) → Alone (IsNamed d) WordEnds
+word_alone d line at less a n s b u rest h is e =
     let joined : u ++ rest ≡ s.text ++ drop n line = sym h ∙ s.joined in
     let end = one_run is_letter u s.text rest (drop n line) joined is.0 s.spelled.0 e s.ended in
     let text = same_text u s.text rest (drop n line) joined end in
-    (same_Some b a (sym is.1 ∙ ap word_of text ∙ s.spelled.1), end)
+    (same_Some b a (sym is.1 ∙ ap (word_in d) text ∙ s.spelled.1), end)
 
 for_word_alone : Alone IsForWord ForWordEnds
 for_word_alone line at less a n s b u rest h is e =
@@ -125,7 +144,7 @@ tail_alone : (w : Word) (d : Dialect) (returns : Bool) → Alone (IsTail w d ret
 tail_alone w d returns line at less = sole_both (tail_parts d returns line w at) less (condition_alone w line at less) (λ c m s. action_alone w d returns line m s.within)
 
 command_alone : (d : Dialect) (returns : Bool) → Alone (IsCommand d returns) CommandEnd
-command_alone d returns line at less = sole_both (command_parts d returns line at) less (word_alone line at less) (λ w m s. tail_alone w d returns line m s.within)
+command_alone d returns line at less = sole_both (command_parts d returns line at) less (word_alone d line at less) (λ w m s. tail_alone w d returns line m s.within)
 
 -- FOR before the commands that it contains
 perhaps_control_alone : Alone IsPerhapsControl (λ c. StopEnds (is_some c))

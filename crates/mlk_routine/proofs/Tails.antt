@@ -15,7 +15,9 @@ use Rattle.mlk_expr.specs.Theorem.{Stands}
 use Rattle.mlk_syntax.specs.Trees.{ActionTree, Do, Else, Halt, Hang, If, Job, Kill, Lock, Merge, New, Quit, Read, Set, Write, CommandTree, Does, ControlTree, CommandTrees, finished, then_command, then_for}
 use Rattle.mlk_routine_arguments.specs.PartsRead.{Found, Nowhere}
 use Rattle.mlk_routine_arguments.specs.Ends.{is_commands_end, CommandsEnd, starts}
-use Rattle.mlk_routine_arguments.specs.CommandWords.{is_word_of, is_for}
+use Rattle.mlk_routine_arguments.specs.declared.word.AddedWord.{AddedWord}
+use Rattle.mlk_routine_arguments.specs.declared.word.AddedWord.TheVariants as added
+use Rattle.mlk_routine_arguments.specs.CommandWords.{is_word_of, is_for, is_added}
 use Rattle.mlk_routine_arguments.specs.CommandGrammar.{IsCommand, IsForHead, AreCommands}
 use Rattle.mlk_routine.specs.RoutineGrammar.{IsComment}
 use Rattle.mlk_routine.specs.Lines.{OpeningEnds, AtEnd, IsTail, IsTailOf, is_lead, level_in}
@@ -61,6 +63,12 @@ word_lettered (Read reads) w h = either_lettered (codes "R") (codes "READ") w 11
 word_lettered (Set sets) w h = either_lettered (codes "S") (codes "SET") w 115 _ _ refl refl (omega arith) h
 word_lettered (Write writes) w h = either_lettered (codes "W") (codes "WRITE") w 119 _ _ refl refl (omega arith) h
 
+added_lettered : (a : AddedWord) (w : List ℕ) → is_added a w ≡ true → Lettered w
+unfolding is_added
+added_lettered added.Close w h = either_lettered (codes "C") (codes "CLOSE") w 99 _ _ refl refl (omega arith) h
+added_lettered added.Open w h = either_lettered (codes "O") (codes "OPEN") w 111 _ _ refl refl (omega arith) h
+added_lettered added.Use w h = either_lettered (codes "U") (codes "USE") w 117 _ _ refl refl (omega arith) h
+
 for_lettered : (w : List ℕ) → is_for w ≡ true → Lettered w
 unfolding is_for
 for_lettered w h = either_lettered (codes "F") (codes "FOR") w 102 _ _ refl refl (omega arith) h
@@ -69,7 +77,10 @@ longer : (s w r : List ℕ) → s ≡ w ++ r → Lettered w → Lettered s
 longer s w r is (b, t, first, high) = (b, t ++ r, is ∙ ap (λ l. l ++ r) first, high)
 
 command_lettered : (d : Dialect) (returns : Bool) (k : ℕ) (c : CommandTree) (s : List ℕ) → IsCommand d returns k c s → Lettered s
-command_lettered d returns k (Does column condition action) s (place, may, (w, r, is, word, more)) = longer s w r is (word_lettered action w word)
+command_lettered d returns k (Does column condition action) s (place, may, inl (w, r, is, word, more)) = longer s w r is (word_lettered action w word)
+command_lettered d returns k (Does column condition action) s (place, may, inr (extended, inl (a, (w, r, is, word, more)))) = longer s w r is (added_lettered a w word)
+command_lettered d returns k (Does column condition action) s (place, may, inr (extended, inr (inl (w, r, is, word, more)))) = longer s w r is (word_lettered (Set []) w word)
+command_lettered d returns k (Does column condition action) s (place, may, inr (extended, inr (inr (w, r, is, word, more)))) = longer s w r is (word_lettered (New []) w word)
 
 head_lettered : (column k : ℕ) (control : Option ControlTree) (s : List ℕ) → IsForHead column k control s → Lettered s
 head_lettered column k None s (place, word) = for_lettered s word

@@ -5,6 +5,7 @@ use Rattle.std.specs.Prelude.{bytes_eq, length, Result, Ok, Err, unwrap_or, ◌�
 use Rattle.std.specs.List.{list_any, list_all}
 use Rattle.std.specs.Borrow.{Bor}
 use Rattle.mlk_dialect.specs.declared.dialect.Dialect.{Dialect}
+use Rattle.mlk_dialect.specs.declared.dialect.Dialect.TheVariants as dialect
 use Rattle.mlk_text.specs.Lexemes.{is_letter, is_digit}
 use Rattle.mlk_expr.specs.Grammar.{IsNameText, IsLabelText}
 use Rattle.mlk_expr.specs.Theorem.{LabelEnds}
@@ -132,8 +133,8 @@ abbrev pub Steps : ℕ → Bool → ℕ → Type 0
 Steps last reaches level = (level ≤ last) ⊎ ((level ≡ suc last) × (reaches ≡ true))
 
 -- the conditions on the part of a line before its commands, alone and after the lines before it
-abbrev pub IsKept : Option (List ℕ) → ℕ → Type 0
-IsKept label level = ((label ≡ None) ⊎ (level ≤ 1)) × (level ≤ 15)
+abbrev pub IsKept : Dialect → Option (List ℕ) → Option (List (List ℕ)) → ℕ → Type 0
+IsKept d label formals level = ((label ≡ None) ⊎ (level ≤ 1) ⊎ ((d ≡ dialect.Extended) × (formals ≡ None))) × (level ≤ 15)
 
 abbrev pub Fits : Before → Option (List ℕ) → ℕ → Type 0
 Fits before label level = (is_in label before.labels.texts.keys ≡ false) × Steps before.level before.reaches level

@@ -3,6 +3,7 @@ use Rattle.std.specs.Prelude.{ℕ, zero, suc, ◌≡◌, ◌≢◌, ◌<◌, ◌
 use Rattle.std.specs.Prelude.{◌∷◌, ◌++◌, length, if◌then◌else◌, Option, Some, None}
 use Rattle.std.specs.List.{list_all}
 use Rattle.mlk_dialect.specs.declared.dialect.Dialect.{Dialect}
+use Rattle.mlk_dialect.specs.declared.dialect.Dialect.TheVariants as dialect
 use Rattle.mlk_text.specs.Lexemes.{is_text}
 use Rattle.mlk_text.specs.Spellings.{IsName, IsLabel}
 use Rattle.mlk_text.specs.Places.{column_at}
@@ -56,11 +57,16 @@ IsBody d level at commands s = ((level ≡ 1) × (commands ≡ finished) × IsCo
     ⊎ ((periods : ℕ) × (start text comment : List ℕ) × (s ≡ start ++ (text ++ comment)) × (level ≡ suc periods)
     × (level ≤ 15) × IsStart periods start × AreCommands d level 0 (at + length start) commands text × IsComment comment)
 
--- A line with its number. Only lines of level 1 have labels, which is this project's own choice. Standard: line.
+-- Where a line may have a label: at level 1. In the extended dialect a deeper line may have one without formals, which no call
+-- means, since calls are of lines of level 1. That is this project's own choice. Standard: level line, formal line.
+abbrev pub MayHaveLabel : Dialect → ℕ → Option (List ℕ) → Option (List (List ℕ)) → Type 0
+MayHaveLabel d level label formals = (label ≡ None) ⊎ (level ≡ 1) ⊎ ((d ≡ dialect.Extended) × (formals ≡ None))
+
+-- A line with its number. Standard: line.
 abbrev pub IsLine : Dialect → ℕ → HeadTree → List ℕ → Type 0
 IsLine d n (LineHead number level end label formals commands) s = (front body : List ℕ) × (s ≡ front ++ body)
     × (number ≡ n) × (end ≡ column_at (suc (length s))) × IsLabelled label formals front
-    × ((label ≡ None) ⊎ (level ≡ 1)) × IsBody d level (suc (length front)) commands body
+    × MayHaveLabel d level label formals × IsBody d level (suc (length front)) commands body
 
 -- lines, numbered from n
 abbrev pub AreLines : Dialect → ℕ → List HeadTree → List (List ℕ) → Type 0

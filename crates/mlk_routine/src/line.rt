@@ -4,6 +4,7 @@ ghost use Rattle.std.specs.Prelude.{◌≡◌, ◌<◌, ◌≤◌, ◌+◌, ◌|
 ghost use Rattle.std.specs.Prelude.{true, false, Some, None};
 ghost use Rattle.std.specs.Prelude.{IfOk, IfErr, OnOk};
 ghost use Rattle.std.specs.List.{prefix_len, list_all};
+ghost use Rattle.mlk_dialect.specs.declared.dialect.Dialect.TheVariants as dialects;
 ghost use Rattle.mlk_routine_arguments.specs.PartsRead.{ReadsPart};
 ghost use Rattle.mlk_routine.specs.RoutineGrammar.{is_line_byte};
 ghost use Rattle.mlk_routine.specs.Lines.{has_name, is_in, is_labelled, level_in, IsFront, FrontEnds, IsKept, Fits};
@@ -75,15 +76,15 @@ impl<'a> Before<'a> {
     }
 
     // The code of what is wrong with a line at this place with `front`, or `None`.
-    fn misplacement(&self, front: &Front) -> Option<Code>
+    fn misplacement(&self, dialect: Dialect, front: &Front) -> Option<Code>
         ensures code { IsMisplaced result }
-        ensures none { result ≡ None → IsKept front.now.label (level_in front.now.level) }
+        ensures none { result ≡ None → IsKept dialect front.now.label front.now.formals (level_in front.now.level) }
         ensures fits { result ≡ None → Fits self.now front.now.label (level_in front.now.level) }
-        ensures some { is_some result ≡ true → IsKept front.now.label (level_in front.now.level)
+        ensures some { is_some result ≡ true → IsKept dialect front.now.label front.now.formals (level_in front.now.level)
             → Fits self.now front.now.label (level_in front.now.level) → ⊥ }
     {
         let level = front.level.unwrap_or(1);
-        if level > 1 && front.label.is_some() {
+        if level > 1 && is_barred(dialect, front) {
             return Some(Code::LineForm);
         }
         if self.has_label(&front.label) {
@@ -115,6 +116,17 @@ impl<'a> Before<'a> {
             let _is_new = self.labels.add(written)?;
         }
         Ok(())
+    }
+}
+
+// Whether a line that begins like this may not be deeper than level 1.
+fn is_barred(dialect: Dialect, front: &Front) -> bool
+    ensures yes { result ≡ true → (front.now.label ≡ None → ⊥) × (dialect ≡ dialects.Extended → front.now.formals ≡ None → ⊥) }
+    ensures no { result ≡ false → (front.now.label ≡ None) ⊎ ((dialect ≡ dialects.Extended) × (front.now.formals ≡ None)) }
+{
+    match dialect {
+        Dialect::Standard => front.label.is_some(),
+        Dialect::Extended => front.label.is_some() && front.formals.is_some(),
     }
 }
 
@@ -158,7 +170,7 @@ pub(crate) fn line<'a>(
     ensures refused { IfErr result (NoLine dialect before.old number text.now) }
 {
     let (front, start) = front(alloc, before, text)?;
-    if let Some(code) = before.misplacement(&front) {
+    if let Some(code) = before.misplacement(dialect, &front) {
         return Err(refusal_at(alloc, code, 0));
     }
     before.add(&front, text)?;

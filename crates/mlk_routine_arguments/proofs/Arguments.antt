@@ -13,7 +13,7 @@ use Rattle.mlk_syntax.specs.declared.expr.Callee.{Callee}
 use Rattle.mlk_syntax.specs.ExprTrees.{Tree, Free, ActualTree}
 use Rattle.mlk_expr.specs.Grammar.{Spelled, IsExprWhere}
 use Rattle.mlk_expr.specs.Theorem.{Stands, ExprEnds, label_ends, callee_ends}
-use Rattle.mlk_expr.proofs.Contexts.{given-anything}
+use Rattle.mlk_expr.proofs.Contexts.{given-anywhere}
 use Rattle.mlk_syntax.specs.Trees.{CallTree, Called, DoTree, DoCall}
 use Rattle.mlk_routine_arguments.specs.PartsRead.{Found, Nowhere, Denied, first_of, byte_at}
 use Rattle.mlk_routine_arguments.specs.Ends.{Lacks, CallEnds, DoEnds}
@@ -34,7 +34,8 @@ module _ {A : Type 0} (Is : Spelled A) (Ends : A → List ℕ → Type 0) (line 
 -- a part that is written where less is allowed is written where everything is
 pub call_anywhere : (at : ℕ) (c : CallTree) (s : List ℕ) (condition : Option Tree) → IsCall (before_condition condition) ByReference at c s → IsCall Everything ByReference at c s
 call_anywhere at (Called column callee None) s condition (place, (front, back, is, one, two)) = (place, (front, back, is, one, two))
-call_anywhere at (Called column callee (Some given)) s condition (place, (front, back, is, one, two)) = (place, (front, back, is, one, (two.0, given-anything given)))
+call_anywhere at (Called column callee (Some given)) s None is = is
+call_anywhere at (Called column callee (Some given)) s (Some t) (place, (front, back, is, one, two)) = (place, (front, back, is, one, (two.0, given-anywhere given two.1)))
 
 pub none_mapped : {A B : Type 0} (f : A → B) (o : Option A) → is_some o ≡ false → option_map f o ≡ None
 none_mapped f None h = refl

@@ -15,6 +15,7 @@ pub mod Stretches
 pub mod Stopping
 pub mod Words
 pub mod Locks
+pub mod DeviceDetails
 pub mod Prompts
 pub mod Formats
 pub mod Locals
@@ -23,3 +24,5 @@ pub mod Targets
 pub mod Sole
 pub mod SoleArguments
 pub mod SoleFormats
+pub mod Traps
+pub mod News

@@ -12,7 +12,7 @@ use Rattle.mlk_expr.specs.declared.context.Passing.TheVariants.{ByReference, ByV
 use Rattle.mlk_syntax.specs.ExprTrees.{Tree, ActualTree}
 use Rattle.mlk_expr.specs.Reading.{expr_at, reference_at, actual_list_at, callee_at}
 use Rattle.mlk_expr.specs.Grammar.{Spelled, IsExpr, IsReference, IsActualList, IsExprWhere, IsReferenceWhere, IsActualListWhere, IsNameText, IsLabelText, IsCalleeText, IsList, AreNext}
-use Rattle.mlk_expr.specs.Theorem.{Stands, ExprEnds, ReferenceEnds, ListEnds, LabelEnds, CalleeEnds}
+use Rattle.mlk_expr.specs.Theorem.{One, Stands, ExprEnds, ReferenceEnds, ListEnds, LabelEnds, CalleeEnds}
 use Rattle.mlk_expr.proofs.Followed as followed
 use Rattle.mlk_expr.proofs.Whole.{reference-exact, actual_list-exact}
 use Rattle.mlk_expr.proofs.Places.{whole-exact}
@@ -55,8 +55,11 @@ name_alone = alone_of (one-of (λ end. name_at) Names IsNameText LabelEnds names
 pub label_alone : Alone IsLabelText LabelEnds
 label_alone = alone_of (one-of (λ end. label_at) Labels IsLabelText LabelEnds labels-exact same-label)
 
+pub one_callee : One IsCalleeText CalleeEnds
+one_callee = one-of (λ end. callee_at) (λ end. CalleeIs) IsCalleeText CalleeEnds (λ end. callee-exact) same-callee
+
 callee_alone : Alone IsCalleeText CalledEnds
-callee_alone line at less = sole_within (λ c s rest is e. (is, e.0)) (alone_of (one-of (λ end. callee_at) (λ end. CalleeIs) IsCalleeText CalleeEnds (λ end. callee-exact) same-callee) line at less)
+callee_alone line at less = sole_within (λ c s rest is e. (is, e.0)) (alone_of one_callee line at less)
 
 -- a single byte, and a run of bytes
 pub byte_alone : (b : ℕ) → Alone (IsByte b) AnyEnds

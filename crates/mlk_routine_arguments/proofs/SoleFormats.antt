@@ -1,4 +1,5 @@
--- At a place there is at most one thing of its kind: the arguments of READ, WRITE and SET, and those of FOR.
+-- At a place there is at most one thing of its kind: the arguments of READ, WRITE and SET, those of commands of devices, and those of
+-- FOR.
 use Rattle.std.proofs.Common.{◌≡◌, ◌+◌, ℕ, suc, List, [], ◌∷◌, ◌++◌, drop, Some, None, refl, sym, ap, ◌∙◌, inl, inr, append-nil}
 use Rattle.std.specs.Prelude.{Option}
 use Rattle.std.proofs.lemmas.Bool.{cases_Bool}
@@ -12,15 +13,16 @@ use Rattle.mlk_expr.specs.Grammar.{IsExprWhere, AreNext}
 use Rattle.mlk_expr.specs.Theorem.{ExprEnds}
 use Rattle.mlk_syntax.specs.Trees.{VariableTree, TargetTree, SetWhole, SetPart}
 use Rattle.mlk_routine_arguments.specs.PartsRead.{first_of, byte_at}
-use Rattle.mlk_routine_arguments.specs.Ends.{VariableEnds, AfterEnds, AnyEnds, IsPrompt, PromptEnds, starts_format, FormatEnds, WriteEnds, ReadEnds, NextEnds, part_of, IsPartOpening, TargetEnds, SetEnds, ParameterEnds, ControlEnds}
+use Rattle.mlk_routine_arguments.specs.Ends.{VariableEnds, AfterEnds, AnyEnds, IsPrompt, PromptEnds, starts_format, FormatEnds, WriteEnds, ReadEnds, NextEnds, part_of, IsPartOpening, TargetEnds, SetEnds, ParameterEnds, ControlEnds, DeviceEnds}
 use Rattle.mlk_routine_arguments.specs.Stops.{expr_stop, target_stop, parameter_stop}
-use Rattle.mlk_routine_arguments.specs.CommandGrammar.{IsAfter, IsVariable, IsLocal, is_mark, IsFormat, IsRead, after_local, after_most, IsTarget, IsSet, IsWrite, IsParameter, IsControl}
+use Rattle.mlk_routine_arguments.specs.CommandGrammar.{IsAfter, IsVariable, IsLocal, is_mark, IsFormat, IsRead, after_local, after_most, in_set, IsTarget, IsSet, IsWrite, IsParameter, IsControl, IsDevice}
 use Rattle.mlk_routine_arguments.proofs.Sole.{Alone, byte_or_not, sole_only, sole_within, alone_after, sole_both, sole_as, sole_turned}
 use Rattle.mlk_routine_arguments.proofs.SoleArguments.{expr_alone, variable_alone, name_alone, optional_alone, run_alone, byte_alone, list_alone, one_sole}
 use Rattle.mlk_routine_arguments.proofs.Prompts.{read_inside}
 use Rattle.mlk_routine_arguments.proofs.Formats.{IsMarked, marked_parts, write_format, write_character, write_value}
 use Rattle.mlk_routine_arguments.proofs.Parameters.{IsLimit, LimitEnds, IsSteps, StepsEnd, steps_parts, parameter_parts}
 use Rattle.mlk_routine_arguments.proofs.Controls.{control_parts}
+use Rattle.mlk_routine_arguments.proofs.DeviceDetails.{device_parts, details_alone}
 use Rattle.mlk_routine_arguments.proofs.ReadArguments as reads
 use Rattle.mlk_routine_arguments.proofs.ReadArguments.{local_colon, most_colon, IsLimits, LimitsEnd, IsTimedLocal, TimedLocalEnds, read_prompt, read_format, read_character, line_parts}
 use Rattle.mlk_routine_arguments.proofs.Targets.{part_reads, target_reads, arguments_turned, IsInner, InnerEnds, inner_parts, IsClosing, closing_parts, target_parts, target_shut, set_parts}
@@ -105,20 +107,20 @@ inner_alone line at less = sole_both (inner_parts line at) less (variable_alone 
 closing_alone : Alone IsClosing AnyEnds
 closing_alone line at less = sole_both (closing_parts line at) less (inner_alone line at less) (λ p m s. byte_alone 41 line m s.within)
 
-target_alone : Alone IsTarget TargetEnds
-target_alone line at less = elim (byte_or_not line at 36) [
-  | inl here ↦ sole_both (target_parts line at here) less (opening_alone line at less) (λ p m s. closing_alone line m s.within)
-  | inr missing ↦ sole_as SetWhole (λ c u rest h is e. go missing c u rest h is e) (variable_alone Everything line at less)
+target_alone : (d : Dialect) → Alone (IsTarget d) TargetEnds
+target_alone d line at less = elim (byte_or_not line at 36) [
+  | inl here ↦ sole_both (target_parts d line at here) less (opening_alone line at less) (λ p m s. closing_alone line m s.within)
+  | inr missing ↦ sole_as SetWhole (λ c u rest h is e. go missing c u rest h is e) (variable_alone (in_set d) line at less)
 ]
   where
-    go : (byte_at line at ≡ Some 36 → ⊥) → (c : TargetTree) (u rest : List ℕ) → drop at line ≡ u ++ rest → IsTarget (suc at) c u → TargetEnds c rest → (v : VariableTree) × (c ≡ SetWhole v) × IsVariable Everything (suc at) v u × VariableEnds v rest
+    go : (byte_at line at ≡ Some 36 → ⊥) → (c : TargetTree) (u rest : List ℕ) → drop at line ≡ u ++ rest → IsTarget d (suc at) c u → TargetEnds c rest → (v : VariableTree) × (c ≡ SetWhole v) × IsVariable (in_set d) (suc at) v u × VariableEnds v rest
     go missing (SetWhole v) u rest h is e = (v, refl, is, e)
     go missing (SetPart part v arguments) u rest h is e = absurd (missing (ap first_of (h ∙ ap (λ l. l ++ rest) (is.3))))
 
-pub set_alone : Alone IsSet SetEnds
-set_alone line at less =
-    sole_both (set_parts line at) less (one_sole IsTarget TargetEnds target_stop target_alone target_shut line at less)
-    (λ targets m s. alone_after 61 (expr_alone Everything) line m s.within)
+pub set_alone : (d : Dialect) → Alone (IsSet d) SetEnds
+set_alone d line at less =
+    sole_both (set_parts d line at) less (one_sole (IsTarget d) TargetEnds target_stop (target_alone d) (target_shut d) line at less)
+    (λ targets m s. alone_after 61 (expr_alone (in_set d)) line m s.within)
 
 -- FOR
 limit_alone : (step : Option Tree) → Alone (IsLimit step) (LimitEnds step)
@@ -133,3 +135,7 @@ parameter_alone line at less = sole_both (parameter_parts line at) less (expr_al
 
 pub control_alone : Alone IsControl ControlEnds
 control_alone line at less = sole_both (control_parts line at) less (name_alone line at less) (λ name m s. alone_after 61 (list_alone IsParameter ParameterEnds parameter_stop parameter_alone) line m s.within)
+
+-- OPEN, USE and CLOSE
+pub device_alone : Alone IsDevice DeviceEnds
+device_alone line at less = sole_both (device_parts line at) less (expr_alone Everything line at less) (λ t m s. details_alone line m s.within)

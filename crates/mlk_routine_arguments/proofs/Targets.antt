@@ -8,7 +8,8 @@ use Rattle.std.proofs.lemmas.Option.{same_Some}
 use Rattle.mlk_text.specs.Lexemes.{is_letter, word_at}
 use Rattle.mlk_text.specs.Spellings.{IsWord}
 use Rattle.mlk_text.proofs.Spelled.{word-reads, word-spelled}
-use Rattle.mlk_expr.specs.declared.context.Allows.TheVariants.{Everything, NoCalls}
+use Rattle.mlk_dialect.specs.declared.dialect.Dialect.{Dialect}
+use Rattle.mlk_expr.specs.declared.context.Allows.TheVariants.{NoCalls}
 use Rattle.mlk_syntax.specs.ExprTrees.{Tree}
 use Rattle.mlk_expr.specs.Grammar.{IsExprWhere, AreNext, IsList}
 use Rattle.mlk_expr.specs.Theorem.{Stands, ExprEnds}
@@ -18,7 +19,7 @@ use Rattle.mlk_syntax.specs.Trees.{VariableTree, TargetTree, SetWhole, SetPart, 
 use Rattle.mlk_routine_arguments.specs.PartsRead.{Found, Nowhere, first_of, byte_at}
 use Rattle.mlk_routine_arguments.specs.Ends.{Lacks, MoreEnds, AreEnded, AnyEnds, VariableEnds, Begins, SingleEnds, OneEnds, NextEnds, part_of, IsPartOpening, TargetEnds, SetEnds}
 use Rattle.mlk_routine_arguments.specs.Stops.{expr_stop}
-use Rattle.mlk_routine_arguments.specs.CommandGrammar.{Both, IsVariable, IsValue, IsOneOrEnclosed, is_part_word, IsTarget, IsSet}
+use Rattle.mlk_routine_arguments.specs.CommandGrammar.{Both, IsVariable, IsOneOrEnclosed, is_part_word, in_set, IsTarget, IsSet}
 use Rattle.mlk_routine_arguments.proofs.Sequences.{Parts, Turned, stands_at}
 use Rattle.mlk_routine_arguments.proofs.Bytes.{AfterByte, byte_there, byte_before}
 use Rattle.mlk_routine_arguments.proofs.Enclosed.{IsByte, closes}
@@ -165,22 +166,22 @@ closing_parts line at = record {
   apart = λ c u rest h (inner, is, one) e. (c, tt, inner, 41 ∷ [], is, refl, one, refl, inner_close (c.0) (c.1) rest, tt);
 }
 
-pub target_parts : (line : List ℕ) (at : ℕ) → byte_at line at ≡ Some 36 → Parts line at IsPartOpening AnyEnds (λ p. IsClosing) (λ p. AnyEnds) IsTarget TargetEnds (λ p q. SetPart p (q.0) (q.1))
-target_parts line at here = record {
+pub target_parts : (d : Dialect) (line : List ℕ) (at : ℕ) → byte_at line at ≡ Some 36 → Parts line at IsPartOpening AnyEnds (λ p. IsClosing) (λ p. AnyEnds) (IsTarget d) TargetEnds (λ p q. SetPart p (q.0) (q.1))
+target_parts d line at here = record {
   into = λ p q s t one two. into p q s t one two;
   ends = λ p q k t rest is before after. tt;
   apart = λ c u rest h is e. apart c u rest h is;
 }
   where
-    into : (p : Part) (q : VariableTree × List Tree) (s t : List ℕ) → IsPartOpening (suc at) p s → IsClosing (suc at + length s) q t → IsTarget (suc at) (SetPart p (q.0) (q.1)) (s ++ t)
+    into : (p : Part) (q : VariableTree × List Tree) (s t : List ℕ) → IsPartOpening (suc at) p s → IsClosing (suc at + length s) q t → IsTarget d (suc at) (SetPart p (q.0) (q.1)) (s ++ t)
     into p q s t (word, is, good) (inner, closes, one) =
         let whole = ap (λ l. l ++ t) is ∙ ap (λ l. 36 ∷ l) (append_assoc word (40 ∷ []) t) ∙ ap (λ l. 36 ∷ (word ++ 40 ∷ l)) closes in
         let size : length s ≡ suc (length word + 1) = ap length is ∙ ap suc (length-append word (40 ∷ [])) in
         (word, inner, 40 ∷ (inner ++ 41 ∷ []), whole, good, refl, subst (λ k. IsInner k q inner) (omega (arith, size)) one)
 
-    apart : (c : TargetTree) (u rest : List ℕ) → drop at line ≡ u ++ rest → IsTarget (suc at) c u
+    apart : (c : TargetTree) (u rest : List ℕ) → drop at line ≡ u ++ rest → IsTarget d (suc at) c u
         → (p : Part) × (q : VariableTree × List Tree) × (s t : List ℕ) × (u ≡ s ++ t) × (c ≡ SetPart p (q.0) (q.1)) × IsPartOpening (suc at) p s × IsClosing (suc at + length s) q t × Unit {0} × Unit {0}
-    apart (SetWhole v) u rest h is = absurd (starts_lacking 36 refl u rest (variable_starts Everything (suc at) v u is) (sym (ap first_of h) ∙ here))
+    apart (SetWhole v) u rest h is = absurd (starts_lacking 36 refl u rest (variable_starts (in_set d) (suc at) v u is) (sym (ap first_of h) ∙ here))
     apart (SetPart p v arguments) u rest h (word, inner, enclosed, is, good, held, one) =
         let s = 36 ∷ (word ++ 40 ∷ []) in
         let t = inner ++ 41 ∷ [] in
@@ -189,26 +190,26 @@ target_parts line at here = record {
         (p, (v, arguments), s, t, whole, refl, (word, refl, good), (inner, refl, subst (λ k. IsInner k (v, arguments) inner) (omega (arith, size)) one), tt, tt)
 
 -- no target begins with a parenthesis, and an equals sign ends one
-pub target_shut : (at : ℕ) (t : TargetTree) (s : List ℕ) → IsTarget at t s → Begins s
-target_shut at (SetWhole v) s is = variable_shut Everything at v s is
-target_shut at (SetPart p v arguments) s is = (36, is.0 ++ is.2, is.3, λ bad. omega (arith, bad))
+pub target_shut : (d : Dialect) (at : ℕ) (t : TargetTree) (s : List ℕ) → IsTarget d at t s → Begins s
+target_shut d at (SetWhole v) s is = variable_shut (in_set d) at v s is
+target_shut d at (SetPart p v arguments) s is = (36, is.0 ++ is.2, is.3, λ bad. omega (arith, bad))
 
 target_equals : (t : TargetTree) (rest : List ℕ) → TargetEnds t (61 ∷ rest)
 target_equals (SetWhole v) rest = variable_before v (61 ∷ rest) refl
 target_equals (SetPart p v arguments) rest = tt
 
-pub set_parts : (line : List ℕ) (at : ℕ) → Parts line at (IsOneOrEnclosed IsTarget) (OneEnds TargetEnds (byte_at line at)) (λ targets. AfterByte 61 IsValue) (λ targets. ExprEnds) IsSet SetEnds SetTo
-set_parts line at = record {
+pub set_parts : (d : Dialect) (line : List ℕ) (at : ℕ) → Parts line at (IsOneOrEnclosed (IsTarget d)) (OneEnds TargetEnds (byte_at line at)) (λ targets. AfterByte 61 (IsExprWhere (in_set d))) (λ targets. ExprEnds) (IsSet d) SetEnds SetTo
+set_parts d line at = record {
   into = λ targets value s t one two. (s, t, refl, one, two);
   ends = λ targets value k t rest is before after. after;
   apart = λ c u rest h is e. go c u rest h is e;
 }
   where
-    ended : (targets : List TargetTree) (u front back rest : List ℕ) → drop at line ≡ u ++ rest → u ≡ front ++ back → IsOneOrEnclosed IsTarget (suc at) targets front → (r : List ℕ) × (back ≡ 61 ∷ r) → OneEnds TargetEnds (byte_at line at) targets (back ++ rest)
+    ended : (targets : List TargetTree) (u front back rest : List ℕ) → drop at line ≡ u ++ rest → u ≡ front ++ back → IsOneOrEnclosed (IsTarget d) (suc at) targets front → (r : List ℕ) × (back ≡ 61 ∷ r) → OneEnds TargetEnds (byte_at line at) targets (back ++ rest)
     ended targets u front back rest h is (inl (t, same, one)) (r, equals) =
         inr (subst (λ l. SingleEnds TargetEnds l (back ++ rest)) (sym same) (subst (λ l. TargetEnds t (l ++ rest)) (sym equals) (target_equals t (r ++ rest))))
     ended targets u front back rest h is (inr (inner, open', list)) equals = inl (ap first_of (h ∙ ap (λ l. l ++ rest) (is ∙ ap (λ l. l ++ back) open')))
 
-    go : (c : SetTree) (u rest : List ℕ) → drop at line ≡ u ++ rest → IsSet (suc at) c u → SetEnds c rest
-        → (targets : List TargetTree) × (value : Tree) × (s t : List ℕ) × (u ≡ s ++ t) × (c ≡ SetTo targets value) × IsOneOrEnclosed IsTarget (suc at) targets s × AfterByte 61 IsValue (suc at + length s) value t × OneEnds TargetEnds (byte_at line at) targets (t ++ rest) × ExprEnds value rest
+    go : (c : SetTree) (u rest : List ℕ) → drop at line ≡ u ++ rest → IsSet d (suc at) c u → SetEnds c rest
+        → (targets : List TargetTree) × (value : Tree) × (s t : List ℕ) × (u ≡ s ++ t) × (c ≡ SetTo targets value) × IsOneOrEnclosed (IsTarget d) (suc at) targets s × AfterByte 61 (IsExprWhere (in_set d)) (suc at + length s) value t × OneEnds TargetEnds (byte_at line at) targets (t ++ rest) × ExprEnds value rest
     go (SetTo targets value) u rest h (s, t, is, one, two) e = (targets, value, s, t, is, refl, one, two, ended targets u s t rest h is one (two.0, two.1), e)

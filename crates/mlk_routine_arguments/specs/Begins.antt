@@ -1,8 +1,12 @@
 -- No argument begins with what may end one. For private clauses only. This project's own.
-use Rattle.std.specs.Prelude.{ℕ, ◌≡◌, ◌<◌, ◌+◌, true, false, ◌==◌, ◌++◌, length, List, [], ◌∷◌, Option, Some, None}
+use Rattle.std.specs.Prelude.{ℕ, ◌≡◌, ◌<◌, ◌+◌, Bool, true, false, ◌==◌, ◌||◌, ◌++◌, length, List, [], ◌∷◌, Option, Some, None, codes}
 use Rattle.std.specs.List.{list_all}
-use Rattle.std.proofs.Common.{arith, refl, ap, ◌∙◌, inl, inr}
-use Rattle.std.proofs.lemmas.Bool.{cases_Bool}
+use Rattle.std.proofs.Common.{arith, refl, sym, ap, ◌∙◌, inl, inr}
+use Rattle.std.proofs.lemmas.Bool.{cases_Bool, or_cases}
+use Rattle.std.proofs.lemmas.Slice.Eq.{bytes_eq-Decides}
+use Rattle.std.specs.Char.{to_ascii_lowercase}
+use Rattle.std.specs.Str.{str_to_ascii_lowercase, str_eq_ignore_ascii_case}
+use Rattle.mlk_expr_tokens.specs.Words.{is_either}
 use Rattle.std.proofs.lemmas.Bool.Decides.{nat_tests}
 use Rattle.mlk_dialect.specs.declared.dialect.Dialect.{Dialect}
 use Rattle.mlk_text.specs.Lexemes.{is_digit}
@@ -23,10 +27,12 @@ use Rattle.mlk_syntax.specs.Trees.{ReadTree, ReadText, ReadFormat, ReadLine, Rea
 use Rattle.mlk_syntax.specs.Trees.{WriteCharacter, WriteFormat, TargetTree, SetWhole, SetPart, SetTree, SetTo}
 use Rattle.mlk_syntax.specs.declared.command.Sign.{Sign}
 use Rattle.mlk_syntax.specs.declared.command.Sign.TheVariants as sign
-use Rattle.mlk_routine_arguments.specs.Ends.{is_stop}
+use Rattle.mlk_routine_arguments.specs.Ends.{is_stop, starts}
+use Rattle.mlk_routine_arguments.specs.Traps.{is_new_trap}
 use Rattle.mlk_routine_arguments.specs.CommandGrammar.{IsVariable, IsCall, IsDo, IsJob, IsKill, IsNew, IsMerge, IsParameter}
 use Rattle.mlk_routine_arguments.specs.CommandGrammar.{IsControl, before_condition, IsOneOrEnclosed, sign_text, in_names, IsLock}
-use Rattle.mlk_routine_arguments.specs.CommandGrammar.{is_mark, IsFormat, IsRead, IsWrite, IsTarget, IsSet}
+use Rattle.mlk_routine_arguments.specs.CommandGrammar.{is_mark, IsFormat, IsRead, IsWrite, in_set, IsTarget, IsSet}
+use Rattle.mlk_routine_arguments.specs.CommandGrammar.{DeviceTree, IsDevice, IsNewed}
 
 opens_apart : (s : List ℕ) → opens s ≡ true → is_stop s ≡ false
 opens_apart [] h = cc h
@@ -70,7 +76,7 @@ pub variable_begins : (a : Allows) (at : ℕ) (v : VariableTree) (s : List ℕ) 
 unfolding IsReference
 variable_begins a at (Named column name) s is = reference_apart s is.1.0.1
 
-callee_begins : (label routine : Option (List ℕ)) (s : List ℕ) → IsCallee label routine s → is_stop s ≡ false
+pub callee_begins : (label routine : Option (List ℕ)) (s : List ℕ) → IsCallee label routine s → is_stop s ≡ false
 callee_begins None None s is = absurd is
 callee_begins None (Some routine) s is = ap is_stop is.0
 callee_begins (Some label) None s (is, good) = ap is_stop is ∙ label_apart label good
@@ -95,6 +101,47 @@ kill_begins at (KillAllBut names) s (inner, is, list) = ap is_stop is
 pub new_begins : (at : ℕ) (x : NewTree) (s : List ℕ) → IsNew at x s → is_stop s ≡ false
 new_begins at (NewOne column name) s is = name_begins at name s is.1
 new_begins at (NewAllBut names) s (inner, is, list) = ap is_stop is
+
+-- a text that is one of two, in either case, begins with a byte of the same kind
+first_lower : (kind : ℕ → Bool) → ((b : ℕ) → kind (to_ascii_lowercase b) ≡ kind b) → (s : List ℕ) → starts kind (str_to_ascii_lowercase s) ≡ starts kind s
+first_lower kind same [] = refl
+first_lower kind same (b ∷ s) = same b
+
+first_case : (kind : ℕ → Bool) → ((b : ℕ) → kind (to_ascii_lowercase b) ≡ kind b) → (s t : List ℕ) → str_eq_ignore_ascii_case s t ≡ true → starts kind s ≡ starts kind t
+first_case kind same s t e =
+    sym (first_lower kind same s) ∙ ap (starts kind) ((bytes_eq-Decides (str_to_ascii_lowercase s) (str_to_ascii_lowercase t)).0 e) ∙ first_lower kind same t
+
+first_either : (kind : ℕ → Bool) → ((b : ℕ) → kind (to_ascii_lowercase b) ≡ kind b) → (x y s : List ℕ) → is_either x y s ≡ true
+    → starts kind x ≡ true → starts kind y ≡ true → starts kind s ≡ true
+first_either kind same x y s h one two = elim (or_cases (str_eq_ignore_ascii_case s x) (str_eq_ignore_ascii_case s y) h) [
+  | inl e ↦ first_case kind same s x e ∙ one
+  | inr e ↦ first_case kind same s y e ∙ two
+]
+
+-- a trap that NEW names begins with `$` or a digit
+abbrev pub is_trap_byte : ℕ → Bool
+is_trap_byte b = (b == 36) || (b == 49)
+
+trap_lower : (b : ℕ) → is_trap_byte (to_ascii_lowercase b) ≡ is_trap_byte b
+trap_lower b = grind (arith, nat_tests)
+
+pub new_trap_starts : (s : List ℕ) → is_new_trap s ≡ true → starts is_trap_byte s ≡ true
+unfolding is_new_trap
+new_trap_starts s h = elim (or_cases (is_either (codes "$ET") (codes "$ETRAP") s || is_either (codes "$ZT") (codes "$ZTRAP") s) (is_either (codes "1E0") (codes "1E00000") s) h) [
+  | inl f ↦ elim (or_cases (is_either (codes "$ET") (codes "$ETRAP") s) (is_either (codes "$ZT") (codes "$ZTRAP") s) f) [
+    | inl e ↦ first_either is_trap_byte trap_lower (codes "$ET") (codes "$ETRAP") s e refl refl
+    | inr e ↦ first_either is_trap_byte trap_lower (codes "$ZT") (codes "$ZTRAP") s e refl refl
+  ]
+  | inr e ↦ first_either is_trap_byte trap_lower (codes "1E0") (codes "1E00000") s e refl refl
+]
+
+trap_byte_apart : (s : List ℕ) → starts is_trap_byte s ≡ true → is_stop s ≡ false
+trap_byte_apart [] h = cc h
+trap_byte_apart (b ∷ s) h = grind (arith, nat_tests)
+
+pub newed_begins : (at : ℕ) (x : Option NewTree) (s : List ℕ) → IsNewed at x s → is_stop s ≡ false
+newed_begins at None s is = trap_byte_apart s (new_trap_starts s is)
+newed_begins at (Some x) s is = new_begins at x s is
 
 pub merge_begins : (at : ℕ) (m : MergeTree) (s : List ℕ) → IsMerge at m s → is_stop s ≡ false
 merge_begins at (MergeInto target source) s (front, rest, is, one, two) =
@@ -129,6 +176,10 @@ lock_begins d at (LockNames before names timeout) s (front, rest, is, signed, (t
     go sign.Plus h named = ap is_stop (is ∙ ap (λ l. l ++ rest) h)
     go sign.Minus h named = ap is_stop (is ∙ ap (λ l. l ++ rest) h)
 
+pub device_begins : (at : ℕ) (device : DeviceTree) (s : List ℕ) → IsDevice at device s → is_stop s ≡ false
+device_begins at device s (front, rest, is, one, two) =
+    joined_begins s front rest is (expr_begins Everything at device.0 front one)
+
 marks_apart : (s : List ℕ) → list_all is_mark s ≡ true → 0 < length s → is_stop s ≡ false
 marks_apart [] h some = let bad : ⊥ = omega (arith, some) in absurd bad
 marks_apart (b ∷ s) h some = grind (arith, nat_tests)
@@ -155,10 +206,10 @@ write_begins at (WriteValue t) s is = expr_begins Everything at t s is
 write_begins at (WriteCharacter t) s (rest, is, one) = ap is_stop is
 write_begins at (WriteFormat tab) s is = format_begins at tab s is
 
-pub target_begins : (at : ℕ) (t : TargetTree) (s : List ℕ) → IsTarget at t s → is_stop s ≡ false
-target_begins at (SetWhole v) s is = variable_begins Everything at v s is
-target_begins at (SetPart part v arguments) s is = ap is_stop is.3
+pub target_begins : (d : Dialect) (at : ℕ) (t : TargetTree) (s : List ℕ) → IsTarget d at t s → is_stop s ≡ false
+target_begins d at (SetWhole v) s is = variable_begins (in_set d) at v s is
+target_begins d at (SetPart part v arguments) s is = ap is_stop is.3
 
-pub set_begins : (at : ℕ) (x : SetTree) (s : List ℕ) → IsSet at x s → is_stop s ≡ false
-set_begins at (SetTo targets value) s (front, rest, is, one, two) =
-    joined_begins s front rest is (one_begins IsTarget target_begins at targets front one)
+pub set_begins : (d : Dialect) (at : ℕ) (x : SetTree) (s : List ℕ) → IsSet d at x s → is_stop s ≡ false
+set_begins d at (SetTo targets value) s (front, rest, is, one, two) =
+    joined_begins s front rest is (one_begins (IsTarget d) (target_begins d) at targets front one)

@@ -2,12 +2,12 @@
 -- column `at`. Consecutive parts are joined by `++`; the items of a list are separated by commas.
 use Rattle.mlk_text.specs.Places.{column_at}
 use Rattle.std.specs.Prelude.{ℕ, suc, ◌≡◌, ◌<◌, ◌≤◌, ◌+◌, ◌⊎◌, ◌==◌, ◌&&◌, ◌||◌, is_some, Bool, true, false, List, []}
-use Rattle.std.specs.Prelude.{◌∷◌, ◌++◌, length, if◌then◌else◌, Option, Some, None, codes}
-use Rattle.std.specs.List.{list_all}
+use Rattle.std.specs.Prelude.{◌∷◌, ◌++◌, length, map, if◌then◌else◌, Option, Some, None, codes}
+use Rattle.std.specs.List.{list_all, list_any}
 use Rattle.mlk_dialect.specs.declared.dialect.Dialect.{Dialect}
 use Rattle.mlk_dialect.specs.declared.dialect.Dialect.TheVariants as dialect
 use Rattle.mlk_expr.specs.declared.context.Allows.{Allows}
-use Rattle.mlk_expr.specs.declared.context.Allows.TheVariants.{Everything, NoCalls, NoTouches}
+use Rattle.mlk_expr.specs.declared.context.Allows.TheVariants.{Extended, Everything, NoCalls, NoTouches}
 use Rattle.mlk_expr.specs.declared.context.Passing.{Passing}
 use Rattle.mlk_expr.specs.declared.context.Passing.TheVariants.{ByReference, ByValue}
 use Rattle.mlk_syntax.specs.ExprTrees.{Tree, LocalName, ActualTree}
@@ -27,7 +27,12 @@ use Rattle.mlk_syntax.specs.Trees.{SetPart, SetTree, SetTo, WriteTree, WriteValu
 use Rattle.mlk_syntax.specs.Trees.{ActionTree, Do, Else, Halt, Hang, If, Job, Kill, Lock, Merge, New, Quit, Read, Set}
 use Rattle.mlk_syntax.specs.Trees.{Write, CommandTree, Does, ParameterTree, Once, Endless, Limited, ControlTree, Runs}
 use Rattle.mlk_syntax.specs.Trees.{CommandTrees, finished, then_command, then_for}
-use Rattle.mlk_routine_arguments.specs.CommandWords.{is_word_of, is_for, may_have_condition, has_arguments, least_after}
+use Rattle.mlk_routine_arguments.specs.declared.word.AddedWord.{AddedWord}
+use Rattle.mlk_routine_arguments.specs.declared.word.AddedWord.TheVariants as added
+use Rattle.mlk_routine_arguments.specs.CommandWords.{is_word_of, is_for, is_added, may_have_condition}
+use Rattle.mlk_routine_arguments.specs.CommandWords.{has_arguments, least_after}
+use Rattle.mlk_routine_arguments.specs.Details.{AreDetails}
+use Rattle.mlk_routine_arguments.specs.Traps.{is_new_trap, nothing, IsTrap}
 
 -- two parts, the second of which begins where the first ends
 abbrev pub Both : (ℕ → List ℕ → Type 0) → (ℕ → List ℕ → Type 0) → ℕ → List ℕ → Type 0
@@ -36,6 +41,11 @@ Both First Second at s = (front rest : List ℕ) × (s ≡ front ++ rest) × Fir
 -- a part after a given byte
 abbrev pub After : ℕ → (ℕ → List ℕ → Type 0) → ℕ → List ℕ → Type 0
 After b Next at s = (rest : List ℕ) × (s ≡ b ∷ rest) × Next (suc at) rest
+
+-- what is allowed in SET, whose values and subscripts may increment in the extended dialect
+abbrev pub in_set : Dialect → Allows
+in_set dialect.Standard = Everything
+in_set dialect.Extended = Extended
 
 -- an expression in which everything is allowed
 abbrev pub IsValue : ℕ → Tree → List ℕ → Type 0
@@ -188,16 +198,16 @@ abbrev pub is_part_word : Part → List ℕ → Bool
 is_part_word part.Piece = is_either (codes "P") (codes "PIECE")
 is_part_word part.Extract = is_either (codes "E") (codes "EXTRACT")
 
-abbrev pub IsTarget : ℕ → TargetTree → List ℕ → Type 0
-IsTarget at (SetWhole v) s = IsVariable Everything at v s
-IsTarget at (SetPart part v arguments) s = (word inner part_text : List ℕ) × (s ≡ 36 ∷ (word ++ part_text))
+abbrev pub IsTarget : Dialect → ℕ → TargetTree → List ℕ → Type 0
+IsTarget d at (SetWhole v) s = IsVariable (in_set d) at v s
+IsTarget d at (SetPart part v arguments) s = (word inner part_text : List ℕ) × (s ≡ 36 ∷ (word ++ part_text))
     × (is_part_word part word ≡ true) × IsEnclosed inner part_text
     × Both (λ n r. IsVariable NoCalls n v r) (λ n r. AreNext (IsExprWhere NoCalls) n arguments r)
     (2 + (at + length word)) inner
 
-abbrev pub IsSet : ℕ → SetTree → List ℕ → Type 0
-IsSet at (SetTo targets value) s =
-    Both (λ n r. IsOneOrEnclosed IsTarget n targets r) (After 61 (λ n r. IsValue n value r)) at s
+abbrev pub IsSet : Dialect → ℕ → SetTree → List ℕ → Type 0
+IsSet d at (SetTo targets value) s = Both (λ n r. IsOneOrEnclosed (IsTarget d) n targets r)
+    (After 61 (λ n r. IsExprWhere (in_set d) n value r)) at s
 
 -- Standard: WRITE
 abbrev pub IsWrite : ℕ → WriteTree → List ℕ → Type 0
@@ -244,15 +254,75 @@ AreArgumentsOf d returns at (Merge merges) s = AreSome IsMerge at merges s
 AreArgumentsOf d returns at (New news) s = ArePerhaps IsNew at news s
 AreArgumentsOf d returns at (Quit value) s = IsQuit returns at value s
 AreArgumentsOf d returns at (Read reads) s = AreSome (IsRead d) at reads s
-AreArgumentsOf d returns at (Set sets) s = AreSome IsSet at sets s
+AreArgumentsOf d returns at (Set sets) s = AreSome (IsSet d) at sets s
 AreArgumentsOf d returns at (Write writes) s = AreSome IsWrite at writes s
 
--- A command other than FOR: its word, an optional postconditional, its arguments. Standard: commands.
+-- A device: the expression that names it, and whether a timeout may follow it.
+abbrev pub DeviceTree : Type 0
+DeviceTree = Tree × Bool
+
+abbrev pub IsDevice : ℕ → DeviceTree → List ℕ → Type 0
+IsDevice at device s = Both (λ n r. IsValue n device.0 r) (λ n r. AreDetails n device.1 r) at s
+
+-- What commands of devices do: USE and CLOSE evaluate the names, as HANG evaluates its arguments, and no more. So does OPEN without
+-- a timeout. With one, it sets `$TEST` to either truth, as a claim of no names does, with a timeout in whose place the name is
+-- evaluated. That nothing else happens is a premise about the system.
+abbrev pub naming : List DeviceTree → ActionTree
+naming devices = Hang (map (λ device. device.0) devices)
+
+abbrev pub claim_of : DeviceTree → LockTree
+claim_of device = LockNames sign.Plus [] (Some device.0)
+
+abbrev pub opening : List DeviceTree → ActionTree
+opening devices = if list_any (λ device. device.1) devices then Lock (map claim_of devices) else naming devices
+
+abbrev pub AreDevices : (List DeviceTree → ActionTree) → ℕ → ActionTree → List ℕ → Type 0
+AreDevices does at action s = (devices : List DeviceTree) × (action ≡ does devices) × AreSome IsDevice at devices s
+
+-- NEW in the extended dialect, which may name traps too. If it names nothing else, it does nothing.
+abbrev pub IsNewed : ℕ → Option NewTree → List ℕ → Type 0
+IsNewed at None s = is_new_trap s ≡ true
+IsNewed at (Some x) s = IsNew at x s
+
+abbrev pub locals_of : List (Option NewTree) → List NewTree
+locals_of [] = []
+locals_of (None ∷ items) = locals_of items
+locals_of (Some x ∷ items) = x ∷ locals_of items
+
+abbrev pub new_or_nothing : List NewTree → ActionTree
+new_or_nothing [] = nothing
+new_or_nothing (x ∷ news) = New (x ∷ news)
+
+abbrev pub newing : List (Option NewTree) → ActionTree
+newing [] = New []
+newing (item ∷ items) = new_or_nothing (locals_of (item ∷ items))
+
+abbrev pub AreNews : ℕ → ActionTree → List ℕ → Type 0
+AreNews at action s = (items : List (Option NewTree)) × (action ≡ newing items) × ArePerhaps IsNewed at items s
+
+-- The arguments of a command that only the extended dialect has, and what it does.
+abbrev pub AreAdded : AddedWord → ℕ → ActionTree → List ℕ → Type 0
+AreAdded added.Close = AreDevices naming
+AreAdded added.Open = AreDevices opening
+AreAdded added.Use = AreDevices naming
+
+-- a word, an optional postconditional, arguments
+abbrev pub IsWordWith : (List ℕ → Bool) → Option Tree → (ℕ → List ℕ → Type 0) → ℕ → List ℕ → Type 0
+IsWordWith is_word condition Arguments at s =
+    Both (λ n r. is_word r ≡ true) (Both (λ n r. IsCondition n condition r) Arguments) at s
+
+-- What only the extended dialect reads: commands with words of their own, SET of a trap, and NEW of traps.
+abbrev pub IsExtended : Option Tree → ActionTree → ℕ → List ℕ → Type 0
+IsExtended condition action at s = ((w : AddedWord) × IsWordWith (is_added w) condition (λ n r. AreAdded w n action r) at s)
+    ⊎ IsWordWith (is_word_of (Set [])) condition (λ n r. IsTrap n action r) at s
+    ⊎ IsWordWith (is_word_of (New [])) condition (λ n r. AreNews n action r) at s
+
+-- A command other than FOR. Standard: commands.
 abbrev pub IsCommand : Dialect → Bool → ℕ → CommandTree → List ℕ → Type 0
 IsCommand d returns at (Does column condition action) s = (column ≡ column_at at)
     × ((condition ≡ None) ⊎ (may_have_condition action ≡ true))
-    × Both (λ n r. is_word_of action r ≡ true)
-    (Both (λ n r. IsCondition n condition r) (λ n r. AreArgumentsOf d returns n action r)) at s
+    × (IsWordWith (is_word_of action) condition (λ n r. AreArgumentsOf d returns n action r) at s
+    ⊎ ((d ≡ dialect.Extended) × IsExtended condition action at s))
 
 abbrev pub least_of : CommandTree → ℕ
 least_of (Does column condition action) = least_after (has_arguments action)

@@ -9,7 +9,7 @@ use Rattle.mlk_expr.specs.Theorem.{ExprEnds, ReferenceEnds, CalleeEnds, LabelEnd
 use Rattle.mlk_routine_arguments.specs.PartsRead.{first_of}
 use Rattle.mlk_syntax.specs.Trees.{VariableTree, Named, CallTree, Called, DoTree, DoCall, KillTree, KillOne}
 use Rattle.mlk_syntax.specs.Trees.{KillAllBut, MergeTree, MergeInto, ParameterTree, Once, Endless, Limited}
-use Rattle.mlk_syntax.specs.Trees.{ControlTree, Runs, NewTree, NewOne, NewAllBut, CommandTree, Does, CommandTrees}
+use Rattle.mlk_syntax.specs.Trees.{ControlTree, Runs, NewTree, NewOne, NewAllBut, ActionTree, CommandTree, Does, CommandTrees}
 use Rattle.mlk_routine_arguments.specs.CommandWords.{has_arguments}
 use Rattle.mlk_syntax.specs.Trees.{LockTree, LockNames}
 use Rattle.mlk_syntax.specs.Trees.{ReadTree, ReadText, ReadFormat, ReadLine, ReadCharacter, WriteTree, WriteValue}
@@ -18,7 +18,7 @@ use Rattle.mlk_syntax.specs.declared.command.Sign.{Sign}
 use Rattle.mlk_syntax.specs.declared.command.Sign.TheVariants as sign
 use Rattle.mlk_syntax.specs.declared.command.Part.{Part}
 use Rattle.mlk_syntax.specs.declared.command.Part.TheVariants as part
-use Rattle.mlk_routine_arguments.specs.CommandGrammar.{sign_text, is_mark, is_part_word}
+use Rattle.mlk_routine_arguments.specs.CommandGrammar.{sign_text, is_mark, is_part_word, DeviceTree}
 
 -- What may follow an argument: the line's end, a space, a comma, a closing parenthesis, a comment's semicolon.
 abbrev pub is_stop : List ℕ → Bool
@@ -98,6 +98,11 @@ abbrev pub NewEnds : NewTree → List ℕ → Type 0
 NewEnds (NewOne column name) rest = LabelEnds name rest
 NewEnds (NewAllBut names) rest = Unit {0}
 
+-- after an argument of NEW that may be a trap
+abbrev pub NewedEnds : Option NewTree → List ℕ → Type 0
+NewedEnds None rest = is_stop rest ≡ true
+NewedEnds (Some x) rest = NewEnds x rest
+
 -- a text begins with a byte that is not a parenthesis
 abbrev pub Begins : List ℕ → Type 0
 Begins s = (b : ℕ) × (t : List ℕ) × (s ≡ b ∷ t) × (b ≢ 40)
@@ -127,6 +132,13 @@ TimeoutEnds (Some t) rest = ExprEnds t rest
 
 abbrev pub LockEnds : LockTree → List ℕ → Type 0
 LockEnds (LockNames sign names timeout) rest = TimeoutEnds timeout rest
+
+-- after details, also after none, a stop only
+abbrev pub DetailsEnd : Bool → List ℕ → Type 0
+DetailsEnd is_timed rest = is_stop rest ≡ true
+
+abbrev pub DeviceEnds : DeviceTree → List ℕ → Type 0
+DeviceEnds device rest = is_stop rest ≡ true
 
 -- a run of bytes of one class, and what may follow it: none of them
 abbrev pub IsRun : (ℕ → Bool) → ℕ → Unit {0} → List ℕ → Type 0
@@ -164,6 +176,10 @@ StopEnds false rest = is_bare_end rest ≡ true
 
 abbrev pub CommandEnd : CommandTree → List ℕ → Type 0
 CommandEnd (Does column condition action) rest = StopEnds (has_arguments action) rest
+
+-- after SET of a trap: its argument is the only one
+abbrev pub TrapEnds : ActionTree → List ℕ → Type 0
+TrapEnds action rest = StopEnds (has_arguments action) rest
 
 -- a quoted text, and what may follow it: no quote
 abbrev pub IsPrompt : ℕ → List ℕ → List ℕ → Type 0

@@ -1,19 +1,29 @@
 -- Distinctions that the readers of commands make. For private clauses only. This project's own.
 use Rattle.std.specs.Prelude.{ℕ, ◌≡◌, ◌⊎◌, Bool, true, false, List, [], ◌∷◌, Option, Some, None, codes}
-use Rattle.std.specs.Prelude.{if◌then◌else◌, ◌+◌, drop, Result, Ok, Err}
+use Rattle.std.specs.Prelude.{if◌then◌else◌, ◌+◌, ◌++◌, drop, Result, Ok, Err}
 use Rattle.mlk_dialect.specs.declared.dialect.Dialect.{Dialect}
+use Rattle.mlk_dialect.specs.declared.dialect.Dialect.TheVariants as dialect
 use Rattle.mlk_text.specs.declared.failure.Failure.{Failure}
 use Rattle.mlk_text.specs.declared.fault.Fault.{Fault}
 use Rattle.mlk_text.specs.Lexemes.{is_letter}
 use Rattle.mlk_text.specs.Spellings.{IsWord}
-use Rattle.mlk_syntax.specs.ExprTrees.{Tree}
+use Rattle.mlk_syntax.specs.ExprTrees.{Tree, tree_of}
 use Rattle.mlk_expr_tokens.specs.Words.{is_either}
 use Rattle.mlk_routine_arguments.specs.declared.word.Word.{Word}
 use Rattle.mlk_routine_arguments.specs.declared.word.Word.TheVariants as word
+use Rattle.mlk_routine_arguments.specs.declared.word.AddedWord.{AddedWord}
+use Rattle.mlk_routine_arguments.specs.declared.word.AddedWord.TheVariants as added
 use Rattle.mlk_syntax.specs.Trees.{ActionTree, Do, Else, Halt, Hang, If, Job, Kill, Lock, Merge, New, Quit, Read, Set}
-use Rattle.mlk_syntax.specs.Trees.{Write}
-use Rattle.mlk_routine_arguments.specs.CommandWords.{has_arguments}
-use Rattle.mlk_routine_arguments.specs.CommandGrammar.{IsCondition, AreArgumentsOf}
+use Rattle.mlk_syntax.specs.Trees.{Write, NewTree}
+use Rattle.mlk_routine_arguments.specs.CommandWords.{has_arguments, is_added}
+use Rattle.mlk_routine_arguments.specs.declared.details.Device.{Device}
+use Rattle.mlk_routine_arguments.specs.declared.newed.NewItem.{NewItem}
+use Rattle.mlk_routine_arguments.specs.declared.newed.NewItem.TheVariants as new_item
+use Rattle.mlk_routine_arguments.specs.Traps.{IsTrap}
+use Rattle.mlk_syntax.specs.Views.{new_of}
+use Rattle.mlk_routine_arguments.specs.declared.details.Spot.{Spot}
+use Rattle.mlk_routine_arguments.specs.Details.{first_spot, after, after_all}
+use Rattle.mlk_routine_arguments.specs.CommandGrammar.{IsCondition, AreArgumentsOf, DeviceTree, AreAdded, AreNews}
 use Rattle.mlk_routine_arguments.specs.PartsRead.{byte_at}
 use Rattle.mlk_routine_arguments.specs.Faults.{IsFaulty}
 use Rattle.mlk_routine_arguments.specs.Ends.{starts, is_stop, is_bare_end, AfterEnds, StopEnds}
@@ -61,6 +71,7 @@ is_written word.Quit = is_either (codes "Q") (codes "QUIT")
 is_written word.Read = is_either (codes "R") (codes "READ")
 is_written word.Set = is_either (codes "S") (codes "SET")
 is_written word.Write = is_either (codes "W") (codes "WRITE")
+is_written (word.Added w) = is_added w
 
 -- the first of the words that the text spells
 abbrev pub first_word : List Word → List ℕ → Option Word
@@ -74,9 +85,24 @@ all_words = word.Do ∷ word.Else ∷ word.HaltOrHang ∷ word.Halt ∷ word.Han
 unfoldable pub word_of : List ℕ → Option Word
 word_of s = first_word all_words s
 
+-- the words that only the extended dialect has
+abbrev pub added_words : List Word
+added_words = word.Added added.Close ∷ word.Added added.Open ∷ word.Added added.Use ∷ []
+
+unfoldable pub added_word_of : List ℕ → Option Word
+added_word_of s = first_word added_words s
+
+abbrev pub if_none : Option Word → Option Word → Option Word
+if_none None other = other
+if_none (Some w) other = Some w
+
+abbrev pub word_in : Dialect → List ℕ → Option Word
+word_in dialect.Standard s = word_of s
+word_in dialect.Extended s = if_none (word_of s) (added_word_of s)
+
 -- a command's word
-abbrev pub IsNamed : ℕ → Word → List ℕ → Type 0
-IsNamed at w s = IsWord s × (word_of s ≡ Some w)
+abbrev pub IsNamed : Dialect → ℕ → Word → List ℕ → Type 0
+IsNamed d at w s = IsWord s × (word_in d s ≡ Some w)
 
 abbrev pub WordEnds : Word → List ℕ → Type 0
 WordEnds w rest = starts is_letter rest ≡ false
@@ -94,9 +120,24 @@ IsConditionOf w at condition s = ((condition ≡ None) ⊎ (has_condition w ≡ 
 abbrev pub ConditionEnds : Word → Option Tree → List ℕ → Type 0
 ConditionEnds w condition rest = has_condition w ≡ true → AfterEnds 58 condition rest
 
+-- a device of the code
+abbrev pub device_of : Device → DeviceTree
+device_of device = (tree_of device.name, device.is_timed)
+
+-- what only the extended dialect reads, by the word
+abbrev pub IsExtendedAction : Word → Dialect → ℕ → ActionTree → List ℕ → Type 0
+IsExtendedAction w d at action s = ((one : AddedWord) × (w ≡ word.Added one) × AreAdded one at action s)
+    ⊎ ((w ≡ word.Set) × (d ≡ dialect.Extended) × IsTrap at action s)
+    ⊎ ((w ≡ word.New) × (d ≡ dialect.Extended) × AreNews at action s)
+
+-- an argument of NEW, of the code
+abbrev pub newed_of : NewItem → Option NewTree
+newed_of (new_item.Local one) = Some (new_of one)
+newed_of new_item.Trap = None
+
 -- the arguments of one of the word's commands
 abbrev pub IsActionOf : Word → Dialect → Bool → ℕ → ActionTree → List ℕ → Type 0
-IsActionOf w d returns at action s = Means w action × AreArgumentsOf d returns at action s
+IsActionOf w d returns at action s = (Means w action × AreArgumentsOf d returns at action s) ⊎ IsExtendedAction w d at action s
 
 abbrev pub ActionEnds : ActionTree → List ℕ → Type 0
 ActionEnds action rest = StopEnds (has_arguments action) rest
@@ -110,6 +151,13 @@ IsNothing line at (Err e) = (is_bare_end (drop at line) ≡ false) × IsFaulty l
 abbrev pub IsSpaced : List ℕ → ℕ → Result ℕ (Failure Fault) → Type 0
 IsSpaced line at (Ok next) = (next ≡ at + 1) × (byte_at line at ≡ Some 32)
 IsSpaced line at (Err e) = (byte_at line at ≡ Some 32 → is_stop (drop (at + 1) line) ≡ true) × IsFaulty line e
+
+-- the longest front of a text that may be the front of details, the place after it, and the rest
+pub record IsLongest (s : List ℕ) (last : Spot) (rest : List ℕ) : Type 0 where
+  pub front : List ℕ
+  pub joined : s ≡ front ++ rest
+  pub runs : after_all (Some first_spot) front ≡ Some last
+  pub stuck : (b : ℕ) (more : List ℕ) → rest ≡ b ∷ more → after last b ≡ None
 
 -- the action of `H`, by its arguments
 abbrev pub halting : List Tree → ActionTree

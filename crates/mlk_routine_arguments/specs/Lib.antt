@@ -1,8 +1,11 @@
 pub mod CommandWords
+pub mod Details
+pub mod Traps
 pub mod CommandGrammar
 pub mod Faults
 pub mod PartsRead
 pub mod Ends
 pub mod Stops
 pub mod Begins
+pub mod TrapParts
 pub mod Kinds

@@ -15,7 +15,8 @@ use Rattle.mlk_syntax.specs.Trees.{ParameterTree, Once, Endless, Limited, LockTr
 use Rattle.mlk_syntax.specs.Trees.{ReadTree, ReadText, ReadFormat, ReadLine, ReadCharacter, WriteTree, WriteValue}
 use Rattle.mlk_syntax.specs.Trees.{WriteCharacter, WriteFormat, TargetTree, SetWhole, SetPart, SetTree, SetTo}
 use Rattle.mlk_routine_arguments.specs.Ends.{is_stop, Lacks, VariableEnds, CallEnds, DoEnds, JobEnds}
-use Rattle.mlk_routine_arguments.specs.Ends.{KillEnds, MergeEnds, NewEnds, ParameterEnds, LockEnds}
+use Rattle.mlk_routine_arguments.specs.CommandGrammar.{DeviceTree}
+use Rattle.mlk_routine_arguments.specs.Ends.{KillEnds, MergeEnds, NewEnds, NewedEnds, ParameterEnds, LockEnds, DeviceEnds}
 use Rattle.mlk_routine_arguments.specs.Ends.{FormatEnds, MostEnds, ReadEnds, WriteEnds, TargetEnds, SetEnds}
 
 -- a property of each stop holds before a stop
@@ -106,6 +107,10 @@ pub new_stop : (x : NewTree) (rest : List ℕ) → is_stop rest ≡ true → New
 new_stop (NewOne column name) rest h = name_stop name rest h
 new_stop (NewAllBut names) rest h = tt
 
+pub newed_stop : (x : Option NewTree) (rest : List ℕ) → is_stop rest ≡ true → NewedEnds x rest
+newed_stop None rest h = h
+newed_stop (Some x) rest h = new_stop x rest h
+
 pub merge_stop : (m : MergeTree) (rest : List ℕ) → is_stop rest ≡ true → MergeEnds m rest
 merge_stop (MergeInto target source) rest h = variable_stop source rest h
 
@@ -117,6 +122,9 @@ parameter_stop (Limited t u v) rest h = expr_stop v rest h
 pub lock_stop : (l : LockTree) (rest : List ℕ) → is_stop rest ≡ true → LockEnds l rest
 lock_stop (LockNames sign names None) rest h = h
 lock_stop (LockNames sign names (Some t)) rest h = expr_stop t rest h
+
+pub device_stop : (device : DeviceTree) (rest : List ℕ) → is_stop rest ≡ true → DeviceEnds device rest
+device_stop device rest h = h
 
 lacks_quote : (rest : List ℕ) → is_stop rest ≡ true → Lacks 34 rest
 lacks_quote =

@@ -18,8 +18,8 @@ use mlk_syntax::{Actual, Call, Callee, DoArgument};
 use mlk_text::{Code, Column, Failure, Fault, LeftOut};
 use std::alloc::Global;
 
-// Reads a label and a routine: the callee, and the byte after it.
-fn label_and_routine(
+/// Reads a label and a routine: the callee, and the byte after it.
+pub(crate) fn label_and_routine(
     alloc: Global,
     line: &[u8],
     at: usize,

@@ -297,13 +297,13 @@ impl Item for Target {
 
     ghost seen = { target_of };
 
-    ghost is = { λ d. IsTarget };
+    ghost is = { IsTarget };
 
     ghost ends = { TargetEnds };
 
     ghost stop = { target_stop };
 
-    ghost begin = { λ d. target_begins };
+    ghost begin = { target_begins };
 
     #[inline(always)]
     fn read(
@@ -321,13 +321,13 @@ impl Item for SetArgument {
 
     ghost seen = { set_of };
 
-    ghost is = { λ d. IsSet };
+    ghost is = { IsSet };
 
     ghost ends = { SetEnds };
 
     ghost stop = { set_stop };
 
-    ghost begin = { λ d. set_begins };
+    ghost begin = { set_begins };
 
     #[inline(always)]
     fn read(

@@ -11,7 +11,7 @@ ghost use Rattle.mlk_routine_arguments.specs.Stops.{expr_stop};
 ghost use Rattle.mlk_routine_arguments.specs.Begins.{expr_begins};
 ghost use Rattle.mlk_routine_arguments.specs.Ends.{AnyEnds, NextEnds, part_of, IsPartOpening, OneEnds, TargetEnds, SetEnds};
 ghost use Rattle.mlk_syntax.specs.Views.{target_of, set_of};
-ghost use Rattle.mlk_routine_arguments.specs.CommandGrammar.{is_part_word, IsOneOrEnclosed, IsTarget, IsSet};
+ghost use Rattle.mlk_routine_arguments.specs.CommandGrammar.{is_part_word, in_set, IsOneOrEnclosed, IsTarget, IsSet};
 
 use crate::fault::{leaves_out, refusal_at};
 use crate::item::{Item, enclosed_items, item_list};
@@ -19,10 +19,20 @@ use crate::part::{expression, has_byte, variable};
 use mlk_dialect::Dialect;
 use mlk_expr::Allows;
 use mlk_expr_tokens::words::{function_of, is_either, is_select};
-use mlk_syntax::{Expr, Part, SetArgument, Several, Target};
+use mlk_syntax::{Expr, Function, Part, SetArgument, Several, Target};
 use mlk_text::lexeme::word_at;
 use mlk_text::{Code, Failure, Fault, LeftOut};
 use std::alloc::{AllocError, Global};
+
+// What is allowed in the subscripts of a target, and in the value.
+fn allowed(dialect: Dialect) -> Allows
+    ensures { result ≡ in_set dialect }
+{
+    match dialect {
+        Dialect::Standard => Allows::Everything,
+        Dialect::Extended => Allows::Extended,
+    }
+}
 
 /// The function of a target that `word` names, or `None`.
 #[tactic(auto, unfolding(crate::specs::Ends::part_of))]
@@ -54,7 +64,7 @@ fn no_part(alloc: Global, word: &[u8], after: &[u8], at: usize) -> Failure<Fault
     if first != Some(b'(') {
         return leaves_out(alloc, LeftOut::Special, at);
     }
-    if function_of(word).is_none() && !is_select(word) {
+    if matches!(function_of(word), None | Some(Function::Increment)) && !is_select(word) {
         return leaves_out(alloc, LeftOut::Function, at);
     }
     refusal_at(alloc, Code::ArgumentForm, at)
@@ -137,7 +147,7 @@ fn part_target(
     at: usize,
 ) -> Result<(Target, usize), Failure<Fault>>
     requires { byte_at line.now at ≡ Some 36 }
-    ensures { ReadsPart target_of IsTarget TargetEnds line.now at result }
+    ensures { ReadsPart target_of (IsTarget dialect) TargetEnds line.now at result }
 {
     let (part, next) = opening(alloc, line, at)?;
     let (variable, next) = variable(alloc, Allows::NoCalls, line, next)?;
@@ -158,12 +168,12 @@ pub(crate) fn target(
     at: usize,
 ) -> Result<(Target, usize), Failure<Fault>>
     requires { at ≤ length line.now }
-    ensures { ReadsPart target_of IsTarget TargetEnds line.now at result }
+    ensures { ReadsPart target_of (IsTarget dialect) TargetEnds line.now at result }
 {
     if has_byte(line, at, b'$') {
         return part_target(alloc, dialect, line, at);
     }
-    let (whole, next) = variable(alloc, Allows::Everything, line, at)?;
+    let (whole, next) = variable(alloc, allowed(dialect), line, at)?;
     Ok((Target::Whole(whole), next))
 }
 
@@ -176,7 +186,7 @@ fn targets(
     at: usize,
 ) -> Result<(Several<Target>, usize), Failure<Fault>>
     requires { at ≤ length line.now }
-    ensures { ReadsPart (λ targets. map target_of targets) (IsOneOrEnclosed IsTarget)
+    ensures { ReadsPart (λ targets. map target_of targets) (IsOneOrEnclosed (IsTarget dialect))
         (OneEnds TargetEnds (byte_at line.now at)) line.now at result }
 {
     if has_byte(line, at, b'(') {
@@ -196,12 +206,12 @@ pub(crate) fn set(
     at: usize,
 ) -> Result<(SetArgument, usize), Failure<Fault>>
     requires { at ≤ length line.now }
-    ensures { ReadsPart set_of IsSet SetEnds line.now at result }
+    ensures { ReadsPart set_of (IsSet dialect) SetEnds line.now at result }
 {
     let (targets, next) = targets(alloc, dialect, line, at)?;
     if !has_byte(line, next, b'=') {
         return Err(refusal_at(alloc, Code::ArgumentForm, next));
     }
-    let (value, next) = expression(alloc, Allows::Everything, line, next + 1)?;
+    let (value, next) = expression(alloc, allowed(dialect), line, next + 1)?;
     Ok((SetArgument { targets, value }, next))
 }

@@ -6,16 +6,26 @@ ghost use Rattle.mlk_routine_arguments.specs.declared.word.Word.TheVariants as c
 ghost use Rattle.mlk_routine_arguments.specs.PartsRead.{ReadsPart, IsRefusal};
 ghost use Rattle.mlk_routine_arguments.specs.Faults.{IsFaulty};
 ghost use Rattle.mlk_routine_arguments.specs.CommandWords.{is_for};
-ghost use Rattle.mlk_routine_arguments.specs.Kinds.{first_word, word_of, has_condition, IsNamed, WordEnds};
+ghost use Rattle.mlk_routine_arguments.specs.Kinds.{first_word, word_of, added_word_of, word_in, has_condition};
+ghost use Rattle.mlk_routine_arguments.specs.Kinds.{IsNamed, WordEnds};
 
 use crate::fault::{no_command, refusal_at};
+use mlk_dialect::Dialect;
 use mlk_expr_tokens::words::is_either;
 use mlk_text::lexeme::word_at;
 use mlk_text::{Code, Failure, Fault, Value};
 use std::alloc::{AllocError, Global};
 
-/// A command other than FOR, by its word.
+/// A command that only the extended dialect has, by its word.
 #[derive(Clone, Copy, Debug, Drop, PartialEq, Eq)]
+pub enum AddedWord {
+    Close,
+    Open,
+    Use,
+}
+
+/// A command other than FOR, by its word.
+#[derive(Clone, Copy, Drop, PartialEq, Eq)]
 pub enum Word {
     Do,
     Else,
@@ -33,6 +43,7 @@ pub enum Word {
     Read,
     Set,
     Write,
+    Added(AddedWord),
 }
 
 impl Word {
@@ -96,6 +107,32 @@ fn word_of(word: &[u8]) -> Option<Word>
     }
 }
 
+// The command of the extended dialect alone that `word` names, or `None`.
+#[tactic(auto, unfolding(crate::specs::Kinds::added_word_of, crate::specs::Kinds::is_written, crate::specs::CommandWords::is_added))]
+fn added_word_of(word: &[u8]) -> Option<Word>
+    ensures { result ≡ added_word_of word.now }
+{
+    if is_either(b"C", b"CLOSE", word) {
+        Some(Word::Added(AddedWord::Close))
+    } else if is_either(b"O", b"OPEN", word) {
+        Some(Word::Added(AddedWord::Open))
+    } else if is_either(b"U", b"USE", word) {
+        Some(Word::Added(AddedWord::Use))
+    } else {
+        None
+    }
+}
+
+// The command that `word` names in a dialect, or `None`.
+fn word_in(dialect: Dialect, word: &[u8]) -> Option<Word>
+    ensures { result ≡ word_in dialect word.now }
+{
+    match (word_of(word), dialect) {
+        (None, Dialect::Extended) => added_word_of(word),
+        (found, _) => found,
+    }
+}
+
 /// Whether `word` is that of FOR.
 #[tactic(auto, unfolding(crate::specs::CommandWords::is_for))]
 pub fn is_for(word: &[u8]) -> bool
@@ -107,7 +144,7 @@ pub fn is_for(word: &[u8]) -> bool
     }
 }
 
-// The commands that are not read, short and whole.
+// The commands that are not read, or not in each dialect, short and whole.
 const LEFT_OUT: [(&[u8], &[u8]); 18] = [
     (b"B", b"BREAK"),
     (b"C", b"CLOSE"),
@@ -162,13 +199,18 @@ fn no_word(alloc: Global, word: &[u8], at: usize) -> Failure<Fault>
 }
 
 /// Reads the word of a command: the command, and the byte after the word.
-pub fn command_word(alloc: Global, line: &[u8], at: usize) -> Result<(Word, usize), Failure<Fault>>
+pub fn command_word(
+    alloc: Global,
+    dialect: Dialect,
+    line: &[u8],
+    at: usize,
+) -> Result<(Word, usize), Failure<Fault>>
     requires { at ≤ length line.now }
-    ensures { ReadsPart (λ w. w) IsNamed WordEnds line.now at result }
+    ensures { ReadsPart (λ w. w) (IsNamed dialect) WordEnds line.now at result }
 {
     let (_, bytes) = line.split_at(at);
     let (letters, _) = word_at(bytes);
-    match word_of(letters) {
+    match word_in(dialect, letters) {
         Some(word) => Ok((word, at + letters.len())),
         None => Err(no_word(alloc, letters, at)),
     }

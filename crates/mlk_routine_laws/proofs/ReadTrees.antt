@@ -1,8 +1,8 @@
 -- Routines that were read: their names and labels are spelled as such, their levels are those at which their lines are nested,
 -- QUIT has a value only where it ends a call, formals differ, and READ is into locals only.
 use Rattle.std.proofs.Common.{◌≡◌, ap, refl, sym, subst, ℕ, zero, suc, ◌<◌, Bool, true, false, List, [], ◌∷◌, ◌++◌, Option, Some, None, inl, inr, arith}
-use Rattle.std.specs.Prelude.{Contains, ◌==◌, ◌&&◌}
-use Rattle.std.specs.List.{list_all}
+use Rattle.std.specs.Prelude.{Contains, ◌==◌, ◌&&◌, map, if◌then◌else◌}
+use Rattle.std.specs.List.{list_all, list_any}
 use Rattle.std.proofs.lemmas.Bool.{and_from}
 use Rattle.std.proofs.lemmas.Bool.Decides.{nat_tests}
 use Rattle.std.proofs.lemmas.List.Elements.{Contains-append_left, Contains-append_right}
@@ -10,12 +10,14 @@ use Rattle.mlk_dialect.specs.declared.dialect.Dialect.{Dialect}
 use Rattle.mlk_text.specs.Spellings.{IsLabel}
 use Rattle.mlk_expr.specs.Grammar.{Spelled, AreNext, IsList}
 use Rattle.mlk_syntax.specs.Distinct.{AreDistinct}
-use Rattle.mlk_syntax.specs.ExprTrees.{LocalName}
-use Rattle.mlk_syntax.specs.Trees.{VariableTree, Named, ReadTree, ReadText, ReadFormat, ReadLine, ReadCharacter}
-use Rattle.mlk_syntax.specs.Trees.{Do, Else, Halt, Hang, If, Job, Kill, Lock, Merge, New, Quit, Read, Set, Write}
+use Rattle.mlk_syntax.specs.ExprTrees.{Tree, Lit, LocalName}
+use Rattle.mlk_syntax.specs.Trees.{VariableTree, Named, CallTree, NewTree, LockTree, ReadTree, ReadText, ReadFormat, ReadLine, ReadCharacter}
+use Rattle.mlk_syntax.specs.Trees.{ActionTree, Do, Else, Halt, Hang, If, Job, Kill, Lock, Merge, New, Quit, Read, Set, Write}
 use Rattle.mlk_syntax.specs.Trees.{Named_routine, CommandTree, Does, CommandTrees, finished, then_command, then_for, HeadTree, LineHead, LineTrees, no_lines, line}
 use Rattle.mlk_routine_arguments.specs.CommandGrammar as grammar
-use Rattle.mlk_routine_arguments.specs.CommandGrammar.{IsRead, IsCommand, AreCommands}
+use Rattle.mlk_routine_arguments.specs.declared.word.AddedWord.{AddedWord}
+use Rattle.mlk_routine_arguments.specs.declared.word.AddedWord.TheVariants as added
+use Rattle.mlk_routine_arguments.specs.CommandGrammar.{IsRead, AreArgumentsOf, AreAdded, locals_of, new_or_nothing, newing, IsExtended, IsCommand, AreCommands, DeviceTree, claim_of, naming, opening}
 use Rattle.mlk_routine.specs.RoutineGrammar.{IsFormals, IsLabelled, IsLine, IsBody, AreLines, IsRoutine, AreNested, heads_of, level_of}
 use Rattle.mlk_program.specs.Entries.{as_lines, label_of}
 use Rattle.mlk_machine_jobs.specs.Calling.{formals_in}
@@ -68,22 +70,55 @@ routines-spelled d stem text (Named_routine name lines) (texts, stemmed, named, 
 no : {A : Type 0} → false ≡ true → A
 no h = absurd (cc h)
 
+-- What only the extended dialect reads is HANG, LOCK, JOB or NEW.
+opening_as : (P : ActionTree → Type 0) → ((times : List Tree) → P (Hang times)) → ((locks : List LockTree) → P (Lock locks)) → (devices : List DeviceTree) → P (opening devices)
+opening_as P hangs locks devices = go (list_any (λ device. device.1) devices)
+  where
+    go : (b : Bool) → P (if b then Lock (map claim_of devices) else naming devices)
+    go true = locks (map claim_of devices)
+    go false = hangs (map (λ device. device.0) devices)
+
+added_as : (P : ActionTree → Type 0) → ((times : List Tree) → P (Hang times)) → ((locks : List LockTree) → P (Lock locks)) → (w : AddedWord) (at : ℕ) (a : ActionTree) (s : List ℕ) → AreAdded w at a s → P a
+added_as P hangs locks added.Close at a s (devices, same, list) = subst P (sym same) (hangs (map (λ device. device.0) devices))
+added_as P hangs locks added.Open at a s (devices, same, list) = subst P (sym same) (opening_as P hangs locks devices)
+added_as P hangs locks added.Use at a s (devices, same, list) = subst P (sym same) (hangs (map (λ device. device.0) devices))
+
+pub newing_as : (P : ActionTree → Type 0) → ((times : List Tree) → P (Hang times)) → ((news : List NewTree) → P (New news)) → (items : List (Option NewTree)) → P (newing items)
+newing_as P hangs news [] = news []
+newing_as P hangs news (item ∷ items) = go (locals_of (item ∷ items))
+  where
+    go : (locals : List NewTree) → P (new_or_nothing locals)
+    go [] = hangs (Lit [] ∷ [])
+    go (x ∷ locals) = news (x ∷ locals)
+
+extended_as : (P : ActionTree → Type 0) → ((times : List Tree) → P (Hang times)) → ((locks : List LockTree) → P (Lock locks)) → ((calls : List CallTree) → P (Job calls)) → ((news : List NewTree) → P (New news))
+    → (condition : Option Tree) (a : ActionTree) (at : ℕ) (s : List ℕ) → IsExtended condition a at s → P a
+extended_as P hangs locks jobs news condition a at s (inl (w, (front, rest, joined, word, (front', rest', joined', cond, more)))) = added_as P hangs locks w _ a rest' more
+extended_as P hangs locks jobs news condition a at s (inr (inl (front, rest, joined, word, (front', rest', joined', cond, (name, code, is, trap, plain, inl (same, ends)))))) = subst P (sym same) (hangs (Lit [] ∷ []))
+extended_as P hangs locks jobs news condition a at s (inr (inl (front, rest, joined, word, (front', rest', joined', cond, (name, code, is, trap, plain, inr (call, same, restarts)))))) = subst P (sym same) (jobs (call ∷ []))
+extended_as P hangs locks jobs news condition a at s (inr (inr (front, rest, joined, word, (front', rest', joined', cond, (items, same, more))))) = subst P (sym same) (newing_as P hangs news items)
+
+quits_by : (d : Dialect) (may : Bool) (column at : ℕ) (condition : Option Tree) (a : ActionTree) (s : List ℕ) → AreArgumentsOf d may at a s → answers (Does column condition a) ≡ true → may ≡ true
+quits_by d may column at condition (Quit (Some t)) s (returns, more) h = returns
+quits_by d may column at condition (Do calls) s is h = no h
+quits_by d may column at condition Else s is h = no h
+quits_by d may column at condition Halt s is h = no h
+quits_by d may column at condition (Hang times) s is h = no h
+quits_by d may column at condition (If conditions) s is h = no h
+quits_by d may column at condition (Job calls) s is h = no h
+quits_by d may column at condition (Kill kills) s is h = no h
+quits_by d may column at condition (Lock locks) s is h = no h
+quits_by d may column at condition (Merge merges) s is h = no h
+quits_by d may column at condition (New news) s is h = no h
+quits_by d may column at condition (Quit None) s is h = no h
+quits_by d may column at condition (Read reads) s is h = no h
+quits_by d may column at condition (Set sets) s is h = no h
+quits_by d may column at condition (Write writes) s is h = no h
+
 quits : (d : Dialect) (may : Bool) (at : ℕ) (c : CommandTree) (s : List ℕ) → IsCommand d may at c s → answers c ≡ true → may ≡ true
-quits d may at (Does column condition (Quit (Some t))) s (is, conditioned, (front, rest, joined, word, (front', rest', joined', cond, (returns, more)))) h = returns
-quits d may at (Does column condition (Do calls)) s is h = no h
-quits d may at (Does column condition Else) s is h = no h
-quits d may at (Does column condition Halt) s is h = no h
-quits d may at (Does column condition (Hang times)) s is h = no h
-quits d may at (Does column condition (If conditions)) s is h = no h
-quits d may at (Does column condition (Job calls)) s is h = no h
-quits d may at (Does column condition (Kill kills)) s is h = no h
-quits d may at (Does column condition (Lock locks)) s is h = no h
-quits d may at (Does column condition (Merge merges)) s is h = no h
-quits d may at (Does column condition (New news)) s is h = no h
-quits d may at (Does column condition (Quit None)) s is h = no h
-quits d may at (Does column condition (Read reads)) s is h = no h
-quits d may at (Does column condition (Set sets)) s is h = no h
-quits d may at (Does column condition (Write writes)) s is h = no h
+quits d may at (Does column condition a) s (is, conditioned, inl (front, rest, joined, word, (front', rest', joined', cond, more))) h = quits_by d may column _ condition a rest' more h
+quits d may at (Does column condition a) s (is, conditioned, inr (extended, also)) h =
+    extended_as (λ a. answers (Does column condition a) ≡ true → may ≡ true) (λ times h. no h) (λ locks h. no h) (λ calls h. no h) (λ news h. no h) condition a at s also h
 
 -- and none behind a FOR
 answer_at_end : (d : Dialect) (level loops at : ℕ) (cs : CommandTrees) (s : List ℕ) → AreCommands d level loops at cs s → AnswersAtEnd ((level == 1) && (loops == 0)) cs
@@ -166,21 +201,26 @@ argument_reads d at (ReadFormat tab) s is = refl
 argument_reads d at (ReadLine v most timeout) s (front, rest, joined, (variable, of), more) = local v of
 argument_reads d at (ReadCharacter v timeout) s (after, star, (front, rest, joined, (variable, of), more)) = local v of
 
+reads_by : (d : Dialect) (may : Bool) (column at : ℕ) (condition : Option Tree) (a : ActionTree) (s : List ℕ) → AreArgumentsOf d may at a s → reads_locals (Does column condition a) ≡ true
+reads_by d may column at condition (Read reads) s (after, space, list) = list_holds (IsRead d) reads_local (argument_reads d) reads _ after list
+reads_by d may column at condition (Do calls) s is = refl
+reads_by d may column at condition Else s is = refl
+reads_by d may column at condition Halt s is = refl
+reads_by d may column at condition (Hang times) s is = refl
+reads_by d may column at condition (If conditions) s is = refl
+reads_by d may column at condition (Job calls) s is = refl
+reads_by d may column at condition (Kill kills) s is = refl
+reads_by d may column at condition (Lock locks) s is = refl
+reads_by d may column at condition (Merge merges) s is = refl
+reads_by d may column at condition (New news) s is = refl
+reads_by d may column at condition (Quit value) s is = refl
+reads_by d may column at condition (Set sets) s is = refl
+reads_by d may column at condition (Write writes) s is = refl
+
 command_reads : (d : Dialect) (may : Bool) (at : ℕ) (c : CommandTree) (s : List ℕ) → IsCommand d may at c s → reads_locals c ≡ true
-command_reads d may at (Does column condition (Read reads)) s (is, conditioned, (front, rest, joined, word, (front', rest', joined', cond, (after, space, list)))) = list_holds (IsRead d) reads_local (argument_reads d) reads _ after list
-command_reads d may at (Does column condition (Do calls)) s is = refl
-command_reads d may at (Does column condition Else) s is = refl
-command_reads d may at (Does column condition Halt) s is = refl
-command_reads d may at (Does column condition (Hang times)) s is = refl
-command_reads d may at (Does column condition (If conditions)) s is = refl
-command_reads d may at (Does column condition (Job calls)) s is = refl
-command_reads d may at (Does column condition (Kill kills)) s is = refl
-command_reads d may at (Does column condition (Lock locks)) s is = refl
-command_reads d may at (Does column condition (Merge merges)) s is = refl
-command_reads d may at (Does column condition (New news)) s is = refl
-command_reads d may at (Does column condition (Quit value)) s is = refl
-command_reads d may at (Does column condition (Set sets)) s is = refl
-command_reads d may at (Does column condition (Write writes)) s is = refl
+command_reads d may at (Does column condition a) s (is, conditioned, inl (front, rest, joined, word, (front', rest', joined', cond, more))) = reads_by d may column _ condition a rest' more
+command_reads d may at (Does column condition a) s (is, conditioned, inr (extended, also)) =
+    extended_as (λ a. reads_locals (Does column condition a) ≡ true) (λ times. refl) (λ locks. refl) (λ calls. refl) (λ news. refl) condition a at s also
 
 commands_read : (d : Dialect) (level loops at : ℕ) (cs : CommandTrees) (s : List ℕ) → AreCommands d level loops at cs s → ReadsLocals cs
 commands_read d level loops at finished s h = tt

@@ -4,7 +4,7 @@ use crate::pattern::Pattern;
 use crate::template::Template;
 
 /// What a read of covered nodes needs.
-#[derive(Clone, Copy, Debug, Drop, PartialEq, Eq)]
+#[derive(Clone, Copy, Drop, PartialEq, Eq)]
 pub enum ReadPolicy {
     /// one of the rule's locks
     Locked,
@@ -14,7 +14,7 @@ pub enum ReadPolicy {
 
 /// A rule that protects the nodes of a pattern by one or two locks: a write needs each of them, and a read one of them, or
 /// none if reads are free.
-#[derive(Clone, Drop, Debug)]
+#[derive(Clone, Drop)]
 pub struct Cover {
     pub pattern: Pattern,
     pub lock: Template,

@@ -3,7 +3,7 @@
 use mlk_names::LockName;
 
 /// A family of lock names: a name and all below it, with a rank from 0 to 999,999.
-#[derive(Drop, Debug)]
+#[derive(Drop)]
 pub struct Family {
     pub name: LockName,
     pub rank: u32,

@@ -53,7 +53,7 @@ fn of_global(alloc: Global, rules: &RuleLists, name: &Name) -> Result<RuleLists,
 }
 
 /// The rules of each global that a pattern names.
-#[derive(Drop, Debug)]
+#[derive(Drop)]
 pub(crate) struct Groups {
     by_global: IndexMap<Name, RuleLists>,
 }

@@ -4,7 +4,7 @@ use mlk_names::Extent;
 use mlk_text::{List, Name, Value};
 
 /// An element of a pattern.
-#[derive(Clone, Drop, Debug)]
+#[derive(Clone, Drop)]
 pub enum Element {
     /// one value
     Literal(Value),
@@ -15,7 +15,7 @@ pub enum Element {
 }
 
 /// A pattern of nodes of a global: the nodes with such subscripts, and everything below them if it is a tree.
-#[derive(Clone, Drop, Debug)]
+#[derive(Clone, Drop)]
 pub struct Pattern {
     /// The global's name, without its `^`.
     pub global: Name,

@@ -15,7 +15,7 @@ use std::alloc::{AllocError, Global};
 use std::marker::Model;
 
 /// The rules of a file, as lists.
-#[derive(Drop, Debug)]
+#[derive(Drop)]
 pub struct RuleLists {
     pub families: List<Family>,
     pub covers: List<Cover>,
@@ -31,7 +31,7 @@ pub struct RuleLists {
 /// once and nothing else has it.
 ///
 /// Besides the lists, the rules are grouped by global, so that a reference looks only at its own. This doubles their memory.
-#[derive(Drop, Debug)]
+#[derive(Drop)]
 pub struct Rules {
     lists: RuleLists,
     groups: Groups,

@@ -4,7 +4,7 @@ use mlk_names::Root;
 use mlk_text::{List, Value};
 
 /// A subscript of a rule's lock.
-#[derive(Clone, Drop, Debug)]
+#[derive(Clone, Drop)]
 pub enum TemplatePart {
     /// one value
     Literal(Value),
@@ -13,7 +13,7 @@ pub enum TemplatePart {
 }
 
 /// The lock of a rule, for all nodes of the rule's pattern.
-#[derive(Clone, Drop, Debug)]
+#[derive(Clone, Drop)]
 pub struct Template {
     pub root: Root,
     pub parts: List<TemplatePart>,

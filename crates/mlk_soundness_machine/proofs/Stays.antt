@@ -1,6 +1,6 @@
 -- A step that begins and ends no block and no frame leaves the open ones unchanged.
 use Rattle.std.proofs.Common.{◌≡◌, ℕ, Bool, true, false, List, [], ◌∷◌, ◌++◌, drop, Option, Some, None, Ok, refl, ap, ◌∙◌}
-use Rattle.std.specs.Prelude.{◌&&◌}
+use Rattle.std.specs.Prelude.{◌&&◌, ◌==◌}
 use Rattle.std.specs.List.{list_all}
 use Rattle.mlk_names.specs.declared.lock_name.LockName.{LockName}
 use Rattle.mlk_names.specs.declared.reference.Access.{Access}
@@ -9,6 +9,7 @@ use Rattle.mlk_machine_locks.specs.Counts.{has_room}
 use Rattle.mlk_machine_locks.specs.declared.refusal.Refusal.TheVariants.{NotEnabled}
 use Rattle.mlk_syntax.specs.ExprTrees.{Tree, Choices, no_choices, choice as condition}
 use Rattle.mlk_syntax.specs.Trees.{RoutineTree, LineHead}
+use Rattle.mlk_program.specs.declared.entry.EntryId.{EntryId}
 use Rattle.mlk_numbers.specs.Operators.{truth_of_text}
 use Rattle.mlk_machine_jobs.specs.Commands.{action_parts}
 use Rattle.mlk_machine_jobs.specs.declared.choice.Choice.{Choice}
@@ -18,12 +19,13 @@ use Rattle.mlk_machine_jobs.specs.Tasks.{RunLines, RunCommands, Parameters, Fore
 use Rattle.mlk_machine_jobs.specs.Choices.{Stepped, doing, dropped, by_truth, fetched, touched, same_truth}
 use Rattle.mlk_machine_jobs.specs.Locking.{tested, claim_step, timed_claim, if_free}
 use Rattle.mlk_machine_jobs.specs.Lines.{tasks_if, selected, chosen, answered, to_end, next_line}
+use Rattle.mlk_machine_jobs.specs.Calling.{gone}
 use Rattle.mlk_machine_jobs.specs.Advance.{advance}
 use Rattle.mlk_machine_laws.proofs.Plain.{expressions, actions, assigns, signed, rounds_of, round_first, round_later, next_commands}
 use Rattle.mlk_machine_laws.proofs.Moves.{to_its_end, after_quit, merged, skip_if, run_if}
 use Rattle.mlk_soundness_machine.specs.History.{block_tests, frame_backs, count_frames}
 use Rattle.mlk_soundness_machine.specs.Safe.{is_steady}
-use Rattle.mlk_soundness_machine.proofs.Steps.{Comes, done, refused, unasked, of_value, of_truth, of_last, of_result, of_known}
+use Rattle.mlk_soundness_machine.proofs.Steps.{Comes, done, refused, unasked, of_value, of_truth, of_last, of_result, of_if, of_known}
 
 -- the same blocks and frames are open, whatever value a frame has
 pub record AreOpen (ms ns : List Mark) : Type 0 where
@@ -72,6 +74,8 @@ answer_open j (task.ReleaseAll ∷ ts) = record { tests = refl; frames = refl; c
 answer_open j (task.Call extrinsic callee given ∷ ts) = record { tests = refl; frames = refl; count = refl }
 answer_open j (task.CallIf callee given ∷ ts) = record { tests = refl; frames = refl; count = refl }
 answer_open j (task.Block lines ∷ ts) = record { tests = refl; frames = refl; count = refl }
+answer_open j (task.GoTo callee ∷ ts) = record { tests = refl; frames = refl; count = refl }
+answer_open j (task.GoIf callee ∷ ts) = record { tests = refl; frames = refl; count = refl }
 answer_open j (task.StartJob callee given ∷ ts) = record { tests = refl; frames = refl; count = refl }
 answer_open j (task.RunLines lines ∷ ts) = record { tests = refl; frames = refl; count = refl }
 answer_open j (task.RunCommands commands block ∷ ts) = record { tests = refl; frames = refl; count = refl }
@@ -129,6 +133,10 @@ module _ (us : List Task) where
       | false ↦ with_tasks _ refl
     ])
 
+    of_gone : (routines : List RoutineTree) (o : Option EntryId) → Comes Has (gone routines o us j)
+    of_gone routines None = refused Has NotEnabled
+    of_gone routines (Some e) = of_if Has (e.routine == j.routine) _ _ (with_tasks _ (to_its_end us)) (refused Has NotEnabled)
+
 -- each such task
 pub stays : (routines : List RoutineTree) (free : LockName → Bool) (c : Choice) (j : Job) (t : Task) (ts : List Task) → is_steady t ≡ true → Comes (Has (t ∷ ts)) (advance routines free c j (t ∷ ts))
 stays routines free c j (task.Evaluate t) ts h = unasked (Has ts) c _ (with_tasks ts _ (expressions t ts))
@@ -162,6 +170,8 @@ stays routines free c j (task.ReleaseAll) ts h = unasked (Has ts) c _ (with_task
 stays routines free c j (task.Call extrinsic callee given) ts h = absurd (cc h)
 stays routines free c j (task.CallIf callee given) ts h = absurd (cc h)
 stays routines free c j (task.Block lines) ts h = absurd (cc h)
+stays routines free c j (task.GoTo callee) ts h = unasked (Has ts) c _ (of_gone ts j routines _)
+stays routines free c j (task.GoIf callee) ts h = of_condition ts j c (λ t i. Ok (doing (tasks_if t (task.GoTo callee ∷ []) ++ ts) i)) (λ t. with_tasks ts _ (run_if t (task.GoTo callee ∷ []) ts (λ us. refl)))
 stays routines free c j (task.StartJob callee given) ts h = unasked (Has ts) c _ (with_tasks ts _ refl)
 stays routines free c j (task.RunLines lines) ts h = unasked (Has ts) c _ (of_line ts j lines)
 stays routines free c j (task.RunCommands commands block) ts h = unasked (Has ts) c _ (with_tasks ts _ (next_commands commands block ts))

@@ -1,5 +1,6 @@
 -- What a step yields.
-use Rattle.std.proofs.Common.{◌≡◌, ℕ, Bool, List, [], ◌∷◌, Option, Some, None, Ok, Err, refl, subst}
+use Rattle.std.proofs.Common.{◌≡◌, ℕ, Bool, true, false, List, [], ◌∷◌, Option, Some, None, Ok, Err, refl, subst}
+use Rattle.std.specs.Prelude.{if◌then◌else◌}
 use Rattle.mlk_machine_locks.specs.declared.refusal.Refusal.{Refusal}
 use Rattle.mlk_machine_jobs.specs.declared.choice.Choice.{Choice}
 use Rattle.mlk_machine_jobs.specs.declared.choice.Choice.TheVariants as choice
@@ -41,6 +42,10 @@ module _ (P : Job → Type 0) where
   pub of_result : (c : Choice) (o : Option (List ℕ)) (f : List ℕ → Stepped) → ((v : List ℕ) → ((u : List ℕ) → o ≡ Some u → v ≡ u) → Comes (f v)) → Comes (given_or_asked c o f)
   of_result c None f h = of_value c f (λ v. h v (λ u e. cc))
   of_result c (Some v) f h = unasked c (f v) (h v (λ u e. cc))
+
+  pub of_if : (b : Bool) (s t : Stepped) → Comes s → Comes t → Comes (if b then s else t)
+  of_if true s t p q = p
+  of_if false s t p q = q
 
   -- a truth, which is the known one
   pub of_known : (c : Choice) (o : Option Bool) (f : Bool → Stepped) → ((t : Bool) → ((u : Bool) → o ≡ Some u → t ≡ u) → Comes (f t)) → Comes (truth_or_asked c o f)

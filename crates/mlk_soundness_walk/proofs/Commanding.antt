@@ -38,7 +38,7 @@ use Rattle.mlk_soundness_machine.proofs.Sharing.{SharesByOwn}
 use Rattle.mlk_soundness_machine.proofs.Steps.{Comes, done}
 use Rattle.mlk_soundness_machine.proofs.Going.{Next, steady, less}
 use Rattle.mlk_soundness_machine.proofs.Values.{Safe, Fits, FitsValue}
-use Rattle.mlk_soundness_walk.specs.Commands.{Gives}
+use Rattle.mlk_soundness_walk.specs.Commands.{Gives, Jumps}
 use Rattle.mlk_soundness_walk.specs.Entries.{scope, EntryFits}
 use Rattle.mlk_machine_laws.specs.WellFormed.{answers, reads_locals}
 use Rattle.mlk_soundness_walk.specs.Ours.{IsOurs, AreOurs, IsOf}
@@ -111,6 +111,7 @@ module _ (routines : List RoutineTree) (rules : RuleLists) (entries : List (Entr
   module _ (block : LineTrees) (may : Bool) (ts : List Task) (A : State → Type 0) (go : (u : State) → A u → Fits routines sc w b [] n ts u)
       (skip : (c : Case) → S c → Fits routines sc w b [] n (skipped ts) (at_rest c)) (stop : (q : Quitting) → Q q → Fits routines sc w b [] n (quit ts) (at_rest q.case))
       (give : may ≡ true → (q : Quitting) → Q q → Gives routines w b sc n (to_end ts) (at_rest q.case))
+      (jump : may ≡ true → Jumps routines w b sc n (to_end ts))
       (in_a_block : (s : State) → Leads (do_block here in_block) s A S Q → Fits routines sc w b [] n (action_parts block (Do []) ++ ts) s)
       (shares : SharesByOwn sc.is_shared sc.is_shared) (deep : level ≡ b.level) where
     -- after each argument, in the states to which the earlier arguments lead from this one
@@ -158,6 +159,7 @@ module _ (routines : List RoutineTree) (rules : RuleLists) (entries : List (Entr
   module _ (block : LineTrees) (may : Bool) (ts : List Task)
       (skip : (c : Case) → S c → Fits routines sc w b [] n (skipped ts) (at_rest c)) (stop : (q : Quitting) → Q q → Fits routines sc w b [] n (quit ts) (at_rest q.case))
       (give : may ≡ true → (q : Quitting) → Q q → Gives routines w b sc n (to_end ts) (at_rest q.case))
+      (jump : may ≡ true → Jumps routines w b sc n (to_end ts))
       (in_a_block : (B : State → Type 0) → ((u : State) → B u → Fits routines sc w b [] n ts u) → (s : State) → Leads (do_block here in_block) s B S Q → Fits routines sc w b [] n (action_parts block (Do []) ++ ts) s)
       (shares : SharesByOwn sc.is_shared sc.is_shared) (deep : level ≡ b.level)
       (A : State → Type 0) (go : (u : State) → A u → Fits routines sc w b [] n ts u) where
@@ -168,11 +170,11 @@ module _ (routines : List RoutineTree) (rules : RuleLists) (entries : List (Entr
     then_few u m = go u (leads_few A S Q number word u m)
 
     abbrev Marks : ActionTree → State → Type 0
-    Marks a s = MarksFit block may ts Few then_few skip stop give (in_a_block Few then_few) shares deep a s
+    Marks a s = MarksFit block may ts Few then_few skip stop give jump (in_a_block Few then_few) shares deep a s
 
     runs : (condition : Option Tree) (a : ActionTree) → IsOf sc may (Does word condition a) → (s : State) → Marks a s → Leads (act here a) s Few S Q → Fits routines sc w b [] n (action_parts block a ++ ts) s
     runs condition a of s mark l =
-        act_fits block may ts Few then_few skip stop give (in_a_block Few then_few) shares deep word condition a of.ends of.reads (ours_right sc (in_option condition) (in_action a) of.ours) s mark l
+        act_fits block may ts Few then_few skip stop give jump (in_a_block Few then_few) shares deep word condition a of.ends of.reads (ours_right sc (in_option condition) (in_action a) of.ours) s mark l
 
     pub one_fits : (condition : Option Tree) (a : ActionTree) → IsOf sc may (Does word condition a) → (s : State) → ((begun : State) → holds_to here condition s begun → Marks a begun) → Leads (command here condition a) s A S Q
         → Fits routines sc w b [] n (command_parts block (Does word condition a) ++ ts) s

@@ -3,7 +3,7 @@ use Rattle.std.proofs.Common.{◌≡◌, ℕ, suc, ◌+◌, ◌-◌, true, false
 use Rattle.mlk_names.specs.declared.symbol.Sym.{Sym}
 use Rattle.mlk_names.specs.declared.reference.Extent.{Extent}
 use Rattle.mlk_names.specs.declared.reference.Extent.TheVariants as extent
-use Rattle.mlk_names.specs.declared.reference.Access.TheVariants.{Reads}
+use Rattle.mlk_names.specs.declared.reference.Access.TheVariants.{Reads, Writes}
 use Rattle.mlk_rules.specs.Computed.{answer}
 use Rattle.mlk_syntax.specs.declared.expr.Function.{Function}
 use Rattle.mlk_syntax.specs.declared.expr.Function.TheVariants as function
@@ -19,7 +19,7 @@ use Rattle.mlk_walk_state.specs.States.{without_last, last_captured}
 use Rattle.mlk_walk_exprs.specs.declared.walk.Walk.{Walk}
 use Rattle.mlk_walk_exprs.specs.declared.walk.Quit.{Quit}
 use Rattle.mlk_walk_exprs.specs.declared.reference.Use.{Use}
-use Rattle.mlk_walk_exprs.specs.declared.reference.Use.TheVariants.{ItsValue, Below, Beside, AllOfIt, Spelled}
+use Rattle.mlk_walk_exprs.specs.declared.reference.Use.TheVariants.{ItsValue, Below, Beside, AllOfIt, Incremented, Spelled}
 use Rattle.mlk_walk_exprs.specs.Walks.{Outcome, each}
 use Rattle.mlk_walk_exprs.specs.Spots.{Spot}
 use Rattle.mlk_walk_exprs.specs.References.{use_of, checked, read_fault, read_last}
@@ -39,6 +39,7 @@ use Rattle.mlk_soundness_walk.proofs.Goes.{covered_goes}
 pub no_name : (f : Function) → takes_name f ≡ false → use_of f ≡ ItsValue
 no_name function.Data h = cc h
 no_name function.Get h = cc h
+no_name function.Increment h = cc h
 no_name function.Order h = cc h
 no_name function.Query h = cc h
 no_name function.Name h = cc h
@@ -91,10 +92,12 @@ module _ (routines : List RoutineTree) (p : Spot) (w : World) (b : Level) (S : C
     later = each_tree more ++ (task.Drop (run.count_trees more) ∷ ts)
 
     -- a function of values
+    asked_fit : (s : State) → Then s → Fit slots n (each_tree more ++ (task.AskValue (run.count_trees more) ∷ ts)) s
+    asked_fit s l = others slots (task.AskValue (run.count_trees more) ∷ ts) s A l (λ u a. ask_fits routines p.scope w b slots n ts u (run.count_trees more) (k u a))
+
     pub values_asked : (s : State) → Then s → Fit slots n ((each_tree more ++ task.AskValue (run.count_trees more) ∷ []) ++ ts) s
     values_asked s l =
-        subst (λ z. Fit slots n z s) (sym (append_assoc (each_tree more) (task.AskValue (run.count_trees more) ∷ []) ts))
-        (others slots (task.AskValue (run.count_trees more) ∷ ts) s A l (λ u a. ask_fits routines p.scope w b slots n ts u (run.count_trees more) (k u a)))
+        subst (λ z. Fit slots n z s) (sym (append_assoc (each_tree more) (task.AskValue (run.count_trees more) ∷ []) ts)) (asked_fit s l)
 
     -- the value is there, and further arguments are evaluated and not used
     unused_fit : (u : State) → Then u → FitAny slots n later u
@@ -160,6 +163,19 @@ module _ (routines : List RoutineTree) (p : Spot) (w : World) (b : Level) (S : C
           form routines p.scope w b slots n later u name (count_subs subs) e Reads (sym (same (last_captured (count_subs subs) u) u) ∙ r.0)
           (unused_fit (without_last (count_subs subs) u) r.1)))
 
+      -- the node is written
+      increment_fits : (s : State) → Leads (evaluate_all p Incremented (tree (GlobalName column name subs) more)) s A S Q
+          → Fit slots n (((each_sub subs ++ task.FormReference name (count_subs subs) extent.Node Writes ∷ []) ++ (each_tree more ++ task.AskValue (run.count_trees more) ∷ [])) ++ ts) s
+      increment_fits s l =
+          let asked : List Task = each_tree more ++ (task.AskValue (run.count_trees more) ∷ ts) in
+          subst (λ z. Fit slots n z s)
+          (sym (then_unused (each_sub subs) (task.FormReference name (count_subs subs) extent.Node Writes) (task.AskValue (run.count_trees more)) (each_tree more) ts))
+          (opened Incremented (task.FormReference name (count_subs subs) extent.Node Writes ∷ asked) s l
+          (λ u q.
+          let r = allowed Incremented u q in
+          form routines p.scope w b slots n asked u name (count_subs subs) extent.Node Writes r.0
+          (asked_fit (without_last (count_subs subs) u) r.1)))
+
       -- all of the global is read
       query_fits : (s : State) → Leads (evaluate_all p AllOfIt (tree (GlobalName column name subs) more)) s A S Q
           → Fit slots n ((each_sub subs ++ task.Drop (count_subs subs) ∷ task.FormReference name 0 extent.Tree Reads ∷ unused more) ++ ts) s
@@ -224,6 +240,7 @@ module _ (routines : List RoutineTree) (p : Spot) (w : World) (b : Level) (S : C
         → Leads (evaluate_all p (use_of f) (tree (GlobalName column name subs) more)) s A S Q → Fit slots n (of_global f name subs more ++ ts) s
     global_fits function.Data y column name subs subscripts s l = read_fits column name subs subscripts Below extent.Tree (λ ss u. refl) s l
     global_fits function.Get y column name subs subscripts s l = read_fits column name subs subscripts ItsValue extent.Node (λ ss u. refl) s l
+    global_fits function.Increment y column name subs subscripts s l = increment_fits column name subs subscripts s l
     global_fits function.Query y column name subs subscripts s l = query_fits column name subs subscripts s l
     global_fits function.Name y column name subs subscripts s l = spelled_fits column name subs subscripts s l
     global_fits function.Order y column name no_subs subscripts s l = whole_fits column name subscripts s l

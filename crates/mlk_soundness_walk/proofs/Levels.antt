@@ -34,7 +34,7 @@ use Rattle.mlk_soundness_machine.specs.Described.{World, Level, Slot, IsWorld}
 use Rattle.mlk_soundness_machine.proofs.Listing.{own_lines}
 use Rattle.mlk_soundness_machine.proofs.Sharing.{SharesByOwn}
 use Rattle.mlk_soundness_machine.proofs.Values.{Fits, FitsValue}
-use Rattle.mlk_soundness_walk.specs.Commands.{Gives, KeepsBetween}
+use Rattle.mlk_soundness_walk.specs.Commands.{Gives, Jumps, KeepsBetween}
 use Rattle.mlk_soundness_walk.specs.Entries.{scope, EntryFits}
 use Rattle.mlk_soundness_walk.specs.Ours.{IsOurs, AreOurs, IsOf, AreLinesOf}
 use Rattle.mlk_soundness_walk.proofs.Alone.{Leads, leads_stay}
@@ -78,10 +78,10 @@ module _ (routines : List RoutineTree) (rules : RuleLists) (entries : List (Entr
     one_fits : (number level word m : ℕ) → level ≡ b.level → m ≤ bound → (may : Bool) (c : CommandTree) → IsOf sc may c → (ts : List Task) (s : State) → KeepsBetween routines w b (spot number level its word) c ts s → (A : State → Type 0) (S : Case → Type 0) (Q : Quit → Type 0)
         → Leads (λ v. one_command (spot number level its word) v c) s A S Q
         → ((u : State) → A u → Fits routines sc w b [] m ts u) → ((d : Case) → S d → Fits routines sc w b [] m (skipped ts) (at_rest d))
-        → ((q : Quit) → Q q → Fits routines sc w b [] m (quit ts) (at_rest q.case)) → (may ≡ true → (q : Quit) → Q q → Gives routines w b sc m (to_end ts) (at_rest q.case))
+        → ((q : Quit) → Q q → Fits routines sc w b [] m (quit ts) (at_rest q.case)) → (may ≡ true → (q : Quit) → Q q → Gives routines w b sc m (to_end ts) (at_rest q.case)) → (may ≡ true → Jumps routines w b sc m (to_end ts))
         → Fits routines sc w b [] m (command_parts block c ++ ts) s
-    one_fits number level word m deep le may (Does column condition a) of ts s between A S Q l go skip stop give =
-        commanding.one_fits routines rules entries e blk w world apart ranked well b bound lower number level its column S Q m le block may ts skip stop give
+    one_fits number level word m deep le may (Does column condition a) of ts s between A S Q l go skip stop give jump =
+        commanding.one_fits routines rules entries e blk w world apart ranked well b bound lower number level its column S Q m le block may ts skip stop give jump
         (in_block number level column S Q m le ts) shares deep A go condition a of s between l
 
     evaluate : (number level word m : ℕ) → m ≤ bound → (t : Tree) → AreOurs sc (in_tree t) → (slots : List Slot) (us : List Task) (s : State) (A : State → Type 0)

@@ -37,3 +37,4 @@ pub mod Closed
 pub mod Starting
 pub mod Listed
 pub mod OneJob
+pub mod Gotos

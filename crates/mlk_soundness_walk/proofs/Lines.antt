@@ -160,11 +160,14 @@ module _ (routines : List RoutineTree) (w : World) (b : Level) where
   abbrev Gives : Scope → ℕ → List Task → State → Type 0
   Gives = stated.Gives routines w b
 
+  abbrev Jumps : Scope → ℕ → List Task → Type 0
+  Jumps = stated.Jumps routines w b
+
   -- a command, and a FOR, if the walk finds nothing wrong: what follows it, what it skips to and what it quits to
   pub record CommandFits (p : Spot) (here : LineTree) (n : ℕ) : Type 1 where
     pub one : (may : Bool) (c : CommandTree) → IsOf p.scope may c → (ts : List Task) (s : State) → stated.KeepsBetween routines w b p c ts s → (A : State → Type 0) (S : Case → Type 0) (Q : Quit → Type 0) → Leads (λ v. one_command p v c) s A S Q
         → ((u : State) → A u → Fit p n ts u) → ((d : Case) → S d → Fit p n (skipped ts) (at_rest d)) → ((q : Quit) → Q q → Fit p n (quit ts) (at_rest q.case))
-        → (may ≡ true → (q : Quit) → Q q → Gives p.scope n (to_end ts) (at_rest q.case)) → Fit p n (command_parts here.1 c ++ ts) s
+        → (may ≡ true → (q : Quit) → Q q → Gives p.scope n (to_end ts) (at_rest q.case)) → (may ≡ true → Jumps p.scope n (to_end ts)) → Fit p n (command_parts here.1 c ++ ts) s
     pub loop : (may : Bool) (column index : ℕ) (control : Option ControlTree) (rest : CommandTrees) → AreOf p.scope may (then_for column index control rest) → (ts : List Task) → AreOnLine w p here (then_for column index control rest) ts → (s : State) (A : State → Type 0) (S : Case → Type 0) (Q : Quit → Type 0)
         → Leads (commands p (then_for column index control rest)) s A S Q
         → ((u : State) → A u → Fit p n ts u) → ((d : Case) → S d → Fit p n (skipped ts) (at_rest d)) → ((q : Quit) → Q q → Fit p n (quit ts) (at_rest q.case))
@@ -175,15 +178,15 @@ module _ (routines : List RoutineTree) (w : World) (b : Level) where
   RestFits p here cs n =
       (may : Bool) → AreOf p.scope may cs → (ts : List Task) (s : State) (A : State → Type 0) (S : Case → Type 0) (Q : Quit → Type 0) → Opens w p here cs ts s → Leads (commands p cs) s A S Q
       → ((u : State) → A u → Fit p n ts u) → ((d : Case) → S d → Fit p n (skipped ts) (at_rest d)) → ((q : Quit) → Q q → Fit p n (quit ts) (at_rest q.case))
-      → (may ≡ true → (q : Quit) → Q q → Gives p.scope n (to_end ts) (at_rest q.case)) → Fit p n (RunCommands cs here ∷ ts) s
+      → (may ≡ true → (q : Quit) → Q q → Gives p.scope n (to_end ts) (at_rest q.case)) → (may ≡ true → Jumps p.scope n (to_end ts)) → Fit p n (RunCommands cs here ∷ ts) s
 
   -- a statement about the outcomes of the walk, made for all that it leads to
   pub as_said : (p : Spot) (here : LineTree) (n : ℕ) → stated.CommandsAreSafe routines w b p here n → CommandFits p here n
   as_said p here n h = record {
-    one = λ may c of ts s between A S Q l go skip stop give.
-        h.one may c of ts s between l.clean (record { going = λ u i. go u (l.going u i); skips = λ d i. skip d (l.skips d i); quits = λ q i. stop q (l.quits q i); gives = λ y q i. give y q (l.quits q i) });
+    one = λ may c of ts s between A S Q l go skip stop give jump.
+        h.one may c of ts s between l.clean (record { going = λ u i. go u (l.going u i); skips = λ d i. skip d (l.skips d i); quits = λ q i. stop q (l.quits q i); gives = λ y q i. give y q (l.quits q i); jumps = jump });
     loop = λ may column index control rest of ts on s A S Q l go skip stop.
-        h.loop may column index control rest of ts on s l.clean (record { going = λ u i. go u (l.going u i); skips = λ d i. skip d (l.skips d i); quits = λ q i. stop q (l.quits q i); gives = λ y q i. absurd (false≢true y) });
+        h.loop may column index control rest of ts on s l.clean (record { going = λ u i. go u (l.going u i); skips = λ d i. skip d (l.skips d i); quits = λ q i. stop q (l.quits q i); gives = λ y q i. absurd (false≢true y); jumps = λ y. absurd (false≢true y) });
   }
 
   -- after each argument of a command
@@ -200,14 +203,14 @@ module _ (routines : List RoutineTree) (w : World) (b : Level) where
 
     pub commands_fit : (cs : CommandTrees) → AreOf p.scope may cs → (ts : List Task) (s : State) (A : State → Type 0) → Opens w p here cs ts s → Leads (commands p cs) s A S Q
         → ((u : State) → A u → Fit p n ts u) → ((d : Case) → S d → Fit p n (skipped ts) (at_rest d)) → ((q : Quit) → Q q → Fit p n (quit ts) (at_rest q.case))
-        → (may ≡ true → (q : Quit) → Q q → Gives p.scope n (to_end ts) (at_rest q.case)) → Fit p n (RunCommands cs here ∷ ts) s
-    commands_fit finished of ts s A o l go skip stop give = opened finished ts s o (go s (leads_stay A S Q s l))
-    commands_fit (then_command c rest) of ts s A o l go skip stop give = λ j d e.
+        → (may ≡ true → (q : Quit) → Q q → Gives p.scope n (to_end ts) (at_rest q.case)) → (may ≡ true → Jumps p.scope n (to_end ts)) → Fit p n (RunCommands cs here ∷ ts) s
+    commands_fit finished of ts s A o l go skip stop give jump = opened finished ts s o (go s (leads_stay A S Q s l))
+    commands_fit (then_command c rest) of ts s A o l go skip stop give jump = λ j d e.
         opened (then_command c rest) ts s o
         (each.one may c (first_of p.scope may c rest of) (RunCommands rest here ∷ ts) s (between p here c rest ts s o (rests p.scope w b s (idle j) d)) (λ u. Leads (commands p rest) u A S Q × Among u (one_command p (alone s) c).going) S Q
         (leads_there (λ u. Leads (commands p rest) u A S Q) S Q (λ v. one_command p v c) s (leads_both A S Q (λ v. one_command p v c) (commands p rest) (one_keeps p c) (commands_keep p once rest) s l))
-        (λ u m. commands_fit rest (rest_of p.scope may c rest of) ts u A (opens_rest w p here once c rest ts s u o m.1) m.0 go skip stop give) skip stop give) j d e
-    commands_fit (then_for column index control rest) of ts s A o l go skip stop give =
+        (λ u m. commands_fit rest (rest_of p.scope may c rest of) ts u A (opens_rest w p here once c rest ts s u o m.1) m.0 go skip stop give jump) skip stop give jump) j d e
+    commands_fit (then_for column index control rest) of ts s A o l go skip stop give jump =
         opened (then_for column index control rest) ts s o (each.loop may column index control rest of ts o.place s A S Q l go skip stop)
 
 -- on each line of a level, commands are safe
@@ -233,7 +236,8 @@ module _ (routines : List RoutineTree) (sc : Scope) (w : World) (b : Level) (aro
     (E : Task) (is : is_end E ≡ true) (ts : List Task) (tail : List task.LineTree) (none : none_follows tail ≡ true)
     (last : ((tail ≡ []) × (next_head around no_lines ≡ None)) ⊎ ((h : HeadTree) × (next_head around no_lines ≡ Some h) × (is_some (formals_of h) ≡ true)))
     (end : (e : LineEnd) (column : ℕ) (c : Case) → e.scope ≡ sc → e.level ≡ b.level → IsRight ends (level_end around e column c) → Fits routines sc w b [] n (E ∷ ts) (at_rest c))
-    (may : Bool) (give : may ≡ true → (e : LineEnd) (column : ℕ) (c : Case) → e.scope ≡ sc → e.level ≡ b.level → IsRight ends (level_end around e column c) → stated.Gives routines w b sc n (E ∷ ts) (at_rest c)) where
+    (may : Bool) (give : may ≡ true → (e : LineEnd) (column : ℕ) (c : Case) → e.scope ≡ sc → e.level ≡ b.level → IsRight ends (level_end around e column c) → stated.Gives routines w b sc n (E ∷ ts) (at_rest c))
+    (jump : may ≡ true → stated.Jumps routines w b sc n (E ∷ ts)) where
   abbrev Goes : List Task → State → Type 0
   Goes = Fits routines sc w b [] n
 
@@ -289,6 +293,7 @@ module _ (routines : List RoutineTree) (sc : Scope) (w : World) (b : Level) (aro
       (λ x m. later x (enters_next e refl deep.0 refl more refl x m))
       (λ q m. subst (λ z. Goes z (at_rest q.case)) (sym (to_the_end (as_lines more ++ tail))) (end e q.column q.case refl deep.0 m))
       (λ y q m. subst (λ z. stated.Gives routines w b sc n z (at_rest q.case)) (sym (end_is (as_lines more ++ tail))) (give y e q.column q.case refl deep.0 m))
+      (λ y. subst (λ z. stated.Jumps routines w b sc n z) (sym (end_is (as_lines more ++ tail))) (jump y))
       j (less_law sc w b c r.0 r.2 (at_rest c) refl (idle j) d) tasks
 
   -- when the job moves on to a line, a listed case describes it

@@ -124,5 +124,5 @@ module _ (routines : List RoutineTree) (p : Spot) (w : World) (b : Level) (world
       (opens_round w p here column index control rest ts on K d runs i (round_leads p column index control rest once s A S Q l d i).clean) (round_leads p column index control rest once s A S Q l d i) again
       (λ x h. subst (λ z. Fits routines p.scope w b [] k z (at_rest x)) (sym (round_skips K ts is)) (again (at_rest x) h))
       (λ q h. subst (λ z. Fits routines p.scope w b [] k z (at_rest q.case)) (sym (round_quits K ts is)) (out (at_rest q.case) h))
-      (λ y. absurd (false≢true y)))
+      (λ y. absurd (false≢true y)) (λ y. absurd (false≢true y)))
       qs (ours_left p.scope (flat_map in_parameter qs) (in_commands rest) of.ours) m le s A (control_leads p column index control rest once s A S Q l) go (λ k lt u i. go k lt u (after_quits p column index control rest once s A S Q l u i))

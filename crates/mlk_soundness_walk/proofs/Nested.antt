@@ -128,7 +128,7 @@ module _ (routines : List RoutineTree) (p : Spot) (w : World) (b : Level) (world
           (into_level routines p.scope w b level (task.Block block ∷ ts) (RunLines (as_lines block) ∷ E ∷ ts) m to refl refl marked_in (λ marked.
           one_fewer routines p.scope w level n m one_less to
           (lines_fit routines p.scope w level OfBlock ends once n E refl ts [] refl (inl (refl, refl)) (λ e column f same deep right. leaves marked e deep column f (last_saved f.saved) refl right)
-          false (λ y. absurd (false≢true y)) block are (each level refl) leveled passes (entering s.case) (subst (λ z. Enters routines p.scope w level OfBlock ends once n E refl ts [] refl (inl (refl, refl)) (λ e column f same deep right. leaves marked e deep column f (last_saved f.saved) refl right) false (λ y. absurd (false≢true y)) z (entering s.case)) (sym is) in_list) (doing (RunLines (as_lines block) ∷ E ∷ ts) j) here (ap (λ z. RunLines z ∷ E ∷ ts) (sym (append-nil (as_lines block)))))))))
+          false (λ y. absurd (false≢true y)) (λ y. absurd (false≢true y)) block are (each level refl) leveled passes (entering s.case) (subst (λ z. Enters routines p.scope w level OfBlock ends once n E refl ts [] refl (inl (refl, refl)) (λ e column f same deep right. leaves marked e deep column f (last_saved f.saved) refl right) false (λ y. absurd (false≢true y)) (λ y. absurd (false≢true y)) z (entering s.case)) (sym is) in_list) (doing (RunLines (as_lines block) ∷ E ∷ ts) j) here (ap (λ z. RunLines z ∷ E ∷ ts) (sym (append-nil (as_lines block)))))))))
 
   -- DO of a block
   pub block_fits : (head : HeadTree) (inside more : LineTrees) (ts : List Task) → AreWithin (line head inside more) (own_lines p.scope w) → Inside (suc b.level) (line head inside more) → AreLinesOf p.scope (suc b.level) false (line head inside more)

@@ -26,7 +26,7 @@ use Rattle.mlk_soundness_machine.proofs.Going.{step, less}
 use Rattle.mlk_soundness_machine.proofs.Facts.{commands_facts}
 use Rattle.mlk_soundness_machine.proofs.Values.{Safe, Fits, FitsValue}
 use Rattle.mlk_soundness_machine.specs.Places.{alone}
-use Rattle.mlk_soundness_walk.specs.Commands.{AreOnLine, Gives, KeepsBetween}
+use Rattle.mlk_soundness_walk.specs.Commands.{AreOnLine, Gives, Jumps, KeepsBetween}
 use Rattle.mlk_soundness_walk.specs.Ours.{IsOf, AreOurs, AreOf}
 use Rattle.mlk_soundness_walk.proofs.Alone.{Leads, leads_both, leads_stay, leads_there}
 use Rattle.mlk_soundness_walk.proofs.Places.{Opens, opens_rest, opens_round, comes_to, begins_round}
@@ -52,7 +52,7 @@ module _ (routines : List RoutineTree) (p : Spot) (w : World) (b : Level) (world
     → ((u : State) → A u → FitsValue routines p.scope w b t slots m us u) → Fits routines p.scope w b slots m (task.Evaluate t ∷ us) s)
     (one : (m : ℕ) → m ≤ n → (may : Bool) (c : CommandTree) → IsOf p.scope may c → (ts : List Task) (s : State) → KeepsBetween routines w b p c ts s → (A : State → Type 0) (S : Case → Type 0) (Q : Quit → Type 0) → Leads (λ v. one_command p v c) s A S Q
     → ((u : State) → A u → Fits routines p.scope w b [] m ts u) → ((d : Case) → S d → Fits routines p.scope w b [] m (skipped ts) (at_rest d))
-    → ((q : Quit) → Q q → Fits routines p.scope w b [] m (quit ts) (at_rest q.case)) → (may ≡ true → (q : Quit) → Q q → Gives routines w b p.scope m (to_end ts) (at_rest q.case))
+    → ((q : Quit) → Q q → Fits routines p.scope w b [] m (quit ts) (at_rest q.case)) → (may ≡ true → (q : Quit) → Q q → Gives routines w b p.scope m (to_end ts) (at_rest q.case)) → (may ≡ true → Jumps routines w b p.scope m (to_end ts))
     → Fits routines p.scope w b [] m (command_parts here.1 c ++ ts) s) where
   abbrev At : ℕ → List Task → State → Type 0
   At m ts s = Fits routines p.scope w b [] m ts s
@@ -72,20 +72,20 @@ module _ (routines : List RoutineTree) (p : Spot) (w : World) (b : Level) (world
       forever_fits routines w b p rest here ts m (cs p column index None rest once s A S Q l) (ended_in found) (quit_in found)
       (λ k lt c i first second third.
       inside k (omega (arith, lt, le)) false its (Forever rest here ∷ ts) (at_rest c) (λ u. Among u (ended_in found)) (λ d. Among (at_rest d) (ended_in found)) (λ q. Among (at_rest q.case) (quit_in found))
-      (opens_round w p here column index None rest ts on (Forever rest here) c refl i (round_leads p column index None rest once s A S Q l c i).clean) (round_leads p column index None rest once s A S Q l c i) first second third (λ y. absurd (false≢true y)))
+      (opens_round w p here column index None rest ts on (Forever rest here) c refl i (round_leads p column index None rest once s A S Q l c i).clean) (round_leads p column index None rest once s A S Q l c i) first second third (λ y. absurd (false≢true y)) (λ y. absurd (false≢true y)))
       (again p column index rest once s A S Q l) m (omega arith) (λ u i. go u (after_quits p column index None rest once s A S Q l u i)) s (enters p column index rest once s A S Q l)
   loop_fits column index (Some (Runs c name qs)) rest inside m le may of ts on s A S Q l go =
       for_fits routines p w b world here n once evaluate column index c name qs rest may of ts on inside m le s A S Q l
       (λ k lt u a j d e. at_most routines p.scope w b j k m lt (go u a j d e))
 
   pub rest_fits : (cs : CommandTrees) (m : ℕ) → m ≤ n → RestFits routines w b p here cs m
-  rest_fits finished m le may of ts s A S Q o l go skip stop give = opened m finished ts s o (go s (leads_stay A S Q s l))
-  rest_fits (then_command c rest) m le may of ts s A S Q o l go skip stop give = λ j d e.
+  rest_fits finished m le may of ts s A S Q o l go skip stop give jump = opened m finished ts s o (go s (leads_stay A S Q s l))
+  rest_fits (then_command c rest) m le may of ts s A S Q o l go skip stop give jump = λ j d e.
       opened m (then_command c rest) ts s o
       (one m le may c (first_of p.scope may c rest of) (RunCommands rest here ∷ ts) s (between routines w b p here c rest ts s o (rests p.scope w b s (idle j) d)) (λ u. Leads (commands p rest) u A S Q × Among u (one_command p (alone s) c).going) S Q
       (leads_there (λ u. Leads (commands p rest) u A S Q) S Q (λ v. one_command p v c) s (leads_both A S Q (λ v. one_command p v c) (commands p rest) (one_keeps p c) (commands_keep p once rest) s l))
-      (λ u h. rest_fits rest m le may (rest_of p.scope may c rest of) ts u A S Q (opens_rest w p here once c rest ts s u o h.1) h.0 go skip stop give) skip stop give) j d e
-  rest_fits (then_for column index control rest) m le may of ts s A S Q o l go skip stop give =
+      (λ u h. rest_fits rest m le may (rest_of p.scope may c rest of) ts u A S Q (opens_rest w p here once c rest ts s u o h.1) h.0 go skip stop give jump) skip stop give jump) j d e
+  rest_fits (then_for column index control rest) m le may of ts s A S Q o l go skip stop give jump =
       opened m (then_for column index control rest) ts s o (loop_fits column index control rest (λ k lt. rest_fits rest k lt) m le may of ts o.place s A S Q l go)
 
   -- all commands of a line, from single ones

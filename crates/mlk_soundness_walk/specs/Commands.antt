@@ -1,18 +1,21 @@
 -- Commands are safe for a number of steps if the walk finds nothing wrong with them. This project's own choice; the laws of
 -- this crate use these definitions.
-use Rattle.std.specs.Prelude.{◌≡◌, ℕ, Bool, true, false, List, [], ◌∷◌, ◌++◌, Option, None}
+use Rattle.std.specs.Prelude.{◌≡◌, ◌<◌, ℕ, Bool, true, false, List, [], ◌∷◌, ◌++◌, Option, Some, None}
 use Rattle.mlk_names.specs.Lists.{Among}
 use Rattle.mlk_syntax.specs.Trees.{RoutineTree, CommandTree, Does, ControlTree, CommandTrees, then_for}
+use Rattle.mlk_program.specs.declared.entry.EntryId.{EntryId}
 use Rattle.mlk_cert_parts.specs.declared.case.Case.{Case}
-use Rattle.mlk_machine_jobs.specs.Calling.{commands_in}
+use Rattle.mlk_machine_jobs.specs.Calling.{commands_in, lines_after}
 use Rattle.mlk_machine_jobs.specs.Lines.{skipped, quit, to_end, answered, command_parts, for_parts}
-use Rattle.mlk_machine_jobs.specs.Tasks.{Task, Job, LineTree, NextArgument}
-use Rattle.mlk_walk_state.specs.Scope.{Scope}
+use Rattle.mlk_machine_jobs.specs.Tasks.{Task, Job, LineTree, RunLines, NextArgument}
+use Rattle.mlk_walk_state.specs.Cases.{is_listed}
+use Rattle.mlk_walk_state.specs.Scope.{Scope, listed, line_within}
 use Rattle.mlk_walk_state.specs.States.{at_rest}
 use Rattle.mlk_walk_state.specs.declared.state.State.{State}
 use Rattle.mlk_walk_exprs.specs.Spots.{Spot}
 use Rattle.mlk_walk_exprs.specs.declared.walk.Quit.{Quit}
 use Rattle.mlk_walk_exprs.specs.declared.walk.Walk.{Walk}
+use Rattle.mlk_walk_lines.specs.Endings.{number_of}
 use Rattle.mlk_walk_lines.specs.Loops.{commands, one_command, at_word}
 use Rattle.mlk_walk_laws.specs.Fewer.{IsClean}
 use Rattle.mlk_soundness_machine.specs.Described.{World, Level, Bare, idle, Describes}
@@ -37,12 +40,21 @@ module _ (routines : List RoutineTree) (w : World) (b : Level) where
   Gives sc n us s = (j : Job) (v : List ℕ) (more : List (List ℕ)) → Describes sc w b (Bare None ∷ []) s (idle j) → j.values ≡ v ∷ more
       → SafeIn routines sc w b n (answered j us)
 
-  -- each outcome of a walk is safe: where it continues, with the tasks that follow; where it skips or quits, with what is left
+  -- each line of the entry, in each case that is listed at it, is safe for fewer steps if these tasks follow its routine's lines
+  abbrev pub Jumps : Scope → ℕ → List Task → Type 0
+  Jumps sc n us =
+      (k : ℕ) → k < n → (e : EntryId) (l : LineTree) → line_within sc e ≡ Some l
+      → (c : Case) → is_listed (listed sc (number_of l.0) 0) c ≡ true
+      → Fit routines sc w b [] k (RunLines (lines_after routines e) ∷ us) (at_rest c)
+
+  -- each outcome of a walk is safe: where it continues, with the tasks that follow; where it skips or quits, with what is left; and
+  -- if a QUIT with a value may be there, so is each line that GOTO may name
   pub record AreSafe (p : Spot) (may : Bool) (n : ℕ) (ts : List Task) (found : Walk) : Type 0 where
     pub going : (u : State) → Among u found.going → IsSafe p n ts u
     pub skips : (c : Case) → Among c found.skips → IsSafe p n (skipped ts) (at_rest c)
     pub quits : (q : Quit) → Among q found.quits → IsSafe p n (quit ts) (at_rest q.case)
     pub gives : may ≡ true → (q : Quit) → Among q found.quits → Gives p.scope n (to_end ts) (at_rest q.case)
+    pub jumps : may ≡ true → Jumps p.scope n (to_end ts)
 
   -- after each argument of a command that begins in this state, a job meets its invariants, whatever tasks follow
   abbrev pub KeepsBetween : Spot → CommandTree → List Task → State → Type 0

@@ -162,7 +162,7 @@ fn add_function<'a>(
 }
 
 // Adds the steps by which `function` reads the global that is its first argument: $DATA reads the tree of its node, $ORDER that
-// above it, $QUERY the whole global, $NAME nothing.
+// above it, $QUERY the whole global, $NAME nothing. $INCREMENT reads its node: what it writes there depends on no earlier read.
 #[cycle(writing)]
 fn add_read<'a>(
     writer: &mut Writer<'_, 'a>,

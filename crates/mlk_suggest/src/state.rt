@@ -9,7 +9,7 @@ use std::alloc::{AllocError, Global};
 const MOST_CASES: usize = 16;
 
 /// What is known of `$TEST`.
-#[derive(Clone, Copy, Debug, Drop, PartialEq, Eq)]
+#[derive(Clone, Copy, Drop, PartialEq, Eq)]
 pub(crate) enum Test {
     /// it has the value that it had when the unit began
     Kept,
@@ -18,7 +18,7 @@ pub(crate) enum Test {
 }
 
 /// One of the ways in which a place may be reached.
-#[derive(Clone, Copy, Debug, Drop, PartialEq, Eq)]
+#[derive(Clone, Copy, Drop, PartialEq, Eq)]
 pub(crate) struct Case {
     pub(crate) test: Test,
     pub(crate) holding: Holding,

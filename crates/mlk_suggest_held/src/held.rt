@@ -13,19 +13,19 @@ const MOST_HELD: usize = 16;
 const MOST_CHANGED: usize = 256;
 
 /// A lock name: its number in `Tables`.
-#[derive(Clone, Copy, Debug, Drop, PartialEq, Eq, PartialOrd, Ord, Hash)]
+#[derive(Clone, Copy, Drop, PartialEq, Eq, PartialOrd, Ord, Hash)]
 pub struct Lock {
     index: usize,
 }
 
 /// A set of held locks: the number of a `Held` in `Tables`.
-#[derive(Clone, Copy, Debug, Drop, PartialEq, Eq, PartialOrd, Ord, Hash)]
+#[derive(Clone, Copy, Drop, PartialEq, Eq, PartialOrd, Ord, Hash)]
 pub struct Holding {
     index: usize,
 }
 
 /// A set of changed locals: the number of their list in `Tables`, where 0 is the empty one.
-#[derive(Clone, Copy, Debug, Drop, PartialEq, Eq, Hash)]
+#[derive(Clone, Copy, Drop, PartialEq, Eq, Hash)]
 pub struct Changes {
     index: usize,
 }

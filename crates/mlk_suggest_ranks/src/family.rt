@@ -15,7 +15,7 @@ pub fn is_plain(text: &[u8]) -> bool {
 }
 
 /// The name of a family: a root, and a first subscript if the locks with that root are in several families.
-#[derive(Clone, Copy, Debug, Drop, PartialEq, Eq, PartialOrd, Ord, Hash)]
+#[derive(Clone, Copy, Drop, PartialEq, Eq, PartialOrd, Ord, Hash)]
 pub struct FamilyName {
     pub root: LockRoot,
     pub constant: Option<Word>,

@@ -8,7 +8,7 @@ use mlk_text::push_sparing;
 use std::alloc::{AllocError, Global};
 
 /// An element of a pattern.
-#[derive(Clone, Copy, Debug, Drop, PartialEq, Eq)]
+#[derive(Clone, Copy, Drop, PartialEq, Eq)]
 pub enum Element {
     /// a constant
     Constant(Word),

@@ -6,7 +6,7 @@ use mlk_text::push_sparing;
 use std::alloc::{AllocError, Global};
 
 /// A subscript of a rule's lock.
-#[derive(Clone, Copy, Debug, Drop, PartialEq, Eq, PartialOrd, Ord, Hash)]
+#[derive(Clone, Copy, Drop, PartialEq, Eq, PartialOrd, Ord, Hash)]
 pub enum Part {
     /// a constant
     Constant(Word),
@@ -15,7 +15,7 @@ pub enum Part {
 }
 
 /// The lock of a rule: its root and subscripts.
-#[derive(Clone, Debug, Drop, PartialEq, Eq, Hash)]
+#[derive(Clone, Drop, PartialEq, Eq, Hash)]
 pub struct LockPattern {
     pub root: LockRoot,
     pub parts: Vec<Part>,

@@ -9,7 +9,7 @@ use std::alloc::{AllocError, Global};
 pub(crate) const WHOLE: usize = 1000;
 
 /// The number of writes and reads of a global at which a lock is held.
-#[derive(Clone, Copy, Debug, Drop, PartialEq, Eq)]
+#[derive(Clone, Copy, Drop, PartialEq, Eq)]
 pub struct Score {
     /// the number of places that write it
     pub writes: usize,

@@ -93,7 +93,7 @@ fn add_choices<'a>(draft: &mut Draft<'a>, choices: &'a [(Expr, Expr)]) -> Result
     Ok(())
 }
 
-// Adds the steps of the arguments of a function, and what it reads of a global that is its first argument.
+// Adds the steps of the arguments of a function, and what it touches of a global that is its first argument.
 #[cycle(drafting)]
 fn add_function<'a>(
     draft: &mut Draft<'a>,
@@ -104,7 +104,7 @@ fn add_function<'a>(
         [Expr::Global(column, name, subscripts), rest @ ..] => {
             add_subscripts(draft, subscripts)?;
             add_exprs(draft, rest)?;
-            add_read(draft, function, *column, name, subscripts)
+            add_touch(draft, function, *column, name, subscripts)
         }
         _ => add_exprs(draft, arguments),
     }
@@ -118,8 +118,8 @@ fn subscripts_above(subscripts: &[Subscript]) -> &[Subscript] {
     }
 }
 
-// Adds what a function reads of the global that is its first argument.
-fn add_read<'a>(
+// Adds what a function touches of the global that is its first argument.
+fn add_touch<'a>(
     draft: &mut Draft<'a>,
     function: Function,
     column: Column,
@@ -139,6 +139,9 @@ fn add_read<'a>(
             )
         }
         Function::Query => draft.touch(column, name, &[], Extent::Tree, Access::Reads),
+        Function::Increment => {
+            draft.touch(column, name, subscripts, Extent::Node, Access::Writes)
+        }
         _ => draft.touch(column, name, subscripts, Extent::Node, Access::Reads),
     }
 }

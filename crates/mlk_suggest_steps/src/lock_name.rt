@@ -6,7 +6,7 @@ use mlk_text::push_sparing;
 use std::alloc::{AllocError, Global};
 
 /// What is known of a subscript's value.
-#[derive(Clone, Copy, Debug, Drop, PartialEq, Eq, PartialOrd, Ord, Hash)]
+#[derive(Clone, Copy, Drop, PartialEq, Eq, PartialOrd, Ord, Hash)]
 pub enum Symbol {
     /// a constant
     Constant(Word),
@@ -47,14 +47,14 @@ impl Symbol {
 }
 
 /// The root of a lock name: a global's name without its caret, or a local's.
-#[derive(Clone, Copy, Debug, Drop, PartialEq, Eq, PartialOrd, Ord, Hash)]
+#[derive(Clone, Copy, Drop, PartialEq, Eq, PartialOrd, Ord, Hash)]
 pub enum LockRoot {
     Global(Word),
     Local(Word),
 }
 
 /// A lock name, with what is known of its subscripts.
-#[derive(Clone, Debug, Drop, PartialEq, Eq, Hash)]
+#[derive(Clone, Drop, PartialEq, Eq, Hash)]
 pub struct LockName {
     pub root: LockRoot,
     pub subscripts: Vec<Symbol>,

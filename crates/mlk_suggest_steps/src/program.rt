@@ -6,7 +6,7 @@ use mlk_text::{LineNumber, push_sparing};
 use std::alloc::{AllocError, Global};
 
 /// A unit of a program, by its index.
-#[derive(Clone, Copy, Debug, Drop, PartialEq, Eq, PartialOrd, Ord, Hash)]
+#[derive(Clone, Copy, Drop, PartialEq, Eq, PartialOrd, Ord, Hash)]
 pub struct UnitId {
     pub(crate) index: usize,
 }

@@ -16,7 +16,7 @@ pub struct Reference {
 }
 
 /// What is known of a condition.
-#[derive(Clone, Copy, Debug, Drop, PartialEq, Eq)]
+#[derive(Clone, Copy, Drop, PartialEq, Eq)]
 pub enum Condition {
     /// it holds if `$TEST` has this value
     Test(bool),
@@ -38,7 +38,7 @@ impl Condition {
 }
 
 /// How a FOR can end.
-#[derive(Clone, Copy, Debug, Drop, PartialEq, Eq)]
+#[derive(Clone, Copy, Drop, PartialEq, Eq)]
 pub enum Rounds {
     /// only by QUIT
     Endless,
@@ -56,7 +56,7 @@ pub struct Claim {
 }
 
 /// How a unit is called.
-#[derive(Clone, Copy, Debug, Drop, PartialEq, Eq)]
+#[derive(Clone, Copy, Drop, PartialEq, Eq)]
 pub enum CallKind {
     /// DO with arguments
     Do,

@@ -4,7 +4,7 @@ use indexmap::IndexSet;
 use std::alloc::{AllocError, Global};
 
 /// A name or a value in the routines: its number in `Words`.
-#[derive(Clone, Copy, Debug, Drop, PartialEq, Eq, PartialOrd, Ord, Hash)]
+#[derive(Clone, Copy, Drop, PartialEq, Eq, PartialOrd, Ord, Hash)]
 pub struct Word {
     index: usize,
 }

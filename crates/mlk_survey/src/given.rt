@@ -31,7 +31,7 @@ impl<'a> CalledLabel<'a> {
 }
 
 /// The length of a list of formals or of actuals.
-#[derive(Clone, Copy, Debug, Drop, PartialEq, Eq)]
+#[derive(Clone, Copy, Drop, PartialEq, Eq)]
 pub enum ListLength {
     /// there is no list
     NoList,

@@ -117,8 +117,13 @@ fn touch_of<'a>(
     global: &'a Name,
     subscripts: &'a [Subscript],
 ) -> Touch<'a> {
+    let node = Touch::read(column, global, subscripts);
     match tree_of(function, subscripts) {
-        None => Touch::read(column, global, subscripts),
+        None if function == Function::Increment => Touch {
+            usage: Usage::Write,
+            ..node
+        },
+        None => node,
         Some(above) => Touch {
             column,
             global,

@@ -45,7 +45,7 @@ pub enum NewArgument {
 }
 
 /// The sign before the names of LOCK.
-#[derive(Clone, Copy, Debug, Drop, PartialEq, Eq)]
+#[derive(Clone, Copy, Drop, PartialEq, Eq)]
 pub enum Sign {
     /// no sign: all held locks are released before the claim
     None,
@@ -81,7 +81,7 @@ pub enum ReadArgument {
 }
 
 /// The function of a target that is a part of a variable's value.
-#[derive(Clone, Copy, Debug, Drop, PartialEq, Eq)]
+#[derive(Clone, Copy, Drop, PartialEq, Eq)]
 pub enum Part {
     Piece,
     Extract,

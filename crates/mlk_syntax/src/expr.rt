@@ -29,6 +29,7 @@ pub enum Function {
     Find,
     FormatNumber,
     Get,
+    Increment,
     Justify,
     Length,
     Name,
@@ -43,7 +44,7 @@ pub enum Function {
 }
 
 /// The label of a call, its routine, or both. A label may be digits.
-#[derive(Drop, Debug)]
+#[derive(Drop)]
 pub struct Callee {
     pub label: Option<Name>,
     pub routine: Option<Name>,

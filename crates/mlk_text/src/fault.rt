@@ -9,7 +9,7 @@ use crate::value::Value;
 use thiserror::Error;
 
 /// The part of M that `mlock` does not read, for a fault of 102 or 206.
-#[derive(Drop, Debug)]
+#[derive(Debug, Drop)]
 pub enum LeftOut {
     /// `@`
     Indirection,

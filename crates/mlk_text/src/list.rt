@@ -7,7 +7,7 @@ use std::alloc::{AllocError, Global};
 use std::marker::Model;
 
 /// A list. A contract sees the list of its elements.
-#[derive(Drop, Debug, Clone)]
+#[derive(Drop, Clone)]
 pub struct List<T> {
     items: Vec<T>,
 }

@@ -10,7 +10,7 @@ use std::marker::Model;
 /// A name in M, without the `^` of a global: `%` or a letter, then letters and digits; case matters.
 ///
 /// A label may be digits instead. The readers ensure this form; the type itself takes any bytes.
-#[derive(Drop, Debug)]
+#[derive(Drop)]
 pub struct Name {
     text: NameText,
 }

@@ -49,7 +49,7 @@ pub enum Op {
 }
 
 /// A unary operator.
-#[derive(Clone, Copy, Debug, Drop, PartialEq, Eq)]
+#[derive(Clone, Copy, Drop, PartialEq, Eq)]
 pub enum UnaryOp {
     /// `+`
     Plus,

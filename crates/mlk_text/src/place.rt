@@ -97,7 +97,7 @@ impl Display for Column {
 }
 
 /// A place in a routine text.
-#[derive(Drop, Debug)]
+#[derive(Debug, Drop)]
 pub struct Place {
     /// The routine's name as the program prints it: a text, since a file's stem may not be a name.
     pub routine: Value,

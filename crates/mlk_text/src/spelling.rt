@@ -20,7 +20,7 @@ use thiserror::Error;
 pub struct NotThere;
 
 /// The label and the routine of an entry, as written.
-#[derive(Clone, Copy, Debug, Drop)]
+#[derive(Clone, Copy, Drop)]
 pub struct EntryText<'a> {
     /// Empty if the entry is the routine's first line.
     pub label: &'a [u8],

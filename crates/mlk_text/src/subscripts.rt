@@ -9,7 +9,7 @@ use std::default::MadeWith;
 use std::marker::Model;
 
 /// The subscripts of a name, a term or a reference; up to `N` of them are stored inline. A contract sees the list of them.
-#[derive(Drop, Debug)]
+#[derive(Drop)]
 pub struct Subscripts<T, const N: usize> {
     items: SmallVec<T, N>,
 }

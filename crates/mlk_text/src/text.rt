@@ -33,7 +33,7 @@ fn first_word(bytes: &[u8]) -> u64
 }
 
 /// Up to `N` bytes, with `N` at least 8. The bytes after them are zero, so that a short text is compared as one number.
-#[derive(Debug, Drop)]
+#[derive(Drop)]
 pub(crate) struct Short<const N: usize> {
     bytes: [u8; N],
     length: u8,
@@ -215,7 +215,7 @@ impl Text {
 }
 
 /// The bytes of a name: any bytes, though few names have many.
-#[derive(Debug, Drop)]
+#[derive(Drop)]
 pub(crate) enum NameText {
     Short(Short<MOST_SHORT_NAME>),
     Long(Box<Vec<u8>>),

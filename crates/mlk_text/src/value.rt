@@ -8,7 +8,7 @@ use std::default::MadeWith;
 use std::marker::Model;
 
 /// A value in M: a text of any bytes. A number is its canonical text.
-#[derive(Drop, Debug)]
+#[derive(Debug, Drop)]
 pub struct Value {
     text: Text,
 }

@@ -3,7 +3,7 @@
 use mlk_text::Failure;
 
 /// Why an expression has no value: an error of M, or that it is left out here.
-#[derive(Clone, Copy, Debug, Drop, PartialEq, Eq)]
+#[derive(Clone, Copy, Drop, PartialEq, Eq)]
 pub enum MError {
     /// division by zero
     DivideByZero,
@@ -13,7 +13,7 @@ pub enum MError {
     UndefinedLocal,
     /// a global without a value
     UndefinedGlobal,
-    /// an empty subscript where `$ORDER` does not begin or end a search
+    /// an empty subscript of a global where `$ORDER` and `$QUERY` do not begin a search
     NullSubscript,
     /// `$SELECT` without a true condition
     NoCondition,
@@ -25,8 +25,14 @@ pub enum MError {
     Places,
     /// a text that is too long
     TextTooLong,
+    /// an extrinsic function that ends without a value
+    NoResult,
+    /// `$RANDOM` of a number below 1
+    RandomRange,
     /// part of M that is not evaluated here: this is no error of M
     Unsupported,
+    /// an input that is needed and not given: this is no error of M
+    MissingInput,
 }
 
 /// A value, or why there is none.
@@ -46,7 +52,10 @@ impl MError {
             MError::FormatCodes => b"FNARGINC",
             MError::Places => b"JUSTFRACT",
             MError::TextTooLong => b"MAXSTRLEN",
+            MError::NoResult => b"QUITARGREQD",
+            MError::RandomRange => b"RANDARGNEG",
             MError::Unsupported => b"unsupported",
+            MError::MissingInput => b"missing",
         }
     }
 }

@@ -5,62 +5,63 @@ use crate::function::value_of_function;
 use crate::number::Number;
 use crate::operator::{is_true, value_before, value_between};
 use crate::order::Direction;
-use crate::store::{Place, Store};
+use crate::store::Place;
+use crate::variables::{Variables, value_of};
 use mlk_syntax::{Expr, Function, Subscript};
 use mlk_text::{Op, Root, Value, push_sparing};
 use std::alloc::Global;
 
-/// The value of the expression `e` where variables have the values of `store`. Both sides of every operator are evaluated. Left
-/// out are literals that have no canonical text in the tree, special variables, calls, `$NAME`, `$QLENGTH`, `$QSUBSCRIPT`,
-/// `$QUERY` and `$RANDOM`.
+/// The value of the expression `e` where variables have the values of `variables`. Both sides of every operator are evaluated.
+/// Left out are literals that have no canonical text in the tree, special variables, calls, `$QLENGTH`, `$QSUBSCRIPT` and
+/// `$RANDOM`.
 #[cycle(evaluating)]
-pub fn evaluate(alloc: Global, store: &Store, e: &Expr) -> Outcome<Value> {
+pub fn evaluate<V: Variables>(alloc: Global, variables: &V, e: &Expr) -> Outcome<Value> {
     match e {
         Expr::Lit(value) | Expr::Pattern(value) => Ok(value.copy()?),
         Expr::Local(_, _) | Expr::Global(_, _, _) => {
-            let place = place_of(alloc, store, e)?;
-            store.value_of(&place)
+            let place = place_of(alloc, variables, e)?;
+            value_of(alloc, variables, &place)
         }
         Expr::Unary(op, operand) => {
-            let value = evaluate(alloc, store, operand)?;
+            let value = evaluate(alloc, variables, operand)?;
             value_before(alloc, *op, &value)
         }
         Expr::Binary(first, rest) => {
-            let value = evaluate(alloc, store, first)?;
-            after_operators(alloc, store, value, rest)
+            let value = evaluate(alloc, variables, first)?;
+            after_operators(alloc, variables, value, rest)
         }
-        Expr::Func(function, arguments) => value_of_call(alloc, store, *function, arguments),
-        Expr::Select(choices) => selected(alloc, store, choices),
+        Expr::Func(function, arguments) => value_of_call(alloc, variables, *function, arguments),
+        Expr::Select(choices) => selected(alloc, variables, choices),
         Expr::Free | Expr::Special(_) | Expr::Call(_, _, _) => Err(MError::Unsupported.into()),
     }
 }
 
 /// The node that the local or global `e` names.
 #[cycle(evaluating)]
-pub fn place_of(alloc: Global, store: &Store, e: &Expr) -> Outcome<Place> {
+pub fn place_of<V: Variables>(alloc: Global, variables: &V, e: &Expr) -> Outcome<Place> {
     match e {
         Expr::Local(name, subscripts) => {
             let root = Root::Local(name.copy()?);
-            place_below(alloc, store, root, subscripts)
+            place_below(alloc, variables, root, subscripts)
         }
         Expr::Global(_, name, subscripts) => {
             let root = Root::Global(name.copy()?);
-            place_below(alloc, store, root, subscripts)
+            place_below(alloc, variables, root, subscripts)
         }
         _ => Err(MError::Unsupported.into()),
     }
 }
 
 #[cycle(evaluating)]
-fn place_below(
+fn place_below<V: Variables>(
     alloc: Global,
-    store: &Store,
+    variables: &V,
     root: Root,
     subscripts: &[Subscript],
 ) -> Outcome<Place> {
     let mut place = Place::new(alloc, root);
     for subscript in subscripts {
-        let value = evaluate(alloc, store, &subscript.value)?;
+        let value = evaluate(alloc, variables, &subscript.value)?;
         place.push(alloc, value)?;
     }
     Ok(place)
@@ -68,15 +69,15 @@ fn place_below(
 
 // The value of `first` after further operators, from left to right.
 #[cycle(evaluating)]
-fn after_operators(
+fn after_operators<V: Variables>(
     alloc: Global,
-    store: &Store,
+    variables: &V,
     first: Value,
     rest: &[(Op, Expr)],
 ) -> Outcome<Value> {
     let mut value = first;
     for (op, operand) in rest {
-        let other = evaluate(alloc, store, operand)?;
+        let other = evaluate(alloc, variables, operand)?;
         value = value_between(alloc, *op, &value, &other)?;
     }
     Ok(value)
@@ -84,69 +85,87 @@ fn after_operators(
 
 // The value that belongs to the first true condition.
 #[cycle(evaluating)]
-fn selected(alloc: Global, store: &Store, choices: &[(Expr, Expr)]) -> Outcome<Value> {
+fn selected<V: Variables>(
+    alloc: Global,
+    variables: &V,
+    choices: &[(Expr, Expr)],
+) -> Outcome<Value> {
     for (condition, value) in choices {
-        let truth = evaluate(alloc, store, condition)?;
+        let truth = evaluate(alloc, variables, condition)?;
         if is_true(&truth)? {
-            return evaluate(alloc, store, value);
+            return evaluate(alloc, variables, value);
         }
     }
     Err(MError::NoCondition.into())
 }
 
+/// The values of the expressions `es`.
 #[cycle(evaluating)]
-fn values_of(alloc: Global, store: &Store, es: &[Expr]) -> Outcome<Vec<Value>> {
+pub fn values_of<V: Variables>(alloc: Global, variables: &V, es: &[Expr]) -> Outcome<Vec<Value>> {
     let mut values = Vec::new(alloc);
     for e in es {
-        let value = evaluate(alloc, store, e)?;
+        let value = evaluate(alloc, variables, e)?;
         push_sparing(&mut values, value)?;
     }
     Ok(values)
 }
 
+/// Whether the first argument of a function is not a value but a node.
+pub fn is_of_node(function: Function) -> bool {
+    matches!(
+        function,
+        Function::Data | Function::Get | Function::Name | Function::Order | Function::Query
+    )
+}
+
 // The value of a function. The first argument of some is not a value but a node.
 #[cycle(evaluating)]
-fn value_of_call(
+fn value_of_call<V: Variables>(
     alloc: Global,
-    store: &Store,
+    variables: &V,
     function: Function,
     arguments: &[Expr],
 ) -> Outcome<Value> {
-    let has_node = matches!(function, Function::Data | Function::Get | Function::Order);
     match arguments {
-        [variable, rest @ ..] if has_node => {
-            let place = place_of(alloc, store, variable)?;
-            let values = values_of(alloc, store, rest)?;
-            value_at(alloc, store, function, &place, values.as_slice())
+        [variable, rest @ ..] if is_of_node(function) => {
+            let place = place_of(alloc, variables, variable)?;
+            let values = values_of(alloc, variables, rest)?;
+            value_at(alloc, variables, function, &place, values.as_slice())
         }
         _ => {
-            let values = values_of(alloc, store, arguments)?;
+            let values = values_of(alloc, variables, arguments)?;
             value_of_function(alloc, function, values.as_slice())
         }
     }
 }
 
-// The value of a function of a node, with the values of its other arguments.
-fn value_at(
+/// The value of a function of the node `place`, with the values of its other arguments.
+pub fn value_at<V: Variables>(
     alloc: Global,
-    store: &Store,
+    variables: &V,
     function: Function,
     place: &Place,
     values: &[Value],
 ) -> Outcome<Value> {
     match (function, values) {
         (Function::Data, []) => {
-            let data = Number::whole(store.data(place)?);
+            let data = Number::whole(variables.data(alloc, place)?);
             Ok(Value::new(data.text(alloc)?))
         }
-        (Function::Get, _) => match store.get(place)?.or(values.first()) {
-            Some(value) => Ok(value.copy()?),
-            None => Ok(Value::of(alloc, b"")?),
+        (Function::Get, _) => match (variables.value(alloc, place)?, values.first()) {
+            (Some(value), _) => Ok(value),
+            (None, Some(value)) => Ok(value.copy()?),
+            (None, None) => Ok(Value::of(alloc, b"")?),
         },
         (Function::Order, _) => {
             let direction = direction_of(values.first())?;
-            store.next(alloc, place, direction)
+            variables.next(alloc, place, direction)
         }
+        (Function::Query, []) => match variables.after(alloc, place)? {
+            Some(node) => Ok(Value::new(node.name(alloc)?)),
+            None => Ok(Value::of(alloc, b"")?),
+        },
+        (Function::Name, []) => Ok(Value::new(place.name(alloc)?)),
         _ => Err(MError::Unsupported.into()),
     }
 }

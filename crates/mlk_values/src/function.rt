@@ -45,7 +45,7 @@ impl<'a> Arguments<'a> {
 }
 
 // The characters of `text` from number `first` to number `last`, counted from 1.
-fn span(text: &[u8], first: i64, last: i64) -> &[u8] {
+pub(crate) fn span(text: &[u8], first: i64, last: i64) -> &[u8] {
     let begin = natural(first.saturating_sub(1));
     let end = natural(last).min(text.len());
     text.get(begin..end).unwrap_or(b"")
@@ -215,11 +215,7 @@ fn most_arguments(function: Function) -> usize {
 
 /// The value of a function of the values `values`. Left out are a number of arguments that M has not, and all characters above
 /// 127, since it depends on the character set how many bytes are one.
-pub(crate) fn value_of_function(
-    alloc: Global,
-    function: Function,
-    values: &[Value],
-) -> Outcome<Value> {
+pub fn value_of_function(alloc: Global, function: Function, values: &[Value]) -> Outcome<Value> {
     let is_plain = values.iter().all(|value| value.as_bytes().is_ascii());
     if !is_plain || values.len() > most_arguments(function) {
         return Err(MError::Unsupported.into());

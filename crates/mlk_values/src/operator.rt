@@ -11,7 +11,7 @@ use std::alloc::Global;
 use std::cmp::Ordering;
 
 /// Whether M takes `value` for true: its number is not zero.
-pub(crate) fn is_true(value: &Value) -> Outcome<bool> {
+pub fn is_true(value: &Value) -> Outcome<bool> {
     Ok(!Number::read(value.as_bytes())?.is_zero())
 }
 
@@ -46,12 +46,7 @@ fn holds(alloc: Global, relation: Relation, first: &Value, second: &Value) -> Ou
 }
 
 /// What a binary operator gives. Of `?` the second value is the pattern as it is written.
-pub(crate) fn value_between(
-    alloc: Global,
-    op: Op,
-    first: &Value,
-    second: &Value,
-) -> Outcome<Value> {
+pub fn value_between(alloc: Global, op: Op, first: &Value, second: &Value) -> Outcome<Value> {
     match op {
         Op::Concatenate => {
             let text = joined(alloc, &[first.as_bytes(), second.as_bytes()])?;
@@ -69,7 +64,7 @@ pub(crate) fn value_between(
 }
 
 /// What a unary operator gives.
-pub(crate) fn value_before(alloc: Global, op: UnaryOp, value: &Value) -> Outcome<Value> {
+pub fn value_before(alloc: Global, op: UnaryOp, value: &Value) -> Outcome<Value> {
     let number = Number::read(value.as_bytes())?;
     match op {
         UnaryOp::Plus => Ok(Value::new(number.text(alloc)?)),

@@ -1,9 +1,9 @@
 // M's order of subscripts.
 
-use crate::error::Outcome;
+use crate::error::{MError, Outcome};
 use crate::number::{Number, canonical_number};
 use mlk_text::Value;
-use std::alloc::Global;
+use std::alloc::{AllocError, Global};
 use std::cmp::Ordering;
 
 /// A subscript: its value, and the number whose canonical text it is, if it is one.
@@ -15,7 +15,7 @@ pub(crate) struct Key {
 
 /// In which direction `$ORDER` looks.
 #[derive(Clone, Copy, Drop)]
-pub(crate) enum Direction {
+pub enum Direction {
     Forward,
     Backward,
 }
@@ -25,6 +25,32 @@ impl Key {
     pub(crate) fn of(alloc: Global, text: Value) -> Outcome<Key> {
         let number = canonical_number(alloc, text.as_bytes())?;
         Ok(Key { text, number })
+    }
+
+    /// Copies the subscript.
+    pub(crate) fn copy(&self) -> Result<Key, AllocError> {
+        Ok(Key {
+            text: self.text.copy()?,
+            number: self.number,
+        })
+    }
+
+    /// Adds the subscript to `text` as `$NAME` writes it.
+    pub(crate) fn add_to(&self, text: &mut Vec<u8>) -> Outcome<()> {
+        if self.number.is_some() {
+            return Ok(text.extend_from_slice(self.text.as_bytes())?);
+        }
+        text.push(b'"')?;
+        for byte in self.text.as_bytes() {
+            if !matches!(*byte, b' '..=b'~') {
+                return Err(MError::Unsupported.into());
+            }
+            if *byte == b'"' {
+                text.push(b'"')?;
+            }
+            text.push(*byte)?;
+        }
+        Ok(text.push(b'"')?)
     }
 
     /// Whether it is the empty text.

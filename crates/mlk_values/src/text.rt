@@ -4,8 +4,8 @@ use crate::error::{MError, Outcome};
 use mlk_text::Value;
 use std::alloc::{AllocError, Global};
 
-// The most bytes of a text.
-const LONGEST_TEXT: i64 = 1_048_576;
+/// The most bytes of a text.
+pub(crate) const LONGEST_TEXT: i64 = 1_048_576;
 
 /// The text of the pieces `pieces`, one after another.
 pub(crate) fn joined(alloc: Global, pieces: &[&[u8]]) -> Result<Vec<u8>, AllocError> {

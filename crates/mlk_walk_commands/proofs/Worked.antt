@@ -67,6 +67,7 @@ abbrev pub scope : List NameSet → Option ℕ → Bool → Scope
 scope mods low drops = record {
   routines = routine ∷ [];
   own = 0;
+  line = 0;
   rules = record {
     families = record { name = record { root = root.Global (codes "ACCT"); subs = [] }; rank = 10 }
         ∷ record { name = record { root = root.Global (codes "LOG"); subs = [] }; rank = 20 } ∷ [];

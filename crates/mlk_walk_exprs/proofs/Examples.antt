@@ -35,6 +35,7 @@ abbrev scope : Scope
 scope = record {
   routines = [];
   own = 0;
+  line = 0;
   rules = record {
     families = [];
     covers = record {

@@ -1,6 +1,7 @@
 -- The checks of global touches against the rules: the reference, as it is read or written, is covered by the held locks.
 -- Standard: a value and `$GET` read the node; `$DATA` reads the node and everything below it; `$ORDER` reads its siblings,
--- `$QUERY` all of its global; `$NAME` reads nothing; SET writes the node, KILL the tree, MERGE reads and writes trees.
+-- `$QUERY` all of its global; `$NAME` reads nothing; SET writes the node, KILL the tree, MERGE reads and writes trees. Vendors:
+-- `$INCREMENT` writes the node.
 use Rattle.std.specs.Prelude.{ℕ, List, [], ◌∷◌, ◌-◌, length, take, Option, Some, None}
 use Rattle.mlk_text.specs.declared.code.Code.{Code}
 use Rattle.mlk_syntax.specs.declared.expr.Function.{Function}
@@ -8,7 +9,7 @@ use Rattle.mlk_syntax.specs.declared.expr.Function.TheVariants as function
 use Rattle.mlk_names.specs.declared.symbol.Sym.{Sym}
 use Rattle.mlk_names.specs.declared.reference.Access.{Access}
 use Rattle.mlk_names.specs.declared.reference.Reference.{Reference}
-use Rattle.mlk_names.specs.declared.reference.Access.TheVariants.{Reads}
+use Rattle.mlk_names.specs.declared.reference.Access.TheVariants.{Reads, Writes}
 use Rattle.mlk_names.specs.declared.reference.Extent.{Extent}
 use Rattle.mlk_names.specs.declared.reference.Extent.TheVariants.{Node, Tree}
 use Rattle.mlk_rules.specs.Computed.{answer}
@@ -16,7 +17,7 @@ use Rattle.mlk_walk_state.specs.declared.state.State.{State}
 use Rattle.mlk_walk_state.specs.States.{last_captured, without_last}
 use Rattle.mlk_walk_exprs.specs.Walks.{Outcome, Goes, Refused}
 use Rattle.mlk_walk_exprs.specs.declared.reference.Use.{Use}
-use Rattle.mlk_walk_exprs.specs.declared.reference.Use.TheVariants.{ItsValue, Below, Beside, AllOfIt, Spelled}
+use Rattle.mlk_walk_exprs.specs.declared.reference.Use.TheVariants.{ItsValue, Below, Beside, AllOfIt, Incremented, Spelled}
 use Rattle.mlk_walk_exprs.specs.Spots.{Spot}
 
 -- how a function uses the name that is its first argument
@@ -24,6 +25,7 @@ abbrev pub use_of : Function → Use
 use_of function.Data = Below
 use_of function.Order = Beside
 use_of function.Query = AllOfIt
+use_of function.Increment = Incremented
 use_of function.Name = Spelled
 use_of _ = ItsValue
 
@@ -52,6 +54,7 @@ read_fault p ItsValue name subs s = checked p Node Reads name subs s
 read_fault p Below name subs s = checked p Tree Reads name subs s
 read_fault p Beside name subs s = checked p Tree Reads name (all_but_last subs) s
 read_fault p AllOfIt name subs s = checked p Tree Reads name [] s
+read_fault p Incremented name subs s = checked p Node Writes name subs s
 read_fault p Spelled name subs s = None
 
 -- A use or a touch with the subscripts that were captured last, which are removed.

@@ -2,7 +2,6 @@
 
 ghost use Rattle.std.specs.Prelude.{◌≡◌, ◌-◌, ℕ, IfOk, OnOk, Option, is_none, length, take, option_map};
 ghost use Rattle.std.specs.List.{list_all};
-ghost use Rattle.mlk_names.specs.declared.reference.Access.TheVariants.{Reads};
 ghost use Rattle.mlk_rules.specs.Computed.{answer};
 ghost use Rattle.mlk_walk_state.specs.declared.state.State.{State};
 ghost use Rattle.mlk_walk_state.specs.States.{last_captured, without_last};
@@ -21,7 +20,7 @@ use mlk_text::{Code, Column, Name, Subscripts, copy_of};
 use std::alloc::{AllocError, Global};
 
 /// How an expression or a function uses a name.
-#[derive(Clone, Copy, Debug, Drop, PartialEq, Eq)]
+#[derive(Clone, Copy, Drop, PartialEq, Eq)]
 pub enum Use {
     ItsValue,
     /// its value, and everything below it
@@ -30,6 +29,8 @@ pub enum Use {
     Beside,
     /// all of its global
     AllOfIt,
+    /// its node is written
+    Incremented,
     /// only its spelling
     Spelled,
 }
@@ -42,6 +43,7 @@ pub fn use_of(function: Function) -> Use
         Function::Data => Use::Below,
         Function::Order => Use::Beside,
         Function::Query => Use::AllOfIt,
+        Function::Increment => Use::Incremented,
         Function::Name => Use::Spelled,
         _ => Use::ItsValue,
     }
@@ -223,14 +225,14 @@ pub struct ReadLast<'a> {
 }
 
 impl<'a> ReadLast<'a> {
-    fn touch(&self, extent: Extent) -> Touch<'a>
+    fn touch(&self, extent: Extent, access: Access) -> Touch<'a>
         ensures extent { result.extent ≡ extent }
-        ensures access { result.access ≡ Reads }
+        ensures access { result.access ≡ access }
         ensures name { result.name.now ≡ self.now.name.now }
     {
         Touch {
             extent,
-            access: Access::Reads,
+            access,
             column: self.column,
             name: self.name,
         }
@@ -242,13 +244,15 @@ impl<'a> ReadLast<'a> {
             (last_captured self.now.count state.now) state.now) }
     {
         let subs = last_of(state, self.count);
-        let node = self.touch(Extent::Node);
-        let tree = self.touch(Extent::Tree);
+        let node = self.touch(Extent::Node, Access::Reads);
+        let tree = self.touch(Extent::Tree, Access::Reads);
+        let written = self.touch(Extent::Node, Access::Writes);
         match self.how {
             Use::ItsValue => node.is_covered(self.spot, subs, state),
             Use::Below => tree.is_covered(self.spot, subs, state),
             Use::Beside => tree.is_covered(self.spot, all_but_last(subs), state),
             Use::AllOfIt => tree.is_covered(self.spot, &[], state),
+            Use::Incremented => written.is_covered(self.spot, subs, state),
             Use::Spelled => true,
         }
     }
@@ -258,13 +262,15 @@ impl<'a> ReadLast<'a> {
             self.now.name.now (last_captured self.now.count state.now) state.now) }
     {
         let subs = last_of(state, self.count);
-        let node = self.touch(Extent::Node);
-        let tree = self.touch(Extent::Tree);
+        let node = self.touch(Extent::Node, Access::Reads);
+        let tree = self.touch(Extent::Tree, Access::Reads);
+        let written = self.touch(Extent::Node, Access::Writes);
         match self.how {
             Use::ItsValue => node.fault(self.spot, subs, state),
             Use::Below => tree.fault(self.spot, subs, state),
             Use::Beside => tree.fault(self.spot, all_but_last(subs), state),
             Use::AllOfIt => tree.fault(self.spot, &[], state),
+            Use::Incremented => written.fault(self.spot, subs, state),
             Use::Spelled => Ok(None),
         }
     }

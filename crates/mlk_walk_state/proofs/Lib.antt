@@ -10,3 +10,4 @@ pub mod NameLaws
 pub mod ChainSymbols
 pub mod PointEnds
 pub mod Shared
+pub mod OwnLines

@@ -1,12 +1,13 @@
 -- The input of the walk of an entry's lines. This project's own choice.
-use Rattle.std.specs.Prelude.{ℕ, ◌≡◌, Bool, ◌&&◌, ◌||◌, ◌==◌, nat_lt, not, false, if◌then◌else◌}
+use Rattle.std.specs.Prelude.{ℕ, ◌≡◌, ◌-◌, Bool, ◌&&◌, ◌||◌, ◌==◌, nat_lt, not, false, if◌then◌else◌}
 use Rattle.std.specs.Prelude.{List, [], ◌∷◌, ◌++◌, map, find, filter, filter_map}
-use Rattle.std.specs.Prelude.{Option, Some, None, option_map}
+use Rattle.std.specs.Prelude.{Option, Some, None, option_map, option_and_then, slice_get}
 use Rattle.std.specs.List.{list_any, list_all}
-use Rattle.mlk_syntax.specs.Trees.{RoutineTree}
+use Rattle.mlk_syntax.specs.declared.expr.Callee.{Callee}
+use Rattle.mlk_syntax.specs.Trees.{RoutineTree, HeadTree, LineTrees}
 use Rattle.mlk_program.specs.declared.entry.EntryId.{EntryId}
 use Rattle.mlk_syntax.specs.Views.{routine_of}
-use Rattle.mlk_program.specs.Entries.{entry_by, same_entry}
+use Rattle.mlk_program.specs.Entries.{entry_by, same_entry, target_of, lines_of}
 use Rattle.mlk_program.specs.Program.{is_shared, is_shared_in}
 use Rattle.mlk_walk_state.specs.declared.scope.Scope.{Scope as GivenScope}
 use Rattle.mlk_rules.specs.declared.rules.RuleLists.{RuleLists}
@@ -77,12 +78,13 @@ pub record AreEntries (routines : List RoutineTree) (blocks : List EntryCert) (t
   pub certified : (e : EntryId) → block_at found.0 e ≡ block_of routines blocks e
   pub declared : (e : EntryId) → has_entry found.1 e ≡ is_declared routines texts e
 
--- the program's routines and the index of the one that is walked; the rules; the certified entries with their blocks, and the
--- declared ones; the walked entry's own summary, whether it is declared, and its points; and which names are shared in a frame
--- with given own names
+-- the program's routines, the index of the one that is walked, and that of the walked entry's line among the routine's lines of
+-- level 1; the rules; the certified entries with their blocks, and the declared ones; the walked entry's own summary, whether it
+-- is declared, and its points; and which names are shared in a frame with given own names
 pub record Scope : Type 0 where
   pub routines : List RoutineTree
   pub own : ℕ
+  pub line : ℕ
   pub rules : RuleLists
   pub blocks : List (EntryId × EntryCert)
   pub declared_entries : List EntryId
@@ -101,6 +103,15 @@ begins_jobs sc e = has_entry sc.declared_entries e
 abbrev pub listed : Scope → ℕ → ℕ → List Case
 listed sc number round = listed_at sc.points number round
 
+-- the line of an entry, and the line that a callee names, if it is one of the walked entry's lines
+abbrev pub line_within : Scope → EntryId → Option (HeadTree × LineTrees)
+line_within sc e =
+    if e.routine == sc.own then (if nat_lt e.line sc.line then None
+    else slice_get (lines_of sc.routines (record { routine = sc.own; line = sc.line })) (e.line - sc.line)) else None
+
+abbrev pub own_line : Scope → Callee → Option (HeadTree × LineTrees)
+own_line sc callee = option_and_then (line_within sc) (target_of sc.routines sc.own callee)
+
 -- whether all points are on earlier lines
 abbrev pub is_past : Scope → ℕ → Bool
 is_past sc number = list_all (is_earlier number) sc.points
@@ -117,6 +128,7 @@ abbrev pub scope_with :
 scope_with routines rules entries e b = record {
   routines = routines;
   own = e.routine;
+  line = e.line;
   rules = rules;
   blocks = entries.0;
   declared_entries = entries.1;

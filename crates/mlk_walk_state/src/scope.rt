@@ -1,7 +1,7 @@
 // The input of the walk of an entry's lines.
 
-ghost use Rattle.std.specs.Prelude.{◌≡◌, ◌++◌, [], IfOk, OnOk, map, filter_map, option_copied, option_map};
-ghost use Rattle.mlk_syntax.specs.Views.{routine_of};
+ghost use Rattle.std.specs.Prelude.{◌≡◌, ◌++◌, [], IfOk, OnOk, map, filter_map, option_copied, option_map, slice_get};
+ghost use Rattle.mlk_syntax.specs.Views.{line_of, routine_of};
 ghost use Rattle.mlk_program.specs.Entries.{entry_by};
 ghost use Rattle.mlk_cert_parts.specs.Limits.{points_below};
 ghost use Rattle.mlk_cert_lexemes.specs.Lists.{ascends};
@@ -16,6 +16,7 @@ use indexmap::{IndexMap, IndexSet};
 use mlk_cert_parts::{Case, EntryCert, Own, Point, Summary};
 use mlk_program::{EntryId, Program};
 use mlk_rules::{Rules, entries};
+use mlk_syntax::{Callee, Line};
 use mlk_text::{LineNumber, Name, Value};
 use std::alloc::{AllocError, Global};
 use std::marker::Model;
@@ -169,6 +170,14 @@ fn counts_as_own(counted: &[Own], own: &[Own], name: &Name) -> bool
     is_own(counted, name) || is_own(own, name)
 }
 
+// The line at `index`, or `None`.
+#[tactic(auto, using(crate::proofs::OwnLines::line_got))]
+fn line_at(lines: &[Line], index: usize) -> Option<&Line>
+    ensures { option_map (λ l. line_of l.now) result ≡ slice_get (map line_of lines.now) index }
+{
+    lines.get(index)
+}
+
 /// The input of the walk of an entry's lines.
 #[derive(Clone, Copy, Drop)]
 pub struct Scope<'a> {
@@ -190,7 +199,7 @@ pub struct Scope<'a> {
 }
 
 impl<'a> Scope<'a> {
-    ghost use Rattle.mlk_walk_state.specs.Scope.{scope_with, scope_of, counting, listed, is_past};
+    ghost use Rattle.mlk_walk_state.specs.Scope.{scope_with, scope_of, counting, listed, line_within, own_line, is_past};
 
     /// The input of a walk of `entry` against `block`. `entries` are those of the same program and rules, and of the block's
     /// certificate. Allocates nothing, and looks once at each of the block's points.
@@ -282,6 +291,31 @@ impl<'a> Scope<'a> {
         } else {
             cases_at(points, line, round)
         }
+    }
+
+    // The line of `entry`, if it is one of the lines of the entry that is walked.
+    fn line_within(&self, entry: EntryId) -> Option<&'a Line>
+        ensures { option_map (λ l. line_of l.now) result ≡ line_within (scope_of self.now) entry }
+    {
+        if entry.routine() != self.entry.routine() {
+            return None;
+        }
+        if entry.line() < self.entry.line() {
+            return None;
+        }
+        line_at(
+            self.program.lines_of(self.entry),
+            entry.line() - self.entry.line(),
+        )
+    }
+
+    /// The line that `callee` names, if it is one of the lines of the entry that is walked; `None` also if the program does not
+    /// have it. Allocates nothing.
+    pub fn own_line(&self, callee: &Callee) -> Option<&'a Line>
+        ensures { option_map (λ l. line_of l.now) result ≡ own_line (scope_of self.now) callee.now }
+    {
+        let target = self.program.target(self.entry.routine(), callee)?;
+        self.line_within(target)
     }
 
     /// Whether all points are on lines before `line`, so that nothing is listed there or later. Allocates nothing.

@@ -4,7 +4,7 @@
 use std::alloc::Global;
 
 /// A stage of the work.
-#[derive(Clone, Copy, Debug, Drop, PartialEq, Eq)]
+#[derive(Clone, Copy, Drop, PartialEq, Eq)]
 pub enum Stage {
     /// reading the texts of routines
     Reading,
@@ -36,7 +36,7 @@ pub struct Runner<'x, R, W> {
 }
 
 /// A `Watch` that ignores everything.
-#[derive(Clone, Copy, Debug, Drop)]
+#[derive(Clone, Copy, Drop)]
 pub struct Unwatched;
 
 impl Watch for Unwatched {

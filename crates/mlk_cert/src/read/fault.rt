@@ -15,7 +15,7 @@ pub struct CertFault {
 }
 
 /// A fault after the head line, and how many bytes are left there.
-#[derive(Drop, Debug)]
+#[derive(Drop)]
 pub(crate) struct BlockFault {
     pub code: Code,
     pub left: usize,

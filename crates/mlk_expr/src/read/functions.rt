@@ -7,15 +7,15 @@ ghost use Rattle.mlk_expr_tokens.specs.Lexemes.{column_of};
 ghost use Rattle.mlk_syntax.specs.ExprTrees.{tree_of, trees, choice_of, choices};
 ghost use Rattle.mlk_expr.specs.Reading.{few, next, nested_in, list_with, choice_with, arguments_with, function_with};
 ghost use Rattle.mlk_expr.specs.Reading.{dollar_with, atom_in, quiet};
-ghost use Rattle.mlk_expr.specs.Touches.{calls_may};
 ghost use Rattle.mlk_text.specs.Failures.{Reads};
 
 use crate::context::{Allows, Context};
-use crate::part::{asks_subscript, has_subscript, list_room, most_after_name};
+use crate::part::{list_room, most_after_name, takes};
 use crate::read::actuals::call;
 use crate::read::{atom, chain};
 use crate::refusal::{
-    Offence, Wrong, no_arguments_end, no_end, no_function, no_operand, no_word, refusal_at,
+    Offence, Wrong, no_arguments_end, no_end, no_function, no_operand, no_word, not_taken,
+    refusal_at,
 };
 use mlk_expr_tokens::lexeme::starts_reference;
 use mlk_expr_tokens::words::{function_of, is_select, special_of};
@@ -118,8 +118,8 @@ fn arguments<'a>(
         return Err(no_operand(bytes));
     }
     let (first, rest) = atom(alloc, context, bytes)?;
-    if asks_subscript(function) && !has_subscript(&first) {
-        return Err(drop_and_return(first, refusal_at(Wrong::Form, rest)));
+    if !takes(function, &first) {
+        return Err(drop_and_return(first, not_taken(function, bytes, rest)));
     }
     let room = list_room(alloc, rest)?;
     let quiet = Context {
@@ -208,7 +208,7 @@ fn function<'a>(
     bytes: &'a [u8],
 ) -> Result<(Expr, &'a [u8]), Failure<Offence>>
     ensures { Reads (λ x. (tree_of x.0, x.1.now)) result
-        (function_with (atom_in context.now) (nested_in context.now) (nested_in (quiet context.now)) word.now bytes.now) }
+        (function_with context.now.allows (atom_in context.now) (nested_in context.now) (nested_in (quiet context.now)) word.now bytes.now) }
 {
     if is_select(word) {
         let (choices, rest) = choices(alloc, context, bytes)?;
@@ -217,6 +217,9 @@ fn function<'a>(
     let Some(function) = function_of(word) else {
         return Err(no_function(whole, word));
     };
+    if !context.allows.function(function) {
+        return Err(no_function(whole, word));
+    }
     let (args, rest) = arguments(alloc, context, function, bytes)?;
     Ok((Expr::Func(function, args), rest))
 }
@@ -232,7 +235,7 @@ pub(crate) fn dollar<'a>(
     bytes: &'a [u8],
 ) -> Result<(Expr, &'a [u8]), Failure<Offence>>
     ensures { Reads (λ x. (tree_of x.0, x.1.now)) result
-        (dollar_with (calls_may context.now.allows) context.now.end (atom_in context.now) (nested_in context.now)
+        (dollar_with context.now.allows context.now.end (atom_in context.now) (nested_in context.now)
         (nested_in (quiet context.now)) (column_of context.now.end whole.now) bytes.now) }
 {
     if let Some(rest) = byte_of(b'$', bytes) {

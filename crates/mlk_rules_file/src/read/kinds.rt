@@ -13,7 +13,7 @@ use mlk_text::{List, Name, Value};
 pub const MOST_ITEMS: usize = 8;
 
 /// An item between the parentheses of a name or a pattern.
-#[derive(Drop, Debug)]
+#[derive(Drop)]
 pub enum SpelledItem {
     Literal(Value),
     Variable(Name),
@@ -21,7 +21,7 @@ pub enum SpelledItem {
 }
 
 /// A name or a pattern as spelled: a tree if it ends with `...`.
-#[derive(Drop, Debug)]
+#[derive(Drop)]
 pub struct Spelling {
     pub root: Root,
     pub items: List<SpelledItem>,

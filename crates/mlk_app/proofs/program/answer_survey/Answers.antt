@@ -1,5 +1,5 @@
 use Rattle.std.proofs.Common.{ℕ, List, Bor, rules, subst, ap}
-use Rattle.mlk_app.specs.Files.{AreSources}
+use Rattle.mlk_files.specs.Files.{AreSources}
 use Rattle.mlk_app.specs.Ran.{TellsUnread}
 use Rattle.mlk_app.proofs.Saying.{survey-answers, unsurveyed-answers}
 use Rattle.mlk_app.proofs.program.answer_survey.Goals as goal

@@ -1,5 +1,5 @@
 use Rattle.std.proofs.Common.{ap}
-use Rattle.mlk_app.specs.Files.{given_path}
+use Rattle.mlk_files.specs.Files.{given_path}
 use Rattle.mlk_app.proofs.Suggesting.{suggestion-answers}
 use Rattle.mlk_app.proofs.suggestion.answer_suggestion.Goals as goal
 

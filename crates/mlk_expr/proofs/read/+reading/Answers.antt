@@ -17,9 +17,7 @@ use Rattle.mlk_expr.proofs.Steps.{local-gives, local-fails, global-gives, global
 use Rattle.mlk_expr.proofs.Loops.{loop_fails, with_fails, then_fails, at_most-is, surplus, refused_fails, item-shorter}
 use Rattle.std.proofs.lemmas.Bool.{and_left, and_right}
 use Rattle.std.specs.Prelude.{not, ◌&&◌, vec_len}
-use Rattle.mlk_expr.specs.Grammar.{has_subscript, asks_subscript}
 use Rattle.mlk_expr.proofs.read.+reading.Goals as goal
-use Rattle.mlk_expr.proofs.read.+reading.Goals.{functions::arguments-else-asks_subscript-via-then-asks_subscript+else-not-has_subscript, functions::arguments-else-asks_subscript-via-else-asks_subscript}
 
 pub atom-returns-then-context-eq0 : goal.atom-returns-then-context-eq0
 atom-returns-then-context-eq0 t c = refused_fails c.too_deep.result _ c.too_deep.ensures (atom_in-none c.args.context.now c.args.bytes.now c.if-context-eq0.true)
@@ -193,30 +191,14 @@ actuals::actuals_rest-returns t c = many_stops (byte_at 44) (next (actual_with c
 
 pub functions::arguments-returns : goal.functions::arguments-returns
 functions::arguments-returns t c =
-    let asks : (asks_subscript c.args.function && not (has_subscript (tree_of c.in_ok-first.first))) ≡ false = elim c.else-asks_subscript.branch [
-      | functions::arguments-else-asks_subscript-via-then-asks_subscript+else-not-has_subscript w ↦
-          let has : has_subscript (tree_of c.in_ok-first.first) ≡ true = cc in
-          and_right (asks_subscript c.args.function) (not (has_subscript (tree_of c.in_ok-first.first))) (ap not has)
-      | functions::arguments-else-asks_subscript-via-else-asks_subscript w ↦
-          let none : asks_subscript c.args.function ≡ false = cc in
-          and_left (asks_subscript c.args.function) (not (has_subscript (tree_of c.in_ok-first.first))) none
-    ] in
     arguments-give (atom_in c.args.context.now) (nested_in c.args.context.now) (nested_in (quiet c.args.context.now)) c.args.function c.in-Some.most c.args.bytes.now (tree_of c.in_ok-first.first) c.in_ok-first.rest.now
-    (trees c.in_ok-args.args.items) c.in_ok-args.rest.now c.in-Some-byte_of.rest.now (sym c.in-Some.ensures) (sym c.if-not-starts_reference.ensures) c.in_ok-first.ensures asks c.in_ok-args.ensures (sym c.in-Some-byte_of.ensures)
+    (trees c.in_ok-args.args.items) c.in_ok-args.rest.now c.in-Some-byte_of.rest.now (sym c.in-Some.ensures) (sym c.if-not-starts_reference.ensures) c.in_ok-first.ensures (sym c.if-not-takes.ensures) c.in_ok-args.ensures (sym c.in-Some-byte_of.ensures)
 
 pub functions::arguments-returns-in_err-args : goal.functions::arguments-returns-in_err-args
 functions::arguments-returns-in_err-args t c =
-    let asks : (asks_subscript c.args.function && not (has_subscript (tree_of c.in_ok-first.first))) ≡ false = elim c.else-asks_subscript.branch [
-      | functions::arguments-else-asks_subscript-via-then-asks_subscript+else-not-has_subscript w ↦
-          let has : has_subscript (tree_of c.in_ok-first.first) ≡ true = cc in
-          and_right (asks_subscript c.args.function) (not (has_subscript (tree_of c.in_ok-first.first))) (ap not has)
-      | functions::arguments-else-asks_subscript-via-else-asks_subscript w ↦
-          let none : asks_subscript c.args.function ≡ false = cc in
-          and_left (asks_subscript c.args.function) (not (has_subscript (tree_of c.in_ok-first.first))) none
-    ] in
     let p = err_from_is_err_and c.from_residual-in_err-args.result c.from_residual-in_err-args.ensures.1 in
     rw (p.1, p.2) (arguments-fail (atom_in c.args.context.now) (nested_in c.args.context.now) (nested_in (quiet c.args.context.now)) c.args.function c.in-Some.most c.args.bytes.now (tree_of c.in_ok-first.first) c.in_ok-first.rest.now c.in_err-args.field-0.0
-    (sym c.in-Some.ensures) (sym c.if-not-starts_reference.ensures) c.in_ok-first.ensures asks c.in_err-args.ensures)
+    (sym c.in-Some.ensures) (sym c.if-not-starts_reference.ensures) c.in_ok-first.ensures (sym c.if-not-takes.ensures) c.in_err-args.ensures)
 
 pub names::local-returns : goal.names::local-returns
 names::local-returns t c =
@@ -265,11 +247,11 @@ actuals::call-returns-in_err-given t c =
 pub functions::function-returns : goal.functions::function-returns
 functions::function-returns t c =
     let whole = tree_func c.in-Some.function c.in_ok-args.args in
-    function-gives (atom_in c.args.context.now) (nested_in c.args.context.now) (nested_in (quiet c.args.context.now)) c.args.word.now c.args.bytes.now c.in-Some.function (trees c.in_ok-args.args.items) c.in_ok-args.rest.now
-    (sym c.if-is_select.ensures) (sym c.in-Some.ensures) c.in_ok-args.ensures ∙ ap (λ z. Some (z, c.in_ok-args.rest.now)) (sym whole)
+    function-gives c.args.context.now.allows (atom_in c.args.context.now) (nested_in c.args.context.now) (nested_in (quiet c.args.context.now)) c.args.word.now c.args.bytes.now c.in-Some.function (trees c.in_ok-args.args.items) c.in_ok-args.rest.now
+    (sym c.if-is_select.ensures) (sym c.in-Some.ensures) (sym c.if-not-function.ensures) c.in_ok-args.ensures ∙ ap (λ z. Some (z, c.in_ok-args.rest.now)) (sym whole)
 
 pub functions::function-returns-in_err-args : goal.functions::function-returns-in_err-args
 functions::function-returns-in_err-args t c =
     let p = err_from_is_err_and c.from_residual-in_err-args.result c.from_residual-in_err-args.ensures.1 in
-    rw (p.1, p.2) (function-fails c.in_err-args.field-0.0 (atom_in c.args.context.now) (nested_in c.args.context.now) (nested_in (quiet c.args.context.now)) c.args.word.now c.args.bytes.now c.in-Some.function
-    (sym c.if-is_select.ensures) (sym c.in-Some.ensures) c.in_err-args.ensures)
+    rw (p.1, p.2) (function-fails c.in_err-args.field-0.0 c.args.context.now.allows (atom_in c.args.context.now) (nested_in c.args.context.now) (nested_in (quiet c.args.context.now)) c.args.word.now c.args.bytes.now c.in-Some.function
+    (sym c.if-is_select.ensures) (sym c.in-Some.ensures) (sym c.if-not-function.ensures) c.in_err-args.ensures)

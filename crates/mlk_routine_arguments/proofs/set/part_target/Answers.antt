@@ -18,7 +18,7 @@ returns-in_err-part c =
     let p = err_from_is_err_and c.from_residual.result c.from_residual.ensures.1 in
     let less = byte_before c.args.line.now c.args.at 36 c.requires in
     let within : c.args.at ≤ length c.args.line.now = omega (arith, less) in
-    rw (p.1, p.2) (denied_first (target_parts c.args.line.now c.args.at c.requires) within c.in_err-part.field-0.0 c.in_err-part.ensures)
+    rw (p.1, p.2) (denied_first (target_parts c.args.dialect c.args.line.now c.args.at c.requires) within c.in_err-part.field-0.0 c.in_err-part.ensures)
 
 pub returns-in_err-variable : goal.returns-in_err-variable
 returns-in_err-variable c =
@@ -26,7 +26,7 @@ returns-in_err-variable c =
     let less = byte_before c.args.line.now c.args.at 36 c.requires in
     let within : c.args.at ≤ length c.args.line.now = omega (arith, less) in
     let open' = c.in_ok-part in
-    rw (p.1, p.2) (denied_second (target_parts c.args.line.now c.args.at c.requires) within open'.part open'.next open'.ensures c.in_err-variable.field-0.0
+    rw (p.1, p.2) (denied_second (target_parts c.args.dialect c.args.line.now c.args.at c.requires) within open'.part open'.next open'.ensures c.in_err-variable.field-0.0
     (denied_first (closing_parts c.args.line.now open'.next) open'.ensures.0.within c.in_err-variable.field-0.0
     (denied_first (inner_parts c.args.line.now open'.next) open'.ensures.0.within c.in_err-variable.field-0.0 c.in_err-variable.ensures)))
 
@@ -37,7 +37,7 @@ returns-in_err-arguments c =
     let within : c.args.at ≤ length c.args.line.now = omega (arith, less) in
     let open' = c.in_ok-part in
     let v = c.in_ok-variable in
-    rw (p.1, p.2) (denied_second (target_parts c.args.line.now c.args.at c.requires) within open'.part open'.next open'.ensures c.in_err-arguments.field-0.0
+    rw (p.1, p.2) (denied_second (target_parts c.args.dialect c.args.line.now c.args.at c.requires) within open'.part open'.next open'.ensures c.in_err-arguments.field-0.0
     (denied_first (closing_parts c.args.line.now open'.next) open'.ensures.0.within c.in_err-arguments.field-0.0
     (denied_second (inner_parts c.args.line.now open'.next) open'.ensures.0.within (variable_of v.variable) v.next v.ensures c.in_err-arguments.field-0.0 c.in_err-arguments.ensures)))
 
@@ -49,8 +49,8 @@ returns-then-not-has_byte c =
     let v = c.in_ok-variable in
     let a = c.in_ok-arguments in
     let inner = both_found (inner_parts c.args.line.now open'.next) open'.ensures.0.within (variable_of v.variable) (trees a.arguments.items) v.next a.next v.ensures a.ensures in
-    denies IsTarget TargetEnds c.args.line.now c.args.at c.refusal_at.result (c.refusal_at.ensures.fault c.args.line.now c.in_ok-arguments.ensures.0.within refl refl)
-    (second_nowhere (target_parts c.args.line.now c.args.at c.requires) within open'.part open'.next open'.ensures
+    denies (IsTarget c.args.dialect) TargetEnds c.args.line.now c.args.at c.refusal_at.result (c.refusal_at.ensures.fault c.args.line.now c.in_ok-arguments.ensures.0.within refl refl)
+    (second_nowhere (target_parts c.args.dialect c.args.line.now c.args.at c.requires) within open'.part open'.next open'.ensures
     (second_nowhere (closing_parts c.args.line.now open'.next) open'.ensures.0.within (variable_of v.variable, trees a.arguments.items) a.next inner
     (no_byte c.args.line.now a.next 41 (c.if-not-has_byte.ensures.no refl))))
 
@@ -64,6 +64,6 @@ returns c =
     let both : VariableTree × List Tree = (variable_of v.variable, trees a.arguments.items) in
     let inner = both_found (inner_parts c.args.line.now open'.next) open'.ensures.0.within (variable_of v.variable) (trees a.arguments.items) v.next a.next v.ensures a.ensures in
     let boxed = ap variable_of c.in_ok-variable-2.ensures.ok in
-    subst (λ v. Found IsTarget TargetEnds c.args.line.now c.args.at (SetPart open'.part v (trees a.arguments.items)) (a.next + 1)) (sym boxed)
-    (both_found (target_parts c.args.line.now c.args.at c.requires) within open'.part both open'.next (a.next + 1) open'.ensures
+    subst (λ v. Found (IsTarget c.args.dialect) TargetEnds c.args.line.now c.args.at (SetPart open'.part v (trees a.arguments.items)) (a.next + 1)) (sym boxed)
+    (both_found (target_parts c.args.dialect c.args.line.now c.args.at c.requires) within open'.part both open'.next (a.next + 1) open'.ensures
     (both_found (closing_parts c.args.line.now open'.next) open'.ensures.0.within both tt a.next (a.next + 1) inner (byte_found c.args.line.now a.next 41 (c.if-not-has_byte.ensures.yes refl))))

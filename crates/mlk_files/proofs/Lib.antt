@@ -1,0 +1,4 @@
+pub mod Paths
+pub mod Texts
+pub mod Dialects
+pub mod Found
