@@ -1,19 +1,12 @@
 #!/usr/bin/env python3
-"""Checks the lines of crates.txt.
-
-1. A library lists what its sources name, and nothing else. (A program or a crate of tests may list more: it also frees values
-   of types that it does not name.)
-2. To see whether a library has changed, rt reads all files of all crates below it, once for each way through crates.txt that
-   leads to them. A line that lists crates which others on it pass on multiplies these ways, and with them the minutes of the
-   gate. So the number of these reads has a limit.
+"""Checks the lines of crates.txt: a library lists what its sources name, and nothing else. (A program or a crate of tests may
+list more: it also frees values of types that it does not name.)
 """
-import functools
 import pathlib
 import re
 import sys
 
 TOP = pathlib.Path(__file__).resolve().parent.parent
-MOST_READS = 10_000_000
 
 
 def listed():
@@ -50,24 +43,12 @@ def wrong_lines(crates):
         yield from (f'{crate} names {it}, which it does not list' for it in crates if it in words and it not in (crate, *used) and not is_program(it))
 
 
-def reads(crates):
-    """How many files rt reads to see which libraries have changed, once for each library."""
-    @functools.cache
-    def below(crate):
-        return sum(1 for _ in sources(crate)) + sum(below(it) for it in crates[crate] if it in crates)
-
-    return sum(below(it) for it in crates if not is_program(it))
-
-
 def main():
     crates = listed()
     wrong = list(wrong_lines(crates))
-    count = reads(crates)
-    if count > MOST_READS:
-        wrong.append(f'rt reads {count:,} files to see which libraries have changed, and {MOST_READS:,} are the most')
     for it in wrong:
         print(it)
-    print(f'crates.txt: {len(crates)} crates, {count:,} files read: {len(crates)} passed, {len(wrong)} failed')
+    print(f'crates.txt: {len(crates)} passed, {len(wrong)} failed')
     return 1 if wrong else 0
 
 
