@@ -22,7 +22,7 @@ of (Err why) f = (0, 0, false)
 
 abbrev stands : List RoutineTree → Bool → ℕ × ℕ × Bool
 stands routines free =
-    of (begun routines first_entry 1 false []) (λ i. let j = (settled routines 100 i).0 in (length j.values, needs j.tasks, can_go (λ n. free) j j.tasks))
+    of (begun routines first_entry 1 false []) (λ i. let j = (settled routines 100 i).0 in (length j.values, needs j.tasks, can_go routines (λ n. free) j j.tasks))
 
 -- `$SELECT(0:1)`, which has no true condition
 abbrev no_true : Tree

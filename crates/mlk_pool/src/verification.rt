@@ -5,7 +5,7 @@ ghost use Rattle.mlk_syntax.specs.Views.{routine_of};
 ghost use Rattle.mlk_machine_laws.specs.WellFormed.{AreFormed};
 ghost use Rattle.mlk_pool.specs.Headline.{IsReportBy, Verified, IsUnreportedBy, IsUnverified};
 ghost use Rattle.mlk_pool.specs.Refusals.{AreAllowed};
-ghost use Rattle.mlk_pool.specs.Stages.{IsReportOfTrees, IsUnreportedOfTrees};
+ghost use Rattle.mlk_pool.specs.Stages.{IsReportByTexts, IsReportOfTrees, IsUnreportedByTexts, IsUnreportedOfTrees};
 
 use crate::error::{CheckError, entry_missing};
 use crate::gate::Gate;
@@ -52,6 +52,26 @@ pub fn verify_program<G: Gate + Sync, W: Watch, R: Threads + Wait + Sync>(
     Ok(rows)
 }
 
+// The report of `program`, by the texts of rules and of a certificate.
+fn rows_of_program<G: Gate + Sync, W: Watch, R: Threads + Wait + Sync>(
+    runner: &Runner<'_, R, W>,
+    program: &Program<'_>,
+    rules_text: &[u8],
+    cert_text: &[u8],
+    workers: usize,
+    gate: &G,
+) -> Result<mlk_walk::Report, CheckError>
+    requires { AreFormed (map routine_of program.now) }
+    ensures ok { IfOk result (IsReportByTexts rules_text.now cert_text.now (map routine_of program.now)) }
+    ensures allowed { IfOk result (λ _. AreAllowed workers) }
+    ensures refused { IfErr result (IsUnreportedByTexts (G.is_open gate.now) workers rules_text.now cert_text.now
+        (map routine_of program.now)) }
+{
+    let rules = read_rules(runner.alloc, rules_text)?;
+    let certificate = read_cert(runner.alloc, cert_text)?;
+    verify_program(runner, program, &rules, &certificate, workers, gate)
+}
+
 // The report of the program that these routines make, by the texts of rules and of a certificate.
 fn rows_of_routines<G: Gate + Sync, W: Watch, R: Threads + Wait + Sync>(
     runner: &Runner<'_, R, W>,
@@ -68,9 +88,7 @@ fn rows_of_routines<G: Gate + Sync, W: Watch, R: Threads + Wait + Sync>(
         rules_text.now cert_text.now) }
 {
     let program = link(runner.alloc, routines)?;
-    let rules = read_rules(runner.alloc, rules_text)?;
-    let certificate = read_cert(runner.alloc, cert_text)?;
-    verify_program(runner, &program, &rules, &certificate, workers, gate)
+    rows_of_program(runner, &program, rules_text, cert_text, workers, gate)
 }
 
 /// Reports on the texts of a program: of its routines, each with the stem of its file's name, of its `rules` and of a
