@@ -11,6 +11,7 @@ use mlk_outcome::OpenGate;
 use mlk_pool::report_by;
 use mlk_program::{Program, link};
 use mlk_reading::{Source, read_routines};
+use mlk_syntax::Routine;
 use mlk_walk::{Checks, Report};
 use mlk_watch::{Runner, Watch};
 use std::alloc::{AllocError, Global};
@@ -124,19 +125,13 @@ impl<'a> Search<'a> {
         texts: &[Vec<u8>],
     ) -> Result<Vec<Patch>, AllocError> {
         let (alloc, rules) = (self.alloc, self.grounds.rules);
-        let nothing = Vec::new(alloc);
-        let Some(certificate) = none_if_refused(make_certificate(
-            alloc,
-            program,
-            rules,
-            runner.watch,
-        ))?
-        else {
-            return Ok(nothing);
+        let made = make_certificate(alloc, program, rules, runner.watch);
+        let Some(certificate) = none_if_refused(made)? else {
+            return Ok(Vec::new(alloc));
         };
         let report = report_by(runner, program, rules, &certificate, WORKERS, &OpenGate);
         let Some(report) = none_if_refused(report)? else {
-            return Ok(nothing);
+            return Ok(Vec::new(alloc));
         };
         let grounds = Grounds {
             program,
@@ -149,6 +144,20 @@ impl<'a> Search<'a> {
         self.learn(given, &grounds, &report, false)
     }
 
+    // Links routines with these texts, and checks them.
+    fn link<R: Threads + Wait + Sync, W: Watch>(
+        &mut self,
+        runner: &Runner<'_, R, W>,
+        given: &Entries<'_>,
+        routines: &[Routine],
+        texts: &[Vec<u8>],
+    ) -> Result<Vec<Patch>, AllocError> {
+        match none_if_refused(link(self.alloc, routines))? {
+            Some(program) => self.check(runner, given, &program, texts),
+            None => Ok(Vec::new(self.alloc)),
+        }
+    }
+
     // Reads routines with these texts, and checks them.
     fn read<R: Threads + Wait + Sync, W: Watch>(
         &mut self,
@@ -156,17 +165,12 @@ impl<'a> Search<'a> {
         given: &Entries<'_>,
         texts: &[Vec<u8>],
     ) -> Result<Vec<Patch>, AllocError> {
-        let nothing = Vec::new(self.alloc);
         let mended = sources_with(self.alloc, self.sources, texts)?;
         let sources = read_in(self.alloc, self.sources.dialect(), mended)?;
-        let read = read_routines(runner, sources.as_slice());
-        let Some(routines) = none_if_refused(read)? else {
-            return Ok(nothing);
-        };
-        let Some(program) = none_if_refused(link(self.alloc, routines.as_slice()))? else {
-            return Ok(nothing);
-        };
-        self.check(runner, given, &program, texts)
+        match none_if_refused(read_routines(runner, sources.as_slice()))? {
+            Some(routines) => self.link(runner, given, routines.as_slice(), texts),
+            None => Ok(Vec::new(self.alloc)),
+        }
     }
 
     // Looks behind the faults that these patches mend, and behind those that are found then.

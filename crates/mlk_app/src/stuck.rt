@@ -40,24 +40,23 @@ pub(crate) fn none_if_refused<T: Drop, E: Drop>(
     }
 }
 
-// Explains the faults of `program` by a certificate that is made despite the entries that are given up. None is found if
-// something else is refused.
+// Explains the faults of `program` by a certificate that is made despite the entries that are given up, unless something else is
+// refused.
 fn explain_program<R: Threads + Wait + Sync, W: Watch>(
     runner: &Runner<'_, R, W>,
     program: &Program<'_>,
     rules: &Rules,
     sources: &Sources<'_>,
     form: ExplainedAs,
-) -> Result<ExplainedFaults, AllocError> {
+) -> Result<Option<ExplainedFaults>, AllocError> {
     let alloc = runner.alloc;
-    let nothing = ExplainedFaults::new(alloc, form);
     let Some(made) = none_if_refused(make_despite(alloc, program, rules, runner.watch))? else {
-        return Ok(nothing);
+        return Ok(None);
     };
     let certificate = &made.certificate;
     let report = report_by(runner, program, rules, certificate, WORKERS, &OpenGate);
     let Some(report) = none_if_refused(report)? else {
-        return Ok(nothing);
+        return Ok(None);
     };
     let texts = copied_texts(alloc, sources.routines.as_slice())?;
     let grounds = Grounds {
@@ -68,7 +67,21 @@ fn explain_program<R: Threads + Wait + Sync, W: Watch>(
         certificate,
         is_made: true,
     };
-    ExplainedFaults::of_report(alloc, form, &grounds, &report)
+    let faults = ExplainedFaults::of_report(alloc, form, &grounds, &report)?;
+    Ok(Some(faults))
+}
+
+// Explains the faults of `program` by the rules of `sources`.
+fn explain_by_rules<R: Threads + Wait + Sync, W: Watch>(
+    runner: &Runner<'_, R, W>,
+    program: &Program<'_>,
+    sources: &Sources<'_>,
+    form: ExplainedAs,
+) -> Result<Option<ExplainedFaults>, AllocError> {
+    match none_if_refused(read_rules(runner.alloc, sources.rules.as_slice()))? {
+        Some(rules) => explain_program(runner, program, &rules, sources, form),
+        None => Ok(None),
+    }
 }
 
 // The faults of these routines, in the `form` that is asked for.
@@ -77,16 +90,11 @@ fn explain_routines<R: Threads + Wait + Sync, W: Watch>(
     routines: &[Routine],
     sources: &Sources<'_>,
     form: ExplainedAs,
-) -> Result<ExplainedFaults, AllocError> {
-    let alloc = runner.alloc;
-    let nothing = ExplainedFaults::new(alloc, form);
-    let Some(program) = none_if_refused(link(alloc, routines))? else {
-        return Ok(nothing);
-    };
-    let Some(rules) = none_if_refused(read_rules(alloc, sources.rules.as_slice()))? else {
-        return Ok(nothing);
-    };
-    explain_program(runner, &program, &rules, sources, form)
+) -> Result<Option<ExplainedFaults>, AllocError> {
+    match none_if_refused(link(runner.alloc, routines))? {
+        Some(program) => explain_by_rules(runner, &program, sources, form),
+        None => Ok(None),
+    }
 }
 
 /// Adds to `text` the faults of a program for which no certificate can be made, with what explains them: those of the entries that
@@ -101,7 +109,9 @@ pub(crate) fn push_faults<R: Threads + Wait + Sync, W: Watch>(
         return Ok(());
     };
     let form = ExplainedAs::Text;
-    let faults = explain_routines(runner, routines.as_slice(), sources, form)?;
+    let Some(faults) = explain_routines(runner, routines.as_slice(), sources, form)? else {
+        return Ok(());
+    };
     if !faults.rows().is_empty() {
         text.extend_from_slice(NOTE)?;
         text.extend_from_slice(faults.text())?;
@@ -137,7 +147,11 @@ fn render_despite<R: Threads + Wait + Sync, W: Watch>(
         return render_notice(alloc, notice, output);
     };
     let trees = routines.as_slice();
-    let faults = explain_routines(runner, trees, sources, ExplainedAs::Stories)?;
+    let form = ExplainedAs::Stories;
+    let faults = match explain_routines(runner, trees, sources, form)? {
+        Some(faults) => faults,
+        None => ExplainedFaults::new(alloc, form),
+    };
     let inputs = inputs_of(program, trees);
     render_given_up(alloc, notice, &inputs, &faults, output)
 }
