@@ -1,11 +1,11 @@
 -- The tasks of a command, argument by argument. Restates ISO/IEC 11756, commands.
 use Rattle.std.specs.Prelude.{ℕ, suc, true, false, List, [], ◌∷◌, ◌++◌, flat_map, is_some, Option, Some, None}
 use Rattle.mlk_syntax.specs.ExprTrees.{Tree, LocalName, GlobalName, Subs, no_subs, ActualTree, count_subs}
-use Rattle.mlk_syntax.specs.Trees.{VariableTree, Named, CallTree, Called, DoTree, DoCall, KillTree, KillOne}
+use Rattle.mlk_syntax.specs.Trees.{VariableTree, Named, CallTree, Called, DoTree, DoCall, GotoTree, GoesTo, KillTree, KillOne}
 use Rattle.mlk_syntax.specs.Trees.{KillAllBut, NewTree, NewOne, NewAllBut, LockTree, LockNames, MergeTree, MergeInto}
 use Rattle.mlk_syntax.specs.Trees.{ReadTree, ReadText, ReadFormat, ReadLine, ReadCharacter, TargetTree, SetWhole}
 use Rattle.mlk_syntax.specs.Trees.{SetPart, SetTree, SetTo, WriteTree, WriteValue, WriteCharacter, WriteFormat}
-use Rattle.mlk_syntax.specs.Trees.{ActionTree, Do, Else, Halt, Hang, If, Job, Kill, Lock, Merge}
+use Rattle.mlk_syntax.specs.Trees.{ActionTree, Do, Else, Goto, Halt, Hang, If, Job, Kill, Lock, Merge}
 use Rattle.mlk_syntax.specs.Trees.{New, Quit, Read, Set, Write, LineTrees, no_lines, line}
 use Rattle.mlk_names.specs.declared.reference.Extent.TheVariants as extent
 use Rattle.mlk_names.specs.declared.reference.Access.TheVariants.{Writes}
@@ -44,6 +44,11 @@ do_parts (DoCall (Called column callee given) None) =
     each_actual (given_in given) ++ task.Call false callee (given_in given) ∷ []
 do_parts (DoCall (Called column callee given) (Some condition)) =
     each_actual (given_in given) ++ Evaluate condition ∷ task.CallIf callee (given_in given) ∷ []
+
+-- GOTO: its own postconditional, then the jump
+abbrev pub goto_parts : GotoTree → List Task
+goto_parts (GoesTo (Called column callee given) None) = task.GoTo callee ∷ []
+goto_parts (GoesTo (Called column callee given) (Some condition)) = Evaluate condition ∷ task.GoIf callee ∷ []
 
 -- a block; nothing if the line has none
 abbrev pub block_parts : LineTrees → List Task
@@ -123,6 +128,7 @@ abbrev pub action_parts : LineTrees → ActionTree → List Task
 action_parts block (Do []) = block_parts block
 action_parts block (Do (c ∷ calls)) = in_turn do_parts (Do (c ∷ calls)) 0 (c ∷ calls)
 action_parts block Else = task.SkipIf true ∷ []
+action_parts block (Goto gotos) = in_turn goto_parts (Goto gotos) 0 gotos
 action_parts block Halt = task.HaltJob ∷ []
 action_parts block (Hang times) = in_turn evaluated (Hang times) 0 times
 action_parts block (If []) = task.SkipIf false ∷ []

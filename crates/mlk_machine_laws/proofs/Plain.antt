@@ -10,13 +10,13 @@ use Rattle.mlk_names.specs.declared.reference.Extent.TheVariants as extent
 use Rattle.mlk_names.specs.declared.lock_name.LockName.{LockName}
 use Rattle.mlk_syntax.specs.declared.command.Sign.{Sign}
 use Rattle.mlk_syntax.specs.declared.command.Sign.TheVariants as sign
-use Rattle.mlk_syntax.specs.Trees.{VariableTree, CallTree, Called, DoTree, DoCall, KillTree, KillOne, KillAllBut, NewTree, NewOne, NewAllBut, LockTree, LockNames, MergeTree, MergeInto}
+use Rattle.mlk_syntax.specs.Trees.{VariableTree, CallTree, Called, DoTree, DoCall, GotoTree, GoesTo, KillTree, KillOne, KillAllBut, NewTree, NewOne, NewAllBut, LockTree, LockNames, MergeTree, MergeInto}
 use Rattle.mlk_syntax.specs.Trees.{ReadTree, ReadText, ReadFormat, ReadLine, ReadCharacter, TargetTree, SetWhole, SetPart, SetTree, SetTo, WriteTree, WriteValue, WriteCharacter, WriteFormat}
-use Rattle.mlk_syntax.specs.Trees.{ActionTree, Do, Else, Halt, Hang, If, Job, Kill, Lock, Merge, New, Quit, Read, Set, Write, LineTrees, no_lines, line}
+use Rattle.mlk_syntax.specs.Trees.{ActionTree, Do, Else, Goto, Halt, Hang, If, Job, Kill, Lock, Merge, New, Quit, Read, Set, Write, LineTrees, no_lines, line}
 use Rattle.mlk_syntax.specs.Trees.{ParameterTree, Once, Endless, Limited, CommandTree, Does, CommandTrees, Runs, finished, then_command, then_for}
 use Rattle.mlk_machine_jobs.specs.Tasks.{Task, LineTree, Evaluate, AskValue, RunCommands, NextArgument, marks}
 use Rattle.mlk_machine_jobs.specs.Expressions.{each_sub, each_tree, unused, write_node, read_global, read_local, operation, special_parts, of_global, function_parts, takes_name, each_actual, parts_of}
-use Rattle.mlk_machine_jobs.specs.Commands.{evaluated, evaluated_if, subs_in, in_variable, count_in, given_in, do_parts, block_parts, job_parts, if_parts, kill_variable, kill_parts, new_parts, lock_parts, merge_parts, store_last, in_time, read_into, read_parts, target_parts, set_parts, write_parts, in_turn, action_parts}
+use Rattle.mlk_machine_jobs.specs.Commands.{evaluated, evaluated_if, subs_in, in_variable, count_in, given_in, do_parts, goto_parts, block_parts, job_parts, if_parts, kill_variable, kill_parts, new_parts, lock_parts, merge_parts, store_last, in_time, read_into, read_parts, target_parts, set_parts, write_parts, in_turn, action_parts}
 use Rattle.mlk_machine_jobs.specs.Assigning.{assigned, assignments, subs_of_target, parts_in, merge_source, merge_target}
 use Rattle.mlk_machine_jobs.specs.Locking.{by_sign}
 use Rattle.mlk_machine_jobs.specs.Lines.{command_parts, parameter_parts, first_round, later_round, next_command}
@@ -158,6 +158,10 @@ calls : (d : DoTree) → Plain (do_parts d)
 calls (DoCall (Called column callee given) None) = both (each_actual (given_in given)) _ (actuals (given_in given)) (λ ts. refl)
 calls (DoCall (Called column callee given) (Some condition)) = both (each_actual (given_in given)) _ (actuals (given_in given)) (λ ts. refl)
 
+gotos : (g : GotoTree) → Plain (goto_parts g)
+gotos (GoesTo (Called column callee given) None) ts = refl
+gotos (GoesTo (Called column callee given) (Some condition)) ts = refl
+
 blocks : (lines : LineTrees) → Plain (block_parts lines)
 blocks no_lines ts = refl
 blocks (line head block rest) ts = refl
@@ -221,6 +225,7 @@ pub actions : (block : LineTrees) (a : ActionTree) → Plain (action_parts block
 actions block (Do []) = blocks block
 actions block (Do (c ∷ cs)) = turns do_parts (Do (c ∷ cs)) 0 calls (c ∷ cs)
 actions block Else = λ ts. refl
+actions block (Goto gs) = turns goto_parts (Goto gs) 0 gotos gs
 actions block Halt = λ ts. refl
 actions block (Hang times) = turns evaluated (Hang times) 0 (λ t ts. refl) times
 actions block (If []) = λ ts. refl

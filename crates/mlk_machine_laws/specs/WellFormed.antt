@@ -1,24 +1,25 @@
 -- Properties of each tree that a text spells, on which the laws of jobs' runs depend: a QUIT with a value occurs only where it
--- ends a call, each line has the level that it is listed at, no formal list contains a name twice, and READ is into locals.
--- Restates ISO/IEC 11756: QUIT, block, formallist, READ; that no QUIT with a value occurs in a block or in a FOR, and that READ
--- is into no global, is this project's own choice.
+-- ends a call, and GOTO only there, each line has the level that it is listed at, no formal list contains a name twice, and READ is into locals.
+-- Restates ISO/IEC 11756: QUIT, block, formallist, READ; that no QUIT with a value and no GOTO occurs in a block or in a FOR, and
+-- that READ is into no global, is this project's own choice.
 use Rattle.std.specs.Prelude.{◌≡◌, ℕ, suc, Bool, true, false, List, Some, Contains}
 use Rattle.std.specs.List.{list_all}
 use Rattle.mlk_syntax.specs.Distinct.{AreDistinct}
 use Rattle.mlk_syntax.specs.ExprTrees.{LocalName}
 use Rattle.mlk_syntax.specs.Trees.{VariableTree, Named, ReadTree, ReadText, ReadFormat, ReadLine, ReadCharacter, Read}
-use Rattle.mlk_syntax.specs.Trees.{CommandTree, Does, Quit, CommandTrees, finished, then_command, then_for}
+use Rattle.mlk_syntax.specs.Trees.{CommandTree, Does, Goto, Quit, CommandTrees, finished, then_command, then_for}
 use Rattle.mlk_syntax.specs.Trees.{HeadTree, LineHead, LineTrees, no_lines, line, RoutineTree, Named_routine}
 use Rattle.mlk_program.specs.Entries.{lines_in}
 use Rattle.mlk_machine_jobs.specs.Tasks.{LineTree}
 use Rattle.mlk_machine_jobs.specs.Calling.{formals_in}
 
--- QUIT with a value
+-- QUIT with a value, and GOTO
 abbrev pub answers : CommandTree → Bool
 answers (Does column condition (Quit (Some t))) = true
+answers (Does column condition (Goto gotos)) = true
 answers c = false
 
--- a QUIT with a value occurs only where `may` allows it, and behind no FOR
+-- a QUIT with a value, and GOTO, occur only where `may` allows them, and behind no FOR
 abbrev pub AnswersAtEnd : Bool → CommandTrees → Type 0
 AnswersAtEnd may finished = Unit {0}
 AnswersAtEnd may (then_command c rest) = (answers c ≡ true → may ≡ true) × AnswersAtEnd may rest
@@ -27,7 +28,7 @@ AnswersAtEnd may (then_for column index control rest) = AnswersAtEnd false rest
 abbrev pub IsAtLevel : ℕ → Bool → HeadTree → Type 0
 IsAtLevel level may (LineHead number at end label formals commands) = (at ≡ level) × AnswersAtEnd may commands
 
--- lines of one level, each with its block one level deeper, in which no QUIT has a value
+-- lines of one level, each with its block one level deeper, in which no QUIT has a value and no GOTO is
 abbrev pub AreLeveled : ℕ → Bool → LineTrees → Type 0
 AreLeveled level may no_lines = Unit {0}
 AreLeveled level may (line head block rest) =

@@ -12,21 +12,21 @@ use Rattle.mlk_names.specs.declared.reference.Extent.TheVariants as extent
 use Rattle.mlk_names.specs.declared.lock_name.LockName.{LockName}
 use Rattle.mlk_syntax.specs.declared.command.Sign.{Sign}
 use Rattle.mlk_syntax.specs.declared.command.Sign.TheVariants as sign
-use Rattle.mlk_syntax.specs.Trees.{RoutineTree, VariableTree, Named, CallTree, Called, DoTree, DoCall, KillTree, KillOne, KillAllBut, NewTree}
+use Rattle.mlk_syntax.specs.Trees.{RoutineTree, VariableTree, Named, CallTree, Called, DoTree, DoCall, GotoTree, GoesTo, KillTree, KillOne, KillAllBut, NewTree}
 use Rattle.mlk_syntax.specs.Trees.{NewOne, NewAllBut, LockTree, LockNames, MergeTree, MergeInto}
 use Rattle.mlk_syntax.specs.Trees.{ReadTree, ReadText, ReadFormat, ReadLine, ReadCharacter, TargetTree, SetWhole, SetPart, SetTree, SetTo, WriteTree}
 use Rattle.mlk_syntax.specs.Trees.{WriteValue, WriteCharacter, WriteFormat}
-use Rattle.mlk_syntax.specs.Trees.{ActionTree, Do, Else, Halt, Hang, If, Job, Kill, Lock, Merge, New, Quit, Read, Set, Write, LineTrees, no_lines, line}
+use Rattle.mlk_syntax.specs.Trees.{ActionTree, Do, Else, Goto, Halt, Hang, If, Job, Kill, Lock, Merge, New, Quit, Read, Set, Write, LineTrees, no_lines, line}
 use Rattle.mlk_syntax.specs.Trees.{ParameterTree, Once, Endless, Limited, CommandTree, Does, CommandTrees, ControlTree, Runs, finished, then_command, then_for}
 use Rattle.mlk_program.specs.Calls as call
-use Rattle.mlk_program.specs.Calls.{in_tree, in_trees, in_subs, in_links, in_choices, in_actual, in_actuals, in_option, in_given, in_do, in_call}
+use Rattle.mlk_program.specs.Calls.{in_tree, in_trees, in_subs, in_links, in_choices, in_actual, in_actuals, in_option, in_given, in_do, in_goto, in_call}
 use Rattle.mlk_program.specs.Calls.{in_kill, in_lock, in_merge, in_read, in_target, in_set, in_write, in_action, in_command, in_parameter}
 use Rattle.mlk_program.specs.Calls.{in_control, in_commands}
 use Rattle.mlk_machine_jobs.specs.Tasks as task
 use Rattle.mlk_machine_jobs.specs.Tasks.{Task, LineTree, RunLines, RunCommands, Parameters, Forever, NextValue, FirstRound, LaterRound}
 use Rattle.mlk_machine_jobs.specs.Expressions.{each_sub, each_tree, unused, read_global, read_local, operation, special_parts, of_global}
 use Rattle.mlk_machine_jobs.specs.Expressions.{function_parts, takes_name, each_actual, parts_of}
-use Rattle.mlk_machine_jobs.specs.Commands.{evaluated, evaluated_if, in_variable, given_in, do_parts, block_parts, job_parts, if_parts}
+use Rattle.mlk_machine_jobs.specs.Commands.{evaluated, evaluated_if, in_variable, given_in, do_parts, goto_parts, block_parts, job_parts, if_parts}
 use Rattle.mlk_machine_jobs.specs.Commands.{kill_variable, kill_parts, new_parts, lock_parts, merge_parts, store_last, in_time, read_into}
 use Rattle.mlk_machine_jobs.specs.Commands.{read_parts, target_parts, set_parts, write_parts, action_parts, in_turn}
 use Rattle.mlk_machine_jobs.specs.Assigning.{assigned, assignments, subs_of_target, parts_in, merge_source, merge_target}
@@ -174,6 +174,11 @@ module _ (routines : List RoutineTree) (r : ℕ) where
       both (of_given given (left (in_given given) (in_tree condition) h.1))
       (both (value condition (right (in_given given) (in_tree condition) h.1)) (one (task.CallIf callee (given_in given)) refl h.0))
 
+  gotos : (g : GotoTree) → Found (in_goto g) → PartsFound (goto_parts g)
+  gotos (GoesTo (Called column callee given) None) h = one (task.GoTo callee) refl tt
+  gotos (GoesTo (Called column callee given) (Some condition)) h =
+      both (value condition (right (in_given given) (in_tree condition) h.1)) (one (task.GoIf callee) refl tt)
+
   blocks : (lines : LineTrees) → AreFoundIn routines r lines → PartsFound (block_parts lines)
   blocks no_lines h = none
   blocks (line head block rest) h = one (task.Block (line head block rest)) refl h
@@ -264,6 +269,7 @@ module _ (routines : List RoutineTree) (r : ℕ) where
   actions block b (Do []) h = blocks block b
   actions block b (Do (c ∷ cs)) h = turns in_do do_parts calls (Do (c ∷ cs)) 0 (c ∷ cs) h
   actions block b Else h = one (task.SkipIf true) refl tt
+  actions block b (Goto gs) h = turns in_goto goto_parts gotos (Goto gs) 0 gs h
   actions block b Halt h = one task.HaltJob refl tt
   actions block b (Hang times) h = turns in_tree evaluated evaluation (Hang times) 0 times h
   actions block b (If []) h = one (task.SkipIf false) refl tt

@@ -1,14 +1,15 @@
 -- Commands, lines and rounds need what is needed behind them, and so does what is left after they are skipped or quit.
-use Rattle.std.proofs.Common.{◌≡◌, ◌∙◌, ℕ, suc, ◌+◌, Bool, true, false, List, [], ◌∷◌, ◌++◌, Option, Some, None, refl, sym, ap, arith, append_assoc, ⊎_elim}
+use Rattle.std.proofs.Common.{◌≡◌, ◌∙◌, ℕ, suc, ◌+◌, Bool, true, false, List, [], ◌∷◌, ◌++◌, Option, Some, None, refl, sym, ap, subst, arith, append_assoc, ⊎_elim}
 use Rattle.std.specs.Prelude.{if◌then◌else◌}
 use Rattle.std.proofs.lemmas.Bool.{cases_Bool}
 use Rattle.mlk_syntax.specs.ExprTrees.{Tree}
-use Rattle.mlk_syntax.specs.Trees.{ActionTree, Do, Else, Halt, Hang, If, Job, Kill, Lock, Merge, New, Quit, Read, Set, Write, LineTrees}
+use Rattle.mlk_syntax.specs.Trees.{ActionTree, Do, Else, Goto, Halt, Hang, If, Job, Kill, Lock, Merge, New, Quit, Read, Set, Write, LineTrees}
+use Rattle.mlk_syntax.specs.Trees.{Called, GotoTree, GoesTo}
 use Rattle.mlk_syntax.specs.Trees.{ParameterTree, Once, Endless, Limited, CommandTree, Does, CommandTrees, ControlTree, Runs, finished, then_command, then_for}
 use Rattle.mlk_machine_jobs.specs.Bindings.{AllBut}
 use Rattle.mlk_machine_jobs.specs.Tasks as task
 use Rattle.mlk_machine_jobs.specs.Tasks.{Task, LineTree, RunLines, RunCommands, Parameters, Forever, NextValue, FirstRound, LaterRound, EndBlock, EndFrame}
-use Rattle.mlk_machine_jobs.specs.Commands.{evaluated, do_parts, if_parts, job_parts, kill_parts, new_parts, lock_parts, merge_parts, read_parts}
+use Rattle.mlk_machine_jobs.specs.Commands.{evaluated, do_parts, goto_parts, if_parts, job_parts, kill_parts, new_parts, lock_parts, merge_parts, read_parts}
 use Rattle.mlk_machine_jobs.specs.Commands.{set_parts, write_parts, action_parts, in_turn}
 use Rattle.mlk_machine_jobs.specs.Lines.{is_end, skipped, to_end, quit, tasks_if, command_parts, for_parts, parameter_parts, first_round, later_round, next_command}
 use Rattle.mlk_machine_progress.specs.Progress.{uses, leaves}
@@ -70,10 +71,39 @@ ifs action done (c ∷ cs) n ts r s =
     } in
     condition c n (next ∷ more) (before next more refl refl refl refl rest) (put n next more refl refl rest t)
 
+-- GOTO with several arguments
+end_gotos : (action : ActionTree) (done : ℕ) (gs : List GotoTree) (ts : List Task) → to_end (in_turn goto_parts action done gs ++ ts) ≡ to_end ts
+end_gotos action done [] ts = refl
+end_gotos action done (GoesTo (Called column callee given) None ∷ gs) ts = end_gotos action (suc done) gs ts
+end_gotos action done (GoesTo (Called column callee given) (Some t) ∷ gs) ts = end_gotos action (suc done) gs ts
+
+skip_gotos : (action : ActionTree) (done : ℕ) (gs : List GotoTree) (ts : List Task) → skipped (in_turn goto_parts action done gs ++ ts) ≡ skipped ts
+skip_gotos action done [] ts = refl
+skip_gotos action done (GoesTo (Called column callee given) None ∷ gs) ts = skip_gotos action (suc done) gs ts
+skip_gotos action done (GoesTo (Called column callee given) (Some t) ∷ gs) ts = skip_gotos action (suc done) gs ts
+
+goto_one : (g : GotoTree) → Keeps (goto_parts g)
+goto_one (GoesTo (Called column callee given) None) = behind none (task.GoTo callee) refl refl
+goto_one (GoesTo (Called column callee given) (Some t)) = behind (value t 0) (task.GoIf callee) refl refl
+
+gotos : (action : ActionTree) (done : ℕ) (gs : List GotoTree) → Keeps (in_turn goto_parts action done gs)
+gotos action done [] n ts r s = s
+gotos action done (g ∷ gs) n ts r s =
+    let more : List Task = in_turn goto_parts action (suc done) gs ++ ts in
+    let next : Task = task.NextArgument action (suc done) in
+    let t : Suits n more = gotos action (suc done) gs n ts r s in
+    let rest : IsRest more = record {
+      skips = ap needs (skip_gotos action (suc done) gs ts) ∙ r.skips ∙ s.1 ∙ sym t.1;
+      ends = ap needs (end_gotos action (suc done) gs ts) ∙ r.ends ∙ s.1 ∙ sym t.1;
+    } in
+    subst (Suits n) (sym (append_assoc (goto_parts g) (next ∷ in_turn goto_parts action (suc done) gs) ts))
+    (goto_one g n (next ∷ more) (before next more refl refl refl refl rest) (put n next more refl refl rest t))
+
 pub actions : (block : LineTrees) (a : ActionTree) → Keeps (action_parts block a)
 actions block (Do []) = plainly (blocks block)
 actions block (Do (c ∷ cs)) = plainly (turns do_parts calls (Do (c ∷ cs)) 0 (c ∷ cs))
 actions block Else = behind none (task.SkipIf true) refl refl
+actions block (Goto gs) = gotos (Goto gs) 0 gs
 actions block Halt = plainly (one task.HaltJob 0 refl refl refl)
 actions block (Hang times) = plainly (turns evaluated (λ t. evaluation t 0) (Hang times) 0 times)
 actions block (If []) = behind none (task.SkipIf false) refl refl

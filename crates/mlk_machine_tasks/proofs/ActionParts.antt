@@ -3,6 +3,7 @@ use Rattle.std.proofs.Common.{◌≡◌, ℕ, suc, List, [], ◌∷◌, ◌++◌
 use Rattle.std.specs.Prelude.{map}
 use Rattle.mlk_syntax.specs.ExprTrees.{Tree}
 use Rattle.mlk_syntax.specs.declared.command.DoArgument.{DoArgument}
+use Rattle.mlk_syntax.specs.declared.command.GotoArgument.{GotoArgument}
 use Rattle.mlk_syntax.specs.declared.command.KillArgument.{KillArgument}
 use Rattle.mlk_syntax.specs.declared.command.LockArgument.{LockArgument}
 use Rattle.mlk_syntax.specs.declared.command.NewArgument.{NewArgument}
@@ -12,9 +13,9 @@ use Rattle.mlk_syntax.specs.declared.command.ReadArgument.{ReadArgument}
 use Rattle.mlk_syntax.specs.declared.command.SetArgument.{SetArgument}
 use Rattle.mlk_syntax.specs.declared.command.WriteArgument.{WriteArgument}
 use Rattle.mlk_syntax.specs.Trees.{ActionTree, LineTrees, Do, If, Kill, Lock, New, Quit, DoTree, KillTree, LockTree, NewTree}
-use Rattle.mlk_syntax.specs.Views.{do_of, kill_of, lock_of, new_of, call_of, merge_of, read_of, set_of, write_of}
+use Rattle.mlk_syntax.specs.Views.{do_of, goto_of, kill_of, lock_of, new_of, call_of, merge_of, read_of, set_of, write_of}
 use Rattle.mlk_machine_jobs.specs.Tasks.{Task, NextArgument}
-use Rattle.mlk_machine_jobs.specs.Commands.{in_turn, block_parts, action_parts, do_parts, kill_parts, if_parts, lock_parts, new_parts, job_parts, merge_parts, read_parts, set_parts, write_parts}
+use Rattle.mlk_machine_jobs.specs.Commands.{in_turn, block_parts, action_parts, do_parts, goto_parts, kill_parts, if_parts, lock_parts, new_parts, job_parts, merge_parts, read_parts, set_parts, write_parts}
 use Rattle.mlk_machine_tasks.specs.ArgumentViews.{do_all, if_all, kill_all, lock_all, new_all, quit_parts}
 
 -- arguments in turn, through a view of them
@@ -71,6 +72,10 @@ does_lock block (x ∷ xs) = refl
 pub does_new : (block : LineTrees) (xs : List NewTree) → action_parts block (New xs) ≡ new_all (New xs) xs
 does_new block [] = refl
 does_new block (x ∷ xs) = refl
+
+pub goto_mapped : (action : ActionTree) (xs : List GotoArgument)
+    → in_turn goto_parts action 0 (map goto_of xs) ≡ in_turn (λ x. goto_parts (goto_of x)) action 0 xs
+goto_mapped action xs = turn_mapped goto_parts goto_of action 0 xs
 
 pub job_mapped : (action : ActionTree) (xs : List Call)
     → in_turn job_parts action 0 (map call_of xs) ≡ in_turn (λ x. job_parts (call_of x)) action 0 xs

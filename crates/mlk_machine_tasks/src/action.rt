@@ -2,9 +2,9 @@
 
 ghost use Rattle.std.specs.Prelude.{OnOk, map, option_map};
 ghost use Rattle.mlk_syntax.specs.ExprTrees.{tree_of, trees};
-ghost use Rattle.mlk_syntax.specs.Views.{call_of, do_of, kill_of, lock_of, merge_of, new_of};
+ghost use Rattle.mlk_syntax.specs.Views.{call_of, do_of, goto_of, kill_of, lock_of, merge_of, new_of};
 ghost use Rattle.mlk_syntax.specs.Views.{read_of, set_of, write_of, action_of, command_of};
-ghost use Rattle.mlk_machine_jobs.specs.Commands.{in_turn, evaluated, job_parts, merge_parts};
+ghost use Rattle.mlk_machine_jobs.specs.Commands.{in_turn, evaluated, goto_parts, job_parts, merge_parts};
 ghost use Rattle.mlk_machine_jobs.specs.Commands.{read_parts, set_parts, write_parts, action_parts};
 ghost use Rattle.mlk_machine_jobs.specs.Lines.{command_parts};
 ghost use Rattle.mlk_machine_jobs.specs.TaskViews.{Adds, block_of};
@@ -15,7 +15,7 @@ use crate::part::{add_arguments, record_done};
 use mlk_machine_expressions::add;
 use mlk_machine_jobs::{LineTask, LocalTask, LockTask, Names, Task, TestTask, ValueTask};
 use mlk_syntax::{
-    Action, Call, Command, DoArgument, Expr, KillArgument, Line, LockArgument, MergeArgument,
+    Action, Call, Command, DoArgument, Expr, GotoArgument, KillArgument, Line, LockArgument, MergeArgument,
     NewArgument, ReadArgument, SetArgument, WriteArgument,
 };
 use std::alloc::AllocError;
@@ -121,6 +121,19 @@ fn new_all<'a>(
     }
 }
 
+// The arguments of GOTO.
+#[tactic(auto, using(crate::proofs::ActionParts::goto_mapped))]
+fn goto_all<'a>(
+    parts: &mut Vec<Task<'a>>,
+    action: &'a Action,
+    gotos: &'a [GotoArgument],
+) -> Result<(), AllocError>
+    ensures { OnOk result (Adds (in_turn goto_parts (action_of action.now) 0 (map goto_of gotos.now)) parts.old.items parts.new.items) }
+{
+    add_arguments(parts, action, gotos)?;
+    Ok(())
+}
+
 // The arguments of JOB.
 #[tactic(auto, using(crate::proofs::ActionParts::job_mapped))]
 fn job_all<'a>(
@@ -215,6 +228,7 @@ pub fn action_parts<'a>(
     match action {
         Action::Do(calls) => do_all(parts, block, action, calls),
         Action::Else => add(parts, Task::Test(TestTask::SkipIf(true))),
+        Action::Goto(gotos) => goto_all(parts, action, gotos),
         Action::Halt => add(parts, Task::Line(LineTask::HaltJob)),
         Action::Hang(times) => evaluate_each(parts, action, times),
         Action::If(conditions) => if_all(parts, action, conditions),

@@ -1,9 +1,9 @@
-// The tasks of arguments of DO, MERGE, NEW, READ and WRITE.
+// The tasks of arguments of DO, GOTO, MERGE, NEW, READ and WRITE.
 
 ghost use Rattle.std.specs.Prelude.{OnOk, option_map};
 ghost use Rattle.mlk_syntax.specs.ExprTrees.{tree_of};
-ghost use Rattle.mlk_syntax.specs.Views.{variable_of, do_of, new_of, merge_of, read_of, write_of};
-ghost use Rattle.mlk_machine_jobs.specs.Commands.{do_parts, new_parts, merge_parts, store_last, read_parts, write_parts};
+ghost use Rattle.mlk_syntax.specs.Views.{variable_of, do_of, goto_of, new_of, merge_of, read_of, write_of};
+ghost use Rattle.mlk_machine_jobs.specs.Commands.{do_parts, goto_parts, new_parts, merge_parts, store_last, read_parts, write_parts};
 ghost use Rattle.mlk_machine_jobs.specs.TaskViews.{Adds};
 ghost use Rattle.mlk_machine_tasks.specs.ArgumentViews.{read_after};
 
@@ -11,7 +11,7 @@ use crate::command::{evaluate_and_drop, evaluate_if_some, given_in, in_time, in_
 use mlk_machine_expressions::{add, bare_name, each_actual};
 use mlk_machine_jobs::{Calling, LocalTask, Names, ScopeTask, Task, ValueTask, count_in};
 use mlk_syntax::{
-    DoArgument, Expr, MergeArgument, NewArgument, ReadArgument, Variable, WriteArgument,
+    DoArgument, Expr, GotoArgument, MergeArgument, NewArgument, ReadArgument, Variable, WriteArgument,
 };
 use std::alloc::AllocError;
 
@@ -48,6 +48,26 @@ pub(crate) fn do_parts<'a>(
                 parts,
                 Task::Scope(ScopeTask::CallIf(&argument.call.callee, given)),
             )?;
+            Ok(())
+        }
+    }
+}
+
+pub(crate) fn goto_parts<'a>(
+    parts: &mut Vec<Task<'a>>,
+    argument: &'a GotoArgument,
+) -> Result<(), AllocError>
+    ensures { OnOk result (Adds (goto_parts (goto_of argument.now)) parts.old.items parts.new.items) }
+{
+    let callee = &argument.call.callee;
+    match &argument.condition {
+        None => {
+            add(parts, Task::Scope(ScopeTask::GoTo(callee)))?;
+            Ok(())
+        }
+        Some(condition) => {
+            add(parts, Task::Value(ValueTask::Evaluate(condition)))?;
+            add(parts, Task::Scope(ScopeTask::GoIf(callee)))?;
             Ok(())
         }
     }

@@ -1,9 +1,9 @@
 // Parts of commands that are expanded into tasks, and lists of them.
 
 ghost use Rattle.std.specs.Prelude.{OnOk, ◌∷◌, [], ◌-◌, ◌≤◌, length, flat_map};
-ghost use Rattle.mlk_syntax.specs.Views.{variable_of, call_of, do_of, kill_of, new_of, lock_of};
+ghost use Rattle.mlk_syntax.specs.Views.{variable_of, call_of, do_of, goto_of, kill_of, new_of, lock_of};
 ghost use Rattle.mlk_syntax.specs.Views.{merge_of, read_of, target_of, set_of, write_of, action_of};
-ghost use Rattle.mlk_machine_jobs.specs.Commands.{in_turn, in_variable, job_parts, do_parts, kill_parts, new_parts};
+ghost use Rattle.mlk_machine_jobs.specs.Commands.{in_turn, in_variable, job_parts, do_parts, goto_parts, kill_parts, new_parts};
 ghost use Rattle.mlk_machine_jobs.specs.Commands.{lock_parts, merge_parts, read_parts, target_parts, set_parts, write_parts};
 ghost use Rattle.mlk_machine_jobs.specs.Tasks.{NextArgument};
 ghost use Rattle.mlk_machine_jobs.specs.TaskViews.{Adds};
@@ -13,7 +13,7 @@ use crate::{argument, target};
 use mlk_machine_expressions::add;
 use mlk_machine_jobs::{LineTask, Task};
 use mlk_syntax::{
-    Action, Call, DoArgument, KillArgument, LockArgument, MergeArgument, NewArgument, ReadArgument,
+    Action, Call, DoArgument, GotoArgument, KillArgument, LockArgument, MergeArgument, NewArgument, ReadArgument,
     SetArgument, Target, Variable, WriteArgument,
 };
 use std::alloc::AllocError;
@@ -99,6 +99,14 @@ impl Expanded for DoArgument {
 
     fn add_to<'a>(&'a self, parts: &mut Vec<Task<'a>>) -> Result<(), AllocError> {
         argument::do_parts(parts, self)
+    }
+}
+
+impl Expanded for GotoArgument {
+    ghost tasks = { λ g. goto_parts (goto_of g) };
+
+    fn add_to<'a>(&'a self, parts: &mut Vec<Task<'a>>) -> Result<(), AllocError> {
+        argument::goto_parts(parts, self)
     }
 }
 

@@ -1,15 +1,15 @@
--- The calls of a line, in source order: `$$` in expressions, the arguments of DO and of JOB. A call comes before those in its
+-- The calls of a line, in source order: `$$` in expressions, the arguments of DO, JOB and GOTO. A call comes before those in its
 -- actuals. Standard: extrinsic function, extrinsic special variable (`$$` without a list), DO, JOB.
 use Rattle.std.specs.Prelude.{List, [], ◌∷◌, ◌++◌, flat_map, Option, Some, None}
 use Rattle.mlk_syntax.specs.ExprTrees.{Tree, Lit, Free, LocalName, GlobalName, SpecialName, Prefixed, Chain, PatternText}
 use Rattle.mlk_syntax.specs.ExprTrees.{Func, Selected, BareCall, CallOf, Trees, no_trees, tree, Subs, no_subs, sub, Links}
 use Rattle.mlk_syntax.specs.ExprTrees.{no_links, link, Choices, no_choices, choice, ActualTree, Given, ByRef, Missing}
 use Rattle.mlk_syntax.specs.ExprTrees.{Actuals, no_actuals, actual, as_list}
-use Rattle.mlk_syntax.specs.Trees.{VariableTree, Named, CallTree, Called, DoTree, DoCall, KillTree, KillOne}
+use Rattle.mlk_syntax.specs.Trees.{VariableTree, Named, CallTree, Called, DoTree, DoCall, GotoTree, GoesTo, KillTree, KillOne}
 use Rattle.mlk_syntax.specs.Trees.{KillAllBut, LockTree, LockNames, MergeTree, MergeInto}
 use Rattle.mlk_syntax.specs.Trees.{ReadTree, ReadText, ReadFormat, ReadLine, ReadCharacter, TargetTree, SetWhole}
 use Rattle.mlk_syntax.specs.Trees.{SetPart, SetTree, SetTo, WriteTree, WriteValue, WriteCharacter, WriteFormat}
-use Rattle.mlk_syntax.specs.Trees.{ActionTree, Do, Else, Halt, Hang, If, Job, Kill, Lock, Merge, New, Quit, Read, Set}
+use Rattle.mlk_syntax.specs.Trees.{ActionTree, Do, Else, Goto, Halt, Hang, If, Job, Kill, Lock, Merge, New, Quit, Read, Set}
 use Rattle.mlk_syntax.specs.Trees.{Write, CommandTree, Does, ParameterTree, Once, Endless, Limited, ControlTree, Runs}
 use Rattle.mlk_syntax.specs.Trees.{CommandTrees, finished, then_command, then_for}
 
@@ -61,7 +61,7 @@ in_option (Some t) = in_tree t
 abbrev pub in_variable : VariableTree → List CallTree
 in_variable (Named column name) = in_tree name
 
--- an argument of DO and JOB, and the calls in its actuals
+-- an argument of DO, JOB and GOTO, and the calls in its actuals
 abbrev pub in_given : Option (List ActualTree) → List CallTree
 in_given None = []
 in_given (Some given) = flat_map in_actual given
@@ -71,6 +71,9 @@ in_call (Called column callee given) = Called column callee given ∷ in_given g
 
 abbrev pub in_do : DoTree → List CallTree
 in_do (DoCall call condition) = in_call call ++ in_option condition
+
+abbrev pub in_goto : GotoTree → List CallTree
+in_goto (GoesTo call condition) = in_call call ++ in_option condition
 
 abbrev pub in_kill : KillTree → List CallTree
 in_kill (KillOne v) = in_variable v
@@ -103,6 +106,7 @@ in_write (WriteFormat tab) = in_option tab
 abbrev pub in_action : ActionTree → List CallTree
 in_action (Do calls) = flat_map in_do calls
 in_action Else = []
+in_action (Goto gotos) = flat_map in_goto gotos
 in_action Halt = []
 in_action (Hang times) = flat_map in_tree times
 in_action (If conditions) = flat_map in_tree conditions

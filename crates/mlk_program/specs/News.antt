@@ -2,7 +2,7 @@
 use Rattle.std.specs.Prelude.{◌≡◌, List, [], ◌∷◌, ◌++◌, map, flat_map}
 use Rattle.mlk_syntax.specs.declared.command.Command.{Command}
 use Rattle.mlk_syntax.specs.Trees.{NewTree, NewOne, NewAllBut, CommandTrees, finished, then_command, then_for}
-use Rattle.mlk_syntax.specs.Trees.{ActionTree, Do, Else, Halt, Hang, If, Job, Kill, Lock, Merge, New, Quit, Read, Set}
+use Rattle.mlk_syntax.specs.Trees.{ActionTree, Do, Else, Goto, Halt, Hang, If, Job, Kill, Lock, Merge, New, Quit, Read, Set}
 use Rattle.mlk_syntax.specs.Trees.{Write, Does, HeadTree, LineHead, LineTrees}
 use Rattle.mlk_syntax.specs.Views.{action_of}
 use Rattle.mlk_program.specs.declared.news.NewNames.{NewNames}
@@ -17,6 +17,7 @@ abbrev pub news_of : ActionTree → List NewTree
 news_of (New news) = all_without_arguments news
 news_of (Do calls) = []
 news_of Else = []
+news_of (Goto gotos) = []
 news_of Halt = []
 news_of (Hang times) = []
 news_of (If conditions) = []

@@ -1,16 +1,16 @@
 // The calls in commands.
 
 ghost use Rattle.std.specs.Prelude.{◌≡◌, IfOk, OnOk, flat_map, map, Some};
-ghost use Rattle.mlk_syntax.specs.Views.{variable_of, do_of, kill_of, lock_of, merge_of, read_of, target_of, set_of};
+ghost use Rattle.mlk_syntax.specs.Views.{variable_of, do_of, goto_of, kill_of, lock_of, merge_of, read_of, target_of, set_of};
 ghost use Rattle.mlk_syntax.specs.Views.{write_of, action_of, command_of, parameter_of, call_of, control_of, commands_of};
-ghost use Rattle.mlk_program.specs.Calls.{in_variable, in_call, in_do, in_kill, in_lock, in_merge, in_read, in_target};
+ghost use Rattle.mlk_program.specs.Calls.{in_variable, in_call, in_do, in_goto, in_kill, in_lock, in_merge, in_read, in_target};
 ghost use Rattle.mlk_program.specs.Calls.{in_set, in_write, in_action, in_command, in_parameter, in_control, in_commands};
 ghost use Rattle.mlk_program.specs.Found.{Finds, site_of, of_expr, of_actual};
 
 use crate::call::{CallSite, add_call};
 use crate::expr;
 use mlk_syntax::{
-    Action, Actual, Call, Command, Commands, Control, DoArgument, Expr, KillArgument, LockArgument,
+    Action, Actual, Call, Command, Commands, Control, DoArgument, Expr, GotoArgument, KillArgument, LockArgument,
     MergeArgument, Parameter, ReadArgument, SetArgument, Several, Target, Variable, WriteArgument,
 };
 use std::alloc::{AllocError, Global};
@@ -129,6 +129,16 @@ impl HasCalls for DoArgument {
     }
 }
 
+impl HasCalls for GotoArgument {
+    ghost calls = { λ g. in_goto (goto_of g) };
+
+    fn find<'a>(&'a self, found: &mut Vec<CallSite<'a>>) -> Result<(), AllocError> {
+        self.call.find(found)?;
+        self.condition.find(found)?;
+        Ok(())
+    }
+}
+
 impl HasCalls for KillArgument {
     ghost calls = { λ k. in_kill (kill_of k) };
 
@@ -229,6 +239,7 @@ impl HasCalls for Action {
         match self {
             Action::Do(calls) => calls.find(found),
             Action::Else | Action::Halt | Action::New(_) => Ok(()),
+            Action::Goto(gotos) => gotos.find(found),
             Action::Hang(values) | Action::If(values) => values.find(found),
             Action::Job(calls) => calls.find(found),
             Action::Kill(kills) => kills.find(found),

@@ -16,11 +16,11 @@ use Rattle.mlk_routine_arguments.specs.declared.word.Word.TheVariants as word
 use Rattle.mlk_routine_arguments.specs.declared.word.AddedWord.{AddedWord}
 use Rattle.mlk_routine_arguments.specs.declared.word.AddedWord.TheVariants as added
 use Rattle.mlk_routine_arguments.specs.Traps.{IsTrap}
-use Rattle.mlk_syntax.specs.Trees.{LockTree, NewTree, ActionTree, Do, Else, Halt, Hang, If, Job, Kill, Lock, Merge, New, Quit, Read, Set, Write, CommandTree, Does}
+use Rattle.mlk_syntax.specs.Trees.{LockTree, NewTree, ActionTree, Do, Else, Goto, Halt, Hang, If, Job, Kill, Lock, Merge, New, Quit, Read, Set, Write, CommandTree, Does}
 use Rattle.mlk_routine_arguments.specs.Ends.{Lacks, starts, is_command_end, StopEnds, CommandEnd}
 use Rattle.mlk_routine_arguments.specs.CommandWords.{may_have_condition, has_arguments}
 use Rattle.mlk_routine_arguments.specs.CommandGrammar.{Both, IsValue, IsDo, IsJob, IsKill, IsLock, IsMerge, IsNew, IsRead, IsSet, IsWrite, IsCondition, AreSome, ArePerhaps, AreArgumentsOf, IsQuit, DeviceTree, claim_of, naming, opening, AreDevices, AreAdded, IsNewed, locals_of, new_or_nothing, AreNews, IsCommand}
-use Rattle.mlk_routine_arguments.specs.Kinds.{kind, halts_or_hangs, Means, word_in, IsNamed, WordEnds, has_condition, IsConditionOf, ConditionEnds, IsActionOf, ActionEnds}
+use Rattle.mlk_routine_arguments.specs.Kinds.{kind, is_standard, halts_or_hangs, Means, word_in, IsNamed, WordEnds, has_condition, IsConditionOf, ConditionEnds, IsActionOf, ActionEnds}
 use Rattle.mlk_routine_arguments.proofs.Sequences.{Parts}
 use Rattle.mlk_routine_arguments.proofs.Words.{means_written, written_means, added_written, added_named}
 
@@ -71,6 +71,7 @@ quit_space returns k (Some t) s (may, (r, is, one)) = inr (r, is)
 arguments_space : (d : Dialect) (returns : Bool) (k : ℕ) (a : ActionTree) (s : List ℕ) → AreArgumentsOf d returns k a s → (s ≡ []) ⊎ ((r : List ℕ) × (s ≡ 32 ∷ r))
 arguments_space d returns k (Do calls) s is = perhaps_space IsDo k calls s is
 arguments_space d returns k Else s is = inl is
+arguments_space d returns k (Goto gotos) s is = absurd is
 arguments_space d returns k Halt s is = inl is
 arguments_space d returns k (Hang times) s is = inr (some_space IsValue k times s is)
 arguments_space d returns k (If conditions) s is = perhaps_space IsValue k conditions s is
@@ -84,17 +85,23 @@ arguments_space d returns k (Read reads) s is = inr (some_space (IsRead d) k rea
 arguments_space d returns k (Set sets) s is = inr (some_space (IsSet d) k sets s is)
 arguments_space d returns k (Write writes) s is = inr (some_space IsWrite k writes s is)
 
+-- GOTO is none of them
+in_both : (d : Dialect) (returns : Bool) (k : ℕ) (a : ActionTree) (s : List ℕ) → AreArgumentsOf d returns k a s → is_standard a ≡ true
+in_both d returns k (Goto gotos) s is = absurd is
+in_both d returns k a s is = refl
+
 devices_space : (does : List DeviceTree → ActionTree) (k : ℕ) (a : ActionTree) (s : List ℕ) → AreDevices does k a s → (s ≡ []) ⊎ ((r : List ℕ) × (s ≡ 32 ∷ r))
 devices_space does k a s (devices, same, (r, is, list)) = inr (r, is)
 
-added_space : (w : AddedWord) (k : ℕ) (a : ActionTree) (s : List ℕ) → AreAdded w k a s → (s ≡ []) ⊎ ((r : List ℕ) × (s ≡ 32 ∷ r))
-added_space added.Close k a s is = devices_space naming k a s is
-added_space added.Open k a s is = devices_space opening k a s is
-added_space added.Use k a s is = devices_space naming k a s is
+added_space : (w : AddedWord) (returns : Bool) (k : ℕ) (a : ActionTree) (s : List ℕ) → AreAdded w returns k a s → (s ≡ []) ⊎ ((r : List ℕ) × (s ≡ 32 ∷ r))
+added_space added.Close returns k a s is = devices_space naming k a s is
+added_space added.Goto returns k a s (may, (gotos, same, (r, is, list))) = inr (r, is)
+added_space added.Open returns k a s is = devices_space opening k a s is
+added_space added.Use returns k a s is = devices_space naming k a s is
 
 action_space : (w : Word) (d : Dialect) (returns : Bool) (k : ℕ) (a : ActionTree) (s : List ℕ) → IsActionOf w d returns k a s → (s ≡ []) ⊎ ((r : List ℕ) × (s ≡ 32 ∷ r))
 action_space w d returns k a s (inl (means, is)) = arguments_space d returns k a s is
-action_space w d returns k a s (inr (inl (one, same, is))) = added_space one k a s is
+action_space w d returns k a s (inr (inl (one, same, is))) = added_space one returns k a s is
 action_space w d returns k a s (inr (inr (inl (same, extended, (name, code, is, trap, plain, handles))))) = inr (36 ∷ (name ++ 61 ∷ 34 ∷ (code ++ 34 ∷ [])), is)
 action_space w d returns k a s (inr (inr (inr (same, extended, (items, made, is))))) = perhaps_space IsNewed k items s is
 
@@ -114,6 +121,7 @@ condition_end w (Some t) rest h may = expr_command t rest h
 own_condition : (a : ActionTree) → has_condition (kind a) ≡ may_have_condition a
 own_condition (Do calls) = refl
 own_condition Else = refl
+own_condition (Goto gotos) = refl
 own_condition Halt = refl
 own_condition (Hang times) = refl
 own_condition (If conditions) = refl
@@ -132,6 +140,7 @@ halting_condition Halt h = refl
 halting_condition (Hang times) h = refl
 halting_condition (Do calls) h = refl
 halting_condition Else h = cc h
+halting_condition (Goto gotos) h = refl
 halting_condition (If conditions) h = cc h
 halting_condition (Job calls) h = refl
 halting_condition (Kill kills) h = refl
@@ -154,10 +163,11 @@ opening_as P named locked (device ∷ devices) = elim (cases_Bool (list_any (λ 
 pub opening_ends : (devices : List DeviceTree) → has_arguments (opening devices) ≡ true
 opening_ends = opening_as (λ a. has_arguments a ≡ true) (λ devices. refl) (λ l more. refl)
 
-added_condition : (w : AddedWord) (k : ℕ) (a : ActionTree) (s : List ℕ) → AreAdded w k a s → may_have_condition a ≡ true
-added_condition added.Close k a s (devices, same, list) = ap may_have_condition same
-added_condition added.Open k a s (devices, same, list) = ap may_have_condition same ∙ opening_as (λ a. may_have_condition a ≡ true) (λ devices. refl) (λ l more. refl) devices
-added_condition added.Use k a s (devices, same, list) = ap may_have_condition same
+added_condition : (w : AddedWord) (returns : Bool) (k : ℕ) (a : ActionTree) (s : List ℕ) → AreAdded w returns k a s → may_have_condition a ≡ true
+added_condition added.Close returns k a s (devices, same, list) = ap may_have_condition same
+added_condition added.Goto returns k a s (may, (gotos, same, list)) = ap may_have_condition same
+added_condition added.Open returns k a s (devices, same, list) = ap may_have_condition same ∙ opening_as (λ a. may_have_condition a ≡ true) (λ devices. refl) (λ l more. refl) devices
+added_condition added.Use returns k a s (devices, same, list) = ap may_have_condition same
 
 trap_condition : (k : ℕ) (a : ActionTree) (s : List ℕ) → IsTrap k a s → may_have_condition a ≡ true
 trap_condition k a s (name, code, is, trap, plain, inl (same, ends)) = ap may_have_condition same
@@ -210,13 +220,13 @@ module _ (d : Dialect) (returns : Bool) (line : List ℕ) where
       into : (w : Word) (t : Option Tree × ActionTree) (s r : List ℕ) → IsNamed d (suc at) w s → IsTail w d returns (suc at + length s) t r → IsCommand d returns (suc at) (Does (column_at (at + 1)) (t.0) (t.1)) (s ++ r)
       into w t s r one (front, back, is, cond, (inr (inl (v, same, arguments)))) =
           let p = added_written d v s (one.1 ∙ ap Some same) in
-          (ap column_at (add-one at), inr (added_condition v (suc at + length s + length front) (t.1) back arguments), inr (p.0, inl (v, (s, r, refl, p.1, (front, back, is, cond.1, arguments)))))
+          (ap column_at (add-one at), inr (added_condition v returns (suc at + length s + length front) (t.1) back arguments), inr (p.0, inl (v, (s, r, refl, p.1, (front, back, is, cond.1, arguments)))))
       into w t s r one (front, back, is, cond, (inr (inr (inl (same, extended, arguments))))) =
-          (ap column_at (add-one at), inr (trap_condition (suc at + length s + length front) (t.1) back arguments), inr (extended, inr (inl (s, r, refl, means_written d w (Set []) s (inl (sym same)) one.1, (front, back, is, cond.1, arguments)))))
+          (ap column_at (add-one at), inr (trap_condition (suc at + length s + length front) (t.1) back arguments), inr (extended, inr (inl (s, r, refl, means_written d w (Set []) s refl (inl (sym same)) one.1, (front, back, is, cond.1, arguments)))))
       into w t s r one (front, back, is, cond, (inr (inr (inr (same, extended, arguments))))) =
-          (ap column_at (add-one at), inr (news_condition (suc at + length s + length front) (t.1) back arguments), inr (extended, inr (inr (s, r, refl, means_written d w (New []) s (inl (sym same)) one.1, (front, back, is, cond.1, arguments)))))
+          (ap column_at (add-one at), inr (news_condition (suc at + length s + length front) (t.1) back arguments), inr (extended, inr (inr (s, r, refl, means_written d w (New []) s refl (inl (sym same)) one.1, (front, back, is, cond.1, arguments)))))
       into w t s r one (front, back, is, cond, (inl (means, arguments))) =
-          (ap column_at (add-one at), either cond.0, inl (s, r, refl, means_written d w (t.1) s means one.1, (front, back, is, cond.1, arguments)))
+          (ap column_at (add-one at), either cond.0, inl (s, r, refl, means_written d w (t.1) s (in_both d returns (suc at + length s + length front) (t.1) back arguments) means one.1, (front, back, is, cond.1, arguments)))
         where
           either : (t.0 ≡ None) ⊎ (has_condition w ≡ true) → (t.0 ≡ None) ⊎ (may_have_condition (t.1) ≡ true)
           either (inl none) = inl none

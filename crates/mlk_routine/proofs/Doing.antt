@@ -1,7 +1,7 @@
 -- What a command does, by its word.
 use Rattle.std.proofs.Common.{◌≡◌, ◌≤◌, ℕ, suc, List, [], ◌∷◌, ◌++◌, length, drop, Some, None, Bool, true, false, inl, inr, refl, sym, ap, ◌∙◌, subst, arith}
 use Rattle.std.proofs.lemmas.Bool.{eqb-true}
-use Rattle.std.specs.Prelude.{Option, ◌⊎◌, ◌||◌, map, is_some, ◌==◌}
+use Rattle.std.specs.Prelude.{Option, ◌⊎◌, ◌||◌, not, map, is_some, ◌==◌}
 use Rattle.mlk_dialect.specs.declared.dialect.Dialect.{Dialect}
 use Rattle.mlk_dialect.specs.declared.dialect.Dialect.TheVariants as dialect
 use Rattle.std.specs.List.{list_any}
@@ -16,8 +16,9 @@ use Rattle.mlk_text.specs.declared.fault.Fault.{Fault}
 use Rattle.mlk_routine_arguments.specs.declared.word.Word.{Word}
 use Rattle.mlk_routine_arguments.specs.declared.word.Word.TheVariants as word
 use Rattle.mlk_routine_arguments.specs.declared.word.AddedWord.{AddedWord}
-use Rattle.mlk_syntax.specs.Trees.{DoTree, CallTree, KillTree, LockTree, LockNames, MergeTree, NewTree, ReadTree, SetTree, WriteTree}
-use Rattle.mlk_syntax.specs.Trees.{ActionTree, Do, Else, Halt, Hang, If, Job, Kill, Lock, Merge, New, Quit, Read, Set, Write}
+use Rattle.mlk_routine_arguments.specs.declared.word.AddedWord.TheVariants as added
+use Rattle.mlk_syntax.specs.Trees.{DoTree, GotoTree, CallTree, KillTree, LockTree, LockNames, MergeTree, NewTree, ReadTree, SetTree, WriteTree}
+use Rattle.mlk_syntax.specs.Trees.{ActionTree, Do, Else, Goto, Halt, Hang, If, Job, Kill, Lock, Merge, New, Quit, Read, Set, Write}
 use Rattle.mlk_routine_arguments.specs.PartsRead.{Found, Nowhere, Denied}
 use Rattle.mlk_routine_arguments.specs.Faults.{IsFaulty}
 use Rattle.mlk_expr.specs.Grammar.{AreNext}
@@ -26,19 +27,20 @@ use Rattle.mlk_routine_arguments.specs.Traps.{nothing, IsTrap}
 use Rattle.mlk_routine_arguments.specs.TrapParts.{trap_value, sets_trap}
 use Rattle.mlk_routine_arguments.proofs.Traps.{trap_sets, sets_no_trap}
 use Rattle.mlk_routine_arguments.specs.CommandWords.{has_any, has_arguments}
-use Rattle.mlk_routine_arguments.specs.CommandGrammar.{IsValue, IsNew, IsSet, AreSome, ArePerhaps, IsQuit, AreArgumentsOf, DeviceTree, IsDevice, claim_of, naming, opening, AreDevices, IsNewed, locals_of, new_or_nothing, newing, AreAdded}
+use Rattle.mlk_routine_arguments.specs.CommandGrammar.{IsValue, IsNew, IsSet, AreSome, ArePerhaps, IsQuit, AreArgumentsOf, DeviceTree, IsDevice, claim_of, naming, opening, AreDevices, IsNewed, locals_of, new_or_nothing, newing, IsGoto, AreGotos, AreAdded}
 use Rattle.mlk_routine_arguments.specs.Begins.{front_begins, expr_begins}
 use Rattle.mlk_expr.specs.declared.context.Allows.TheVariants.{Everything}
 use Rattle.mlk_routine_arguments.specs.declared.details.Device.{Device}
 use Rattle.mlk_routine_arguments.specs.declared.newed.NewItem.{NewItem}
-use Rattle.mlk_routine_arguments.specs.Kinds.{device_of, newed_of, kind, halts_or_hangs, Means, IsActionOf, ActionEnds, halting}
+use Rattle.mlk_routine_arguments.specs.Kinds.{device_of, newed_of, kind, halts_or_hangs, Means, IsActionOf, ActionEnds, halting, is_misplaced}
 use Rattle.mlk_routine_arguments.proofs.Bytes.{AfterByte}
 use Rattle.mlk_routine_arguments.proofs.Sequences.{Turned}
 use Rattle.mlk_routine_arguments.proofs.Stopping.{command_stop}
-use Rattle.mlk_routine.proofs.Commanding.{opening_ends}
+use Rattle.mlk_routine.proofs.Commanding.{IsTail, TailEnds, opening_ends}
 
 -- the arguments of a word's commands; `H` belongs to two commands, and what the extended dialect adds is what other words do
 abbrev pub Content : Word → Type 0
+Content (word.Added added.Goto) = List GotoTree
 Content (word.Added w) = ⊥
 Content word.Do = List DoTree
 Content word.Else = Unit {0}
@@ -58,7 +60,10 @@ Content word.Write = List WriteTree
 
 -- a command from its word and its arguments
 abbrev pub with : (w : Word) → Content w → ActionTree
-with (word.Added w) c = absurd c
+with (word.Added added.Close) c = absurd c
+with (word.Added added.Goto) c = Goto c
+with (word.Added added.Open) c = absurd c
+with (word.Added added.Use) c = absurd c
 with word.Do c = Do c
 with word.Else c = Else
 with word.Halt c = Halt
@@ -76,7 +81,10 @@ with word.Set c = Set c
 with word.Write c = Write c
 
 kind_with : (w : Word) (c : Content w) → kind (with w c) ≡ w
-kind_with (word.Added w) c = absurd c
+kind_with (word.Added added.Close) c = absurd c
+kind_with (word.Added added.Goto) c = refl
+kind_with (word.Added added.Open) c = absurd c
+kind_with (word.Added added.Use) c = absurd c
 kind_with word.Do c = refl
 kind_with word.Else c = refl
 kind_with word.Halt c = refl
@@ -96,6 +104,7 @@ kind_with word.Write c = refl
 own_content : (a : ActionTree) → (c : Content (kind a)) × (a ≡ with (kind a) c)
 own_content (Do calls) = (calls, refl)
 own_content Else = (tt, refl)
+own_content (Goto gotos) = (gotos, refl)
 own_content Halt = (tt, refl)
 own_content (Hang times) = (times, refl)
 own_content (If conditions) = (conditions, refl)
@@ -162,19 +171,43 @@ module _ (line : List ℕ) (at : ℕ) where
   naming_turned = devices_turned naming (λ devices. refl)
 
 -- what the extended dialect adds
-pub added_turned : (w : AddedWord) (d : Dialect) (returns : Bool) (line : List ℕ) (at : ℕ) → Turned line at (AreAdded w) ActionEnds (IsActionOf (word.Added w) d returns) ActionEnds (λ a. a)
+no_arguments : (w : AddedWord) (d : Dialect) (returns : Bool) (k : ℕ) (a : ActionTree) (u : List ℕ) → kind a ≡ word.Added w → AreArgumentsOf d returns k a u → ⊥
+no_arguments added.Close d returns k a u same is = (content_of a (word.Added added.Close) same).0
+no_arguments added.Goto d returns k a u same is = let r = content_of a (word.Added added.Goto) same in subst (λ x. AreArgumentsOf d returns k x u) r.1 is
+no_arguments added.Open d returns k a u same is = (content_of a (word.Added added.Open) same).0
+no_arguments added.Use d returns k a u same is = (content_of a (word.Added added.Use) same).0
+
+added_is : (w : AddedWord) (d : Dialect) (returns : Bool) (k : ℕ) (a : ActionTree) (u : List ℕ) → IsActionOf (word.Added w) d returns k a u → AreAdded w returns k a u
+added_is w d returns k a u (inl (inl same, is)) = absurd (no_arguments w d returns k a u same is)
+added_is w d returns k a u (inl (inr (same, halts), is)) = cc same
+added_is w d returns k a u (inr (inl (v, same, is))) = let one : v ≡ w = cc same in subst (λ x. AreAdded x returns k a u) one is
+added_is w d returns k a u (inr (inr (inl (same, extended, is)))) = cc same
+added_is w d returns k a u (inr (inr (inr (same, extended, is)))) = cc same
+
+pub added_turned : (w : AddedWord) (d : Dialect) (returns : Bool) (line : List ℕ) (at : ℕ) → Turned line at (AreAdded w returns) ActionEnds (IsActionOf (word.Added w) d returns) ActionEnds (λ a. a)
 added_turned w d returns line at = record {
   into = λ a s is. inr (inl (w, refl, is));
   ends = λ a rest e. e;
-  apart = λ a u rest h is e. go a u rest is e;
+  apart = λ a u rest h is e. (a, refl, added_is w d returns (suc at) a u is, e);
 }
-  where
-    go : (a : ActionTree) (u rest : List ℕ) → IsActionOf (word.Added w) d returns (suc at) a u → ActionEnds a rest → (b : ActionTree) × (a ≡ b) × AreAdded w (suc at) b u × ActionEnds b rest
-    go a u rest (inl (inl same, is)) e = absurd (content_of a (word.Added w) same).0
-    go a u rest (inl (inr (same, halts), is)) e = cc same
-    go a u rest (inr (inl (v, same, is))) e = let one : v ≡ w = cc same in (a, refl, subst (λ x. AreAdded x (suc at) a u) one is, e)
-    go a u rest (inr (inr (inl (same, extended, is)))) e = cc same
-    go a u rest (inr (inr (inr (same, extended, is)))) e = cc same
+
+-- GOTO is nowhere where it may not be
+pub misplaced_tail : (w : Word) (d : Dialect) (returns : Bool) (line : List ℕ) (at : ℕ) → is_misplaced w returns ≡ true → Nowhere (IsTail w d returns) TailEnds line at
+misplaced_tail (word.Added added.Goto) d returns line at bad t u rest h (front, back, is, cond, does) e =
+    let may = (added_is added.Goto d returns _ (t.1) back does).0 in
+    cc (sym (ap not may) ∙ bad)
+misplaced_tail (word.Added added.Close) d returns line at bad = cc bad
+misplaced_tail (word.Added added.Open) d returns line at bad = cc bad
+misplaced_tail (word.Added added.Use) d returns line at bad = cc bad
+misplaced_tail w d returns line at bad = cc bad
+
+-- the action of GOTO
+pub goto_turned : (returns : Bool) (line : List ℕ) (at : ℕ) → returns ≡ true → Turned line at (AreSome IsGoto) (λ gotos. StopEnds true) (AreGotos returns) ActionEnds Goto
+goto_turned returns line at may = record {
+  into = λ gotos s is. (may, (gotos, refl, is));
+  ends = λ gotos rest e. e;
+  apart = λ a u rest h (may, (gotos, same, list)) e. (gotos, same, list, subst (λ b. StopEnds b rest) (ap has_arguments same) e);
+}
 
 -- SET, which may be one of a trap
 module _ (d : Dialect) (returns : Bool) (line : List ℕ) (at : ℕ) where
@@ -324,6 +357,7 @@ halting_only Halt h = inl refl
 halting_only (Hang times) h = inr (times, refl)
 halting_only (Do calls) h = cc h
 halting_only Else h = cc h
+halting_only (Goto gotos) h = cc h
 halting_only (If conditions) h = cc h
 halting_only (Job calls) h = cc h
 halting_only (Kill kills) h = cc h

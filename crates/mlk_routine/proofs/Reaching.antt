@@ -7,7 +7,7 @@ use Rattle.mlk_syntax.specs.declared.command.Commands.{Commands}
 use Rattle.mlk_syntax.specs.declared.command.For.{For}
 use Rattle.mlk_syntax.specs.declared.command.Commands.TheViews.{out-Commands, out-For}
 use Rattle.mlk_syntax.specs.declared.command.Commands.TheFolds.{fold-For, fold_out-Commands, fold_out-For}
-use Rattle.mlk_syntax.specs.Trees.{Do, Else, Halt, Hang, If, Job, Kill, Lock, Merge, New, Quit, Read, Set, Write, CommandTree, Does, CommandTrees, finished, then_command}
+use Rattle.mlk_syntax.specs.Trees.{Do, Else, Goto, Halt, Hang, If, Job, Kill, Lock, Merge, New, Quit, Read, Set, Write, CommandTree, Does, CommandTrees, finished, then_command}
 use Rattle.mlk_routine_arguments.specs.CommandWords.{reaches_block}
 use Rattle.mlk_syntax.specs.Views.{commands_of, command_of, commands_from, commands_step, for_step}
 use Rattle.mlk_routine.specs.Lines.{is_block}
@@ -21,6 +21,7 @@ reaches_from (c ∷ cs) last = go (command_of c) (reaches_from cs last)
     go (Does column condition (Do [])) ih = refl
     go (Does column condition (Do (x ∷ more))) ih = ih
     go (Does column condition Else) ih = ih
+    go (Does column condition (Goto gotos)) ih = ih
     go (Does column condition Halt) ih = ih
     go (Does column condition (Hang times)) ih = ih
     go (Does column condition (If conditions)) ih = ih

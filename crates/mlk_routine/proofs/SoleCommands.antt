@@ -15,14 +15,14 @@ use Rattle.mlk_routine_arguments.specs.declared.word.Word.{Word}
 use Rattle.mlk_routine_arguments.specs.declared.word.Word.TheVariants as word
 use Rattle.mlk_routine_arguments.specs.declared.word.AddedWord.{AddedWord}
 use Rattle.mlk_routine_arguments.specs.declared.word.AddedWord.TheVariants as added
-use Rattle.mlk_syntax.specs.Trees.{Quit, finished}
-use Rattle.mlk_routine_arguments.specs.Ends.{is_stop, AreEnded, DoEnds, JobEnds, KillEnds, NewEnds, NewedEnds, MergeEnds, LockEnds, ReadEnds, WriteEnds, SetEnds, DeviceEnds, starts, is_bare_end, is_commands_end, StopEnds, CommandEnd, CommandsEnd}
-use Rattle.mlk_routine_arguments.specs.Stops.{expr_stop, do_stop, job_stop, kill_stop, merge_stop, new_stop, newed_stop, lock_stop, read_stop, write_stop, set_stop, device_stop}
-use Rattle.mlk_routine_arguments.specs.Begins.{expr_begins, do_begins, job_begins, kill_begins, merge_begins, new_begins, newed_begins, lock_begins, read_begins, write_begins, set_begins, device_begins}
+use Rattle.mlk_syntax.specs.Trees.{Goto, Quit, finished}
+use Rattle.mlk_routine_arguments.specs.Ends.{is_stop, AreEnded, DoEnds, GotoEnds, JobEnds, KillEnds, NewEnds, NewedEnds, MergeEnds, LockEnds, ReadEnds, WriteEnds, SetEnds, DeviceEnds, starts, is_bare_end, is_commands_end, StopEnds, CommandEnd, CommandsEnd}
+use Rattle.mlk_routine_arguments.specs.Stops.{expr_stop, do_stop, goto_stop, job_stop, kill_stop, merge_stop, new_stop, newed_stop, lock_stop, read_stop, write_stop, set_stop, device_stop}
+use Rattle.mlk_routine_arguments.specs.Begins.{expr_begins, do_begins, goto_begins, job_begins, kill_begins, merge_begins, new_begins, newed_begins, lock_begins, read_begins, write_begins, set_begins, device_begins}
 use Rattle.mlk_routine_arguments.specs.Kinds.{IsNamed, WordEnds, has_condition, IsConditionOf, ConditionEnds, IsActionOf, ActionEnds, word_in}
 use Rattle.mlk_routine.specs.Leading.{IsPerhapsControl, IsLoop, LoopEnds}
-use Rattle.mlk_routine_arguments.specs.CommandWords.{has_any, is_for}
-use Rattle.mlk_routine_arguments.specs.CommandGrammar.{IsValue, IsDo, IsJob, IsKill, IsNew, IsLock, IsMerge, IsRead, IsWrite, IsSet, IsDevice, AreSome, ArePerhaps, IsQuit, AreAdded, IsNewed, is_space, IsCommand, AreCommands}
+use Rattle.mlk_routine_arguments.specs.CommandWords.{has_any, has_arguments, is_for}
+use Rattle.mlk_routine_arguments.specs.CommandGrammar.{IsValue, IsDo, IsGoto, AreGotos, IsJob, IsKill, IsNew, IsLock, IsMerge, IsRead, IsWrite, IsSet, IsDevice, AreSome, ArePerhaps, IsQuit, AreAdded, IsNewed, is_space, IsCommand, AreCommands}
 use Rattle.mlk_routine_arguments.proofs.Sequences.{next_is}
 use Rattle.mlk_routine_arguments.proofs.Bytes.{AfterByte}
 use Rattle.mlk_routine_arguments.proofs.Stretches.{one_run}
@@ -35,7 +35,7 @@ use Rattle.mlk_routine_arguments.proofs.Sole.{Sole, Alone, sole_only, sole_found
 use Rattle.mlk_routine_arguments.specs.TrapParts.{sets_trap}
 use Rattle.mlk_routine_arguments.proofs.Traps.{trap_alone}
 use Rattle.mlk_routine_arguments.proofs.News.{newed_alone}
-use Rattle.mlk_routine_arguments.proofs.SoleArguments.{expr_alone, optional_alone, run_alone, list_alone, do_alone, job_alone, kill_alone, new_alone, merge_alone, lock_alone}
+use Rattle.mlk_routine_arguments.proofs.SoleArguments.{expr_alone, optional_alone, run_alone, list_alone, do_alone, goto_alone, job_alone, kill_alone, new_alone, merge_alone, lock_alone}
 use Rattle.mlk_routine_arguments.proofs.SoleFormats.{write_alone, read_alone, set_alone, control_alone, device_alone}
 
 -- arguments after one space, or none
@@ -81,14 +81,20 @@ nothing_alone line at less = sole_only tt at (λ c u rest h is e. (refl, sym (h 
 devices_alone : Alone (AreSome IsDevice) (λ devices. StopEnds true)
 devices_alone = some_alone IsDevice DeviceEnds device_stop device_begins device_alone
 
-added_alone : (w : AddedWord) → Alone (AreAdded w) ActionEnds
-added_alone added.Close line at less = sole_turned (naming_turned line at) (devices_alone line at less)
-added_alone added.Open line at less = sole_turned (opening_turned line at) (devices_alone line at less)
-added_alone added.Use line at less = sole_turned (naming_turned line at) (devices_alone line at less)
+gotos_alone : (returns : Bool) → Alone (AreGotos returns) ActionEnds
+gotos_alone returns line at less =
+    sole_as Goto (λ a u rest h (may, (gotos, same, list)) e. (gotos, same, list, subst (λ b. StopEnds b rest) (ap has_arguments same) e))
+    (some_alone IsGoto GotoEnds goto_stop goto_begins goto_alone line at less)
+
+added_alone : (w : AddedWord) (returns : Bool) → Alone (AreAdded w returns) ActionEnds
+added_alone added.Close returns line at less = sole_turned (naming_turned line at) (devices_alone line at less)
+added_alone added.Goto returns line at less = gotos_alone returns line at less
+added_alone added.Open returns line at less = sole_turned (opening_turned line at) (devices_alone line at less)
+added_alone added.Use returns line at less = sole_turned (naming_turned line at) (devices_alone line at less)
 
 -- what a command does, by its word
 action_alone : (w : Word) (d : Dialect) (returns : Bool) → Alone (IsActionOf w d returns) ActionEnds
-action_alone (word.Added w) d r line at less = sole_turned (added_turned w d r line at) (added_alone w line at less)
+action_alone (word.Added w) d r line at less = sole_turned (added_turned w d r line at) (added_alone w r line at less)
 action_alone word.Do d r line at less = sole_turned (opened word.Do refl d r line at) (perhaps_alone IsDo DoEnds do_stop do_begins do_alone line at less)
 action_alone word.Else d r line at less = sole_turned (opened word.Else refl d r line at) (nothing_alone line at less)
 action_alone word.Halt d r line at less = sole_turned (opened word.Halt refl d r line at) (nothing_alone line at less)

@@ -12,7 +12,7 @@ use Rattle.mlk_dialect.specs.declared.dialect.Dialect.{Dialect}
 use Rattle.mlk_text.specs.Lexemes.{is_text_byte, is_text}
 use Rattle.mlk_expr_tokens.specs.Words.{is_either}
 use Rattle.mlk_expr.specs.Theorem.{Stands}
-use Rattle.mlk_syntax.specs.Trees.{ActionTree, Do, Else, Halt, Hang, If, Job, Kill, Lock, Merge, New, Quit, Read, Set, Write, CommandTree, Does, ControlTree, CommandTrees, finished, then_command, then_for}
+use Rattle.mlk_syntax.specs.Trees.{ActionTree, Do, Else, Goto, Halt, Hang, If, Job, Kill, Lock, Merge, New, Quit, Read, Set, Write, CommandTree, Does, ControlTree, CommandTrees, finished, then_command, then_for}
 use Rattle.mlk_routine_arguments.specs.PartsRead.{Found, Nowhere}
 use Rattle.mlk_routine_arguments.specs.Ends.{is_commands_end, CommandsEnd, starts}
 use Rattle.mlk_routine_arguments.specs.declared.word.AddedWord.{AddedWord}
@@ -50,6 +50,7 @@ word_lettered : (a : ActionTree) (w : List ℕ) → is_word_of a w ≡ true → 
 unfolding is_word_of
 word_lettered (Do calls) w h = either_lettered (codes "D") (codes "DO") w 100 _ _ refl refl (omega arith) h
 word_lettered Else w h = either_lettered (codes "E") (codes "ELSE") w 101 _ _ refl refl (omega arith) h
+word_lettered (Goto gotos) w h = cc h
 word_lettered Halt w h = either_lettered (codes "H") (codes "HALT") w 104 _ _ refl refl (omega arith) h
 word_lettered (Hang times) w h = either_lettered (codes "H") (codes "HANG") w 104 _ _ refl refl (omega arith) h
 word_lettered (If conditions) w h = either_lettered (codes "I") (codes "IF") w 105 _ _ refl refl (omega arith) h
@@ -66,6 +67,7 @@ word_lettered (Write writes) w h = either_lettered (codes "W") (codes "WRITE") w
 added_lettered : (a : AddedWord) (w : List ℕ) → is_added a w ≡ true → Lettered w
 unfolding is_added
 added_lettered added.Close w h = either_lettered (codes "C") (codes "CLOSE") w 99 _ _ refl refl (omega arith) h
+added_lettered added.Goto w h = either_lettered (codes "G") (codes "GOTO") w 103 _ _ refl refl (omega arith) h
 added_lettered added.Open w h = either_lettered (codes "O") (codes "OPEN") w 111 _ _ refl refl (omega arith) h
 added_lettered added.Use w h = either_lettered (codes "U") (codes "USE") w 117 _ _ refl refl (omega arith) h
 

@@ -8,16 +8,16 @@ ghost use Rattle.mlk_routine_arguments.specs.Faults.{IsFaulty};
 ghost use Rattle.mlk_routine_arguments.specs.Ends.{StopEnds, CommandEnd};
 ghost use Rattle.mlk_syntax.specs.declared.command.Sign.TheVariants as sign;
 ghost use Rattle.mlk_routine_arguments.specs.declared.word.Word.TheVariants as words;
-ghost use Rattle.mlk_syntax.specs.Views.{action_of, command_of, lock_of, new_of};
-ghost use Rattle.mlk_routine_arguments.specs.CommandGrammar.{After, IsValue, IsQuit, IsCommand, naming, opening, newing, locals_of, AreDevices, AreAdded};
-ghost use Rattle.mlk_routine_arguments.specs.Kinds.{IsConditionOf, ConditionEnds, IsActionOf, ActionEnds, IsNothing, halting, device_of, newed_of};
+ghost use Rattle.mlk_syntax.specs.Views.{action_of, command_of, goto_of, lock_of, new_of};
+ghost use Rattle.mlk_routine_arguments.specs.CommandGrammar.{After, IsValue, IsQuit, IsCommand, naming, opening, newing, locals_of, AreDevices, AreGotos, AreAdded};
+ghost use Rattle.mlk_routine_arguments.specs.Kinds.{IsConditionOf, ConditionEnds, IsActionOf, ActionEnds, IsNothing, halting, device_of, newed_of, is_misplaced};
 ghost use Rattle.mlk_syntax.specs.Trees.{Quit, LockNames};
 
 use mlk_dialect::Dialect;
 use mlk_expr::Allows;
 use mlk_routine_arguments::{
     AddedWord, Device, NewItem, Word, command_word, expr_after, expression, first_argument,
-    has_byte, is_bare, is_command_end, leaves_out, nothing, optional_arguments, refusal_at,
+    has_byte, is_bare, is_command_end, leaves_out, no_goto, nothing, optional_arguments, refusal_at,
     required_arguments, sets_trap, trap_action,
 };
 use mlk_syntax::{Action, Command, Expr, LockArgument, NewArgument, Sign};
@@ -256,19 +256,37 @@ fn use_action(
     Ok((naming(alloc, devices)?, next))
 }
 
+/// Reads the arguments of GOTO, where it may be: its action, and the byte after it.
+fn goto_action(
+    alloc: Global,
+    manner: Manner,
+    line: &[u8],
+    at: usize,
+) -> Result<(Action, usize), Failure<Fault>>
+    requires within { at ≤ length line.now }
+    requires place { manner.returns ≡ true }
+    ensures { ReadsPart action_of (AreGotos manner.returns) ActionEnds line.now at result }
+{
+    let (gotos, next) = required_arguments(alloc, manner.dialect, line, at)?;
+    Ok((Action::Goto(gotos), next))
+}
+
 /// Reads the arguments of a command that only the extended dialect has: its action, and the byte after it.
 fn added_action(
     alloc: Global,
     word: AddedWord,
-    dialect: Dialect,
+    manner: Manner,
     line: &[u8],
     at: usize,
 ) -> Result<(Action, usize), Failure<Fault>>
-    requires { at ≤ length line.now }
-    ensures { ReadsPart action_of (AreAdded word) ActionEnds line.now at result }
+    requires within { at ≤ length line.now }
+    requires place { is_misplaced (words.Added word) manner.returns ≡ false }
+    ensures { ReadsPart action_of (AreAdded word manner.returns) ActionEnds line.now at result }
 {
+    let dialect = manner.dialect;
     match word {
         AddedWord::Close => use_action(alloc, dialect, line, at),
+        AddedWord::Goto => goto_action(alloc, manner, line, at),
         AddedWord::Open => open_action(alloc, dialect, line, at),
         AddedWord::Use => use_action(alloc, dialect, line, at),
     }
@@ -327,7 +345,8 @@ fn action(
     line: &[u8],
     at: usize,
 ) -> Result<(Action, usize), Failure<Fault>>
-    requires { at ≤ length line.now }
+    requires within { at ≤ length line.now }
+    requires place { is_misplaced word manner.returns ≡ false }
     ensures { ReadsPart action_of (IsActionOf word manner.dialect manner.returns) ActionEnds line.now at result }
 {
     let dialect = manner.dialect;
@@ -347,7 +366,17 @@ fn action(
         Word::Read => turned!(required_arguments(alloc, dialect, line, at), Action::Read),
         Word::Set => set_action(alloc, manner, line, at),
         Word::Write => turned!(required_arguments(alloc, dialect, line, at), Action::Write),
-        Word::Added(added) => added_action(alloc, added, dialect, line, at),
+        Word::Added(added) => added_action(alloc, added, manner, line, at),
+    }
+}
+
+// Whether `word` is that of GOTO, in a place where QUIT may have no value.
+fn is_misplaced(word: Word, manner: Manner) -> bool
+    ensures { result ≡ is_misplaced word manner.returns }
+{
+    match word {
+        Word::Added(AddedWord::Goto) => !manner.returns,
+        _ => false,
     }
 }
 
@@ -371,6 +400,9 @@ pub(crate) fn command(
     ensures { ReadsPart command_of (IsCommand manner.dialect manner.returns) CommandEnd line.now at result }
 {
     let (word, next) = command_word(alloc, manner.dialect, line, at)?;
+    if is_misplaced(word, manner) {
+        return Err(no_goto(alloc, at));
+    }
     let (condition, next) = condition(alloc, word, line, next)?;
     let condition = box_if_some(alloc, condition)?;
     let (action, next) = action(alloc, word, manner, line, next)?;

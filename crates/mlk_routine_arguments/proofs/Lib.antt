@@ -8,6 +8,7 @@ pub mod Calls
 pub mod Enclosed
 pub mod Names
 pub mod Arguments
+pub mod Gotos
 pub mod Parameters
 pub mod Controls
 pub mod Singles

@@ -23,9 +23,9 @@ use Rattle.mlk_syntax.specs.declared.command.Sign.{Sign}
 use Rattle.mlk_syntax.specs.declared.command.Sign.TheVariants as sign
 use Rattle.mlk_syntax.specs.Trees.{VariableTree, Named, CallTree, DoTree, DoCall, KillTree, KillOne, KillAllBut, NewTree, NewOne, NewAllBut}
 use Rattle.mlk_routine_arguments.specs.PartsRead.{first_of, byte_at}
-use Rattle.mlk_routine_arguments.specs.Ends.{is_stop, AfterEnds, VariableEnds, MoreEnds, AreEnded, GivenEnds, CalledEnds, CallEnds, DoEnds, JobEnds, AnyEnds, KillEnds, NewEnds, MergeEnds, Begins, OneEnds, IsSign, SignEnds, TimeoutEnds, LockEnds, IsRun, RunEnds}
+use Rattle.mlk_routine_arguments.specs.Ends.{is_stop, AfterEnds, VariableEnds, MoreEnds, AreEnded, GivenEnds, CalledEnds, CallEnds, DoEnds, GotoEnds, JobEnds, AnyEnds, KillEnds, NewEnds, MergeEnds, Begins, OneEnds, IsSign, SignEnds, TimeoutEnds, LockEnds, IsRun, RunEnds}
 use Rattle.mlk_routine_arguments.specs.Stops.{name_stop, variable_stop}
-use Rattle.mlk_routine_arguments.specs.CommandGrammar.{IsAfter, AreEnclosed, IsOneOrEnclosed, IsVariable, IsGiven, IsCall, IsCondition, IsDo, IsJob, IsKill, IsNew, IsLockTimeout, IsLock, after_names, in_names, IsMerge}
+use Rattle.mlk_routine_arguments.specs.CommandGrammar.{IsAfter, AreEnclosed, IsOneOrEnclosed, IsVariable, IsGiven, IsCall, IsCondition, IsDo, IsGoto, IsJob, IsKill, IsNew, IsLockTimeout, IsLock, after_names, in_names, IsMerge}
 use Rattle.mlk_routine_arguments.proofs.Sequences.{next_is}
 use Rattle.mlk_routine_arguments.proofs.Bytes.{AfterByte, optional, byte_before}
 use Rattle.mlk_routine_arguments.proofs.Sole.{Sole, Alone, byte_or_not, alone_of, sole_only, sole_found, sole_none, sole_within, alone_after, sole_apart, sole_both, sole_as, sole_turned}
@@ -36,6 +36,7 @@ use Rattle.mlk_routine_arguments.proofs.Singles.{enclosed_one, single_one}
 use Rattle.mlk_routine_arguments.proofs.Variables.{variable_shut}
 use Rattle.mlk_routine_arguments.proofs.Calls.{no_given, call_parts}
 use Rattle.mlk_routine_arguments.proofs.Arguments.{call_anywhere, call_colon}
+use Rattle.mlk_routine_arguments.proofs.Gotos.{goto_from, goto_as_do}
 use Rattle.mlk_routine_arguments.proofs.Names.{kill_names, merge_parts, new_names}
 use Rattle.mlk_routine_arguments.proofs.Locks.{plus_found, minus_found, no_sign, no_timeout, timeout_nowhere, left_out, for_none, for_plus, timed_parts, lock_parts}
 
@@ -154,6 +155,9 @@ do_alone line at less = sole_apart DoCall less (λ c u rest h is e. go c u rest 
     go : (c : DoTree) (u rest : List ℕ) → IsDo (suc at) c u → DoEnds c rest
         → (call : CallTree) × (condition : Option Tree) × (s t : List ℕ) × (u ≡ s ++ t) × (c ≡ DoCall call condition) × IsCall Everything ByReference (suc at) call s × IsCondition (suc at + length s) condition t × CallEnds call (t ++ rest) × AfterEnds 58 condition rest
     go (DoCall call condition) u rest is e = let p = parts call condition u rest is e in (call, condition, p.0, p.1, p.2, refl, p.3, p.4, p.5, p.6)
+
+pub goto_alone : Alone IsGoto GotoEnds
+goto_alone line at less = sole_as goto_from (λ g u rest h is e. goto_as_do line at g u rest is e) (do_alone line at less)
 
 pub job_alone : Alone IsJob JobEnds
 job_alone line at less = sole_within (λ c s rest is e. (is, e.0)) (call_alone Everything ByValue line at less)

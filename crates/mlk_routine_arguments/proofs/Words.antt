@@ -18,10 +18,10 @@ use Rattle.mlk_routine_arguments.specs.declared.word.Word.{Word}
 use Rattle.mlk_routine_arguments.specs.declared.word.Word.TheVariants as word
 use Rattle.mlk_routine_arguments.specs.declared.word.AddedWord.{AddedWord}
 use Rattle.mlk_routine_arguments.specs.declared.word.AddedWord.TheVariants as added
-use Rattle.mlk_syntax.specs.Trees.{ActionTree, Do, Else, Halt, Hang, If, Job, Kill, Lock, Merge, New, Quit, Read, Set, Write}
+use Rattle.mlk_syntax.specs.Trees.{ActionTree, Do, Else, Goto, Halt, Hang, If, Job, Kill, Lock, Merge, New, Quit, Read, Set, Write}
 use Rattle.mlk_routine_arguments.specs.PartsRead.{Found, Nowhere}
 use Rattle.mlk_routine_arguments.specs.CommandWords.{is_word_of, is_for, is_added}
-use Rattle.mlk_routine_arguments.specs.Kinds.{kind, halts_or_hangs, Means, is_written, first_word, all_words, word_of, added_words, added_word_of, if_none, word_in, IsNamed, WordEnds}
+use Rattle.mlk_routine_arguments.specs.Kinds.{kind, is_standard, halts_or_hangs, Means, is_written, first_word, all_words, word_of, added_words, added_word_of, if_none, word_in, IsNamed, WordEnds}
 use Rattle.mlk_routine_arguments.proofs.Sequences.{stands_at}
 
 -- the word at the front of a text, up to its last letter
@@ -83,18 +83,18 @@ written_in dialect.Extended s w h = go (word_of s) refl h
     go None is h = first_written added_words s w h
 
 -- words of the extended dialect alone are found in it only
-abbrev is_standard : Word → Bool
-is_standard (word.Added w) = false
-is_standard w = true
+abbrev is_known : Word → Bool
+is_known (word.Added w) = false
+is_known w = true
 
-first_own : (words : List Word) (s : List ℕ) (w : Word) → list_all is_standard words ≡ true → first_word words s ≡ Some w → is_standard w ≡ false → ⊥
+first_own : (words : List Word) (s : List ℕ) (w : Word) → list_all is_known words ≡ true → first_word words s ≡ Some w → is_known w ≡ false → ⊥
 first_own [] s w all h other = cc h
 first_own (v ∷ words) s w all h other = elim (cases_Bool (is_written v s)) [
-  | inl e ↦ let same : v ≡ w = let k : Some v ≡ Some w = rw e at h in cc k in cc (sym (and_parts (is_standard v) (list_all is_standard words) all).0 ∙ ap is_standard same ∙ other)
-  | inr e ↦ first_own words s w (and_parts (is_standard v) (list_all is_standard words) all).1 (rw e at h) other
+  | inl e ↦ let same : v ≡ w = let k : Some v ≡ Some w = rw e at h in cc k in cc (sym (and_parts (is_known v) (list_all is_known words) all).0 ∙ ap is_known same ∙ other)
+  | inr e ↦ first_own words s w (and_parts (is_known v) (list_all is_known words) all).1 (rw e at h) other
 ]
 
-extended_only : (d : Dialect) (s : List ℕ) (w : Word) → is_standard w ≡ false → word_in d s ≡ Some w → d ≡ dialect.Extended
+extended_only : (d : Dialect) (s : List ℕ) (w : Word) → is_known w ≡ false → word_in d s ≡ Some w → d ≡ dialect.Extended
 unfolding word_of
 extended_only dialect.Standard s w other h = absurd (first_own all_words s w refl h other)
 extended_only dialect.Extended s w other h = refl
@@ -104,28 +104,29 @@ unfolding is_written
 added_written d w s h = (extended_only d s (word.Added w) refl h, written_in d s (word.Added w) h)
 
 -- a command's own word is written in this way
-kind_written : (a : ActionTree) (s : List ℕ) → is_written (kind a) s ≡ true → is_word_of a s ≡ true
+kind_written : (a : ActionTree) (s : List ℕ) → is_standard a ≡ true → is_written (kind a) s ≡ true → is_word_of a s ≡ true
 unfolding is_written is_word_of
-kind_written (Do calls) s h = h
-kind_written Else s h = h
-kind_written Halt s h = elim (or_cases (str_eq_ignore_ascii_case s (codes "HALT")) (str_eq_ignore_ascii_case s (codes "HALT")) h) [
+kind_written (Goto gotos) s known h = cc known
+kind_written (Do calls) s known h = h
+kind_written Else s known h = h
+kind_written Halt s known h = elim (or_cases (str_eq_ignore_ascii_case s (codes "HALT")) (str_eq_ignore_ascii_case s (codes "HALT")) h) [
   | inl e ↦ or_right (str_eq_ignore_ascii_case s (codes "H")) (str_eq_ignore_ascii_case s (codes "HALT")) e
   | inr e ↦ or_right (str_eq_ignore_ascii_case s (codes "H")) (str_eq_ignore_ascii_case s (codes "HALT")) e
 ]
-kind_written (Hang times) s h = elim (or_cases (str_eq_ignore_ascii_case s (codes "HANG")) (str_eq_ignore_ascii_case s (codes "HANG")) h) [
+kind_written (Hang times) s known h = elim (or_cases (str_eq_ignore_ascii_case s (codes "HANG")) (str_eq_ignore_ascii_case s (codes "HANG")) h) [
   | inl e ↦ or_right (str_eq_ignore_ascii_case s (codes "H")) (str_eq_ignore_ascii_case s (codes "HANG")) e
   | inr e ↦ or_right (str_eq_ignore_ascii_case s (codes "H")) (str_eq_ignore_ascii_case s (codes "HANG")) e
 ]
-kind_written (If conditions) s h = h
-kind_written (Job calls) s h = h
-kind_written (Kill kills) s h = h
-kind_written (Lock locks) s h = h
-kind_written (Merge merges) s h = h
-kind_written (New news) s h = h
-kind_written (Quit value) s h = h
-kind_written (Read reads) s h = h
-kind_written (Set sets) s h = h
-kind_written (Write writes) s h = h
+kind_written (If conditions) s known h = h
+kind_written (Job calls) s known h = h
+kind_written (Kill kills) s known h = h
+kind_written (Lock locks) s known h = h
+kind_written (Merge merges) s known h = h
+kind_written (New news) s known h = h
+kind_written (Quit value) s known h = h
+kind_written (Read reads) s known h = h
+kind_written (Set sets) s known h = h
+kind_written (Write writes) s known h = h
 
 short_h : (s : List ℕ) → is_written word.HaltOrHang s ≡ true → str_eq_ignore_ascii_case s (codes "H") ≡ true
 unfolding is_written
@@ -137,6 +138,7 @@ h_written Halt s m h = rw h refl
 h_written (Hang times) s m h = rw h refl
 h_written (Do calls) s m h = cc m
 h_written Else s m h = cc m
+h_written (Goto gotos) s m h = cc m
 h_written (If conditions) s m h = cc m
 h_written (Job calls) s m h = cc m
 h_written (Kill kills) s m h = cc m
@@ -148,9 +150,9 @@ h_written (Read reads) s m h = cc m
 h_written (Set sets) s m h = cc m
 h_written (Write writes) s m h = cc m
 
-pub means_written : (d : Dialect) (w : Word) (a : ActionTree) (s : List ℕ) → Means w a → word_in d s ≡ Some w → is_word_of a s ≡ true
-means_written d w a s (inl same) h = kind_written a s (subst (λ x. is_written x s ≡ true) (sym same) (written_in d s w h))
-means_written d w a s (inr (same, m)) h = h_written a s m (short_h s (subst (λ x. is_written x s ≡ true) same (written_in d s w h)))
+pub means_written : (d : Dialect) (w : Word) (a : ActionTree) (s : List ℕ) → is_standard a ≡ true → Means w a → word_in d s ≡ Some w → is_word_of a s ≡ true
+means_written d w a s known (inl same) h = kind_written a s known (subst (λ x. is_written x s ≡ true) (sym same) (written_in d s w h))
+means_written d w a s known (inr (same, m)) h = h_written a s m (short_h s (subst (λ x. is_written x s ≡ true) same (written_in d s w h)))
 
 -- The other direction. A text is one of two texts, apart from the case of its letters.
 pub same_case : (s t : List ℕ) → str_eq_ignore_ascii_case s t ≡ true → str_to_ascii_lowercase s ≡ str_to_ascii_lowercase t
@@ -193,6 +195,7 @@ own_means : (a : ActionTree) (s : List ℕ) → is_word_of a s ≡ true → (w :
 unfolding is_word_of word_of is_written
 own_means (Do calls) s h = let r = either_named (codes "D") (codes "DO") s word.Do h (refl, refl) (refl, refl) in (word.Do, r.0, r.1, inl refl)
 own_means Else s h = let r = either_named (codes "E") (codes "ELSE") s word.Else h (refl, refl) (refl, refl) in (word.Else, r.0, r.1, inl refl)
+own_means (Goto gotos) s h = cc h
 own_means Halt s h = elim (or_cases (str_eq_ignore_ascii_case s (codes "H")) (str_eq_ignore_ascii_case s (codes "HALT")) h) [
   | inl e ↦ let r = either_named (codes "H") (codes "H") s word.HaltOrHang (rw e refl) (refl, refl) (refl, refl) in (word.HaltOrHang, r.0, r.1, inr (refl, refl))
   | inr e ↦ let r = either_named (codes "HALT") (codes "HALT") s word.Halt (rw e refl) (refl, refl) (refl, refl) in (word.Halt, r.0, r.1, inl refl)
@@ -222,6 +225,7 @@ written_means dialect.Extended a s h =
 pub added_named : (w : AddedWord) (s : List ℕ) → is_added w s ≡ true → IsWord s × (word_in dialect.Extended s ≡ Some (word.Added w))
 unfolding is_added word_of added_word_of is_written
 added_named added.Close s h = either_in dialect.Extended (codes "C") (codes "CLOSE") s (word.Added added.Close) h (refl, refl) (refl, refl)
+added_named added.Goto s h = either_in dialect.Extended (codes "G") (codes "GOTO") s (word.Added added.Goto) h (refl, refl) (refl, refl)
 added_named added.Open s h = either_in dialect.Extended (codes "O") (codes "OPEN") s (word.Added added.Open) h (refl, refl) (refl, refl)
 added_named added.Use s h = either_in dialect.Extended (codes "U") (codes "USE") s (word.Added added.Use) h (refl, refl) (refl, refl)
 

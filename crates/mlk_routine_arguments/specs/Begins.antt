@@ -20,7 +20,7 @@ use Rattle.mlk_expr_tokens.specs.Lexemes.{starts_reference}
 use Rattle.mlk_expr.specs.Grammar.{Spelled, IsExpr, IsReference, IsExprWhere, IsNameText, IsCallee}
 use Rattle.mlk_expr.proofs.JoinedOperands.{nested-opens}
 use Rattle.mlk_expr.proofs.JoinedParts.{opens}
-use Rattle.mlk_syntax.specs.Trees.{VariableTree, Named, CallTree, Called, DoTree, DoCall, KillTree, KillOne}
+use Rattle.mlk_syntax.specs.Trees.{VariableTree, Named, CallTree, Called, DoTree, DoCall, GotoTree, GoesTo, KillTree, KillOne}
 use Rattle.mlk_syntax.specs.Trees.{KillAllBut, NewTree, NewOne, NewAllBut, MergeTree, MergeInto}
 use Rattle.mlk_syntax.specs.Trees.{ParameterTree, Once, Endless, Limited, ControlTree, Runs, LockTree, LockNames}
 use Rattle.mlk_syntax.specs.Trees.{ReadTree, ReadText, ReadFormat, ReadLine, ReadCharacter, WriteTree, WriteValue}
@@ -29,7 +29,7 @@ use Rattle.mlk_syntax.specs.declared.command.Sign.{Sign}
 use Rattle.mlk_syntax.specs.declared.command.Sign.TheVariants as sign
 use Rattle.mlk_routine_arguments.specs.Ends.{is_stop, starts}
 use Rattle.mlk_routine_arguments.specs.Traps.{is_new_trap}
-use Rattle.mlk_routine_arguments.specs.CommandGrammar.{IsVariable, IsCall, IsDo, IsJob, IsKill, IsNew, IsMerge, IsParameter}
+use Rattle.mlk_routine_arguments.specs.CommandGrammar.{IsVariable, IsCall, IsDo, IsGoto, IsJob, IsKill, IsNew, IsMerge, IsParameter}
 use Rattle.mlk_routine_arguments.specs.CommandGrammar.{IsControl, before_condition, IsOneOrEnclosed, sign_text, in_names, IsLock}
 use Rattle.mlk_routine_arguments.specs.CommandGrammar.{is_mark, IsFormat, IsRead, IsWrite, in_set, IsTarget, IsSet}
 use Rattle.mlk_routine_arguments.specs.CommandGrammar.{DeviceTree, IsDevice, IsNewed}
@@ -90,6 +90,9 @@ call_begins a p at (Called column callee actuals) s (place, (front, rest, is, on
 pub do_begins : (at : ℕ) (d : DoTree) (s : List ℕ) → IsDo at d s → is_stop s ≡ false
 do_begins at (DoCall call condition) s (front, rest, is, one, two) =
     joined_begins s front rest is (call_begins (before_condition condition) ByReference at call front one)
+
+pub goto_begins : (at : ℕ) (g : GotoTree) (s : List ℕ) → IsGoto at g s → is_stop s ≡ false
+goto_begins at (GoesTo call condition) s is = do_begins at (DoCall call condition) s is.0
 
 pub job_begins : (at : ℕ) (c : CallTree) (s : List ℕ) → IsJob at c s → is_stop s ≡ false
 job_begins = call_begins Everything ByValue

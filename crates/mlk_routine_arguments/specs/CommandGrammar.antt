@@ -1,7 +1,7 @@
 -- Commands and their arguments, from trees to texts. `Is.. at t s` says that the text s spells the tree t, where s begins in the
 -- column `at`. Consecutive parts are joined by `++`; the items of a list are separated by commas.
 use Rattle.mlk_text.specs.Places.{column_at}
-use Rattle.std.specs.Prelude.{ℕ, suc, ◌≡◌, ◌<◌, ◌≤◌, ◌+◌, ◌⊎◌, ◌==◌, ◌&&◌, ◌||◌, is_some, Bool, true, false, List, []}
+use Rattle.std.specs.Prelude.{ℕ, suc, ◌≡◌, ◌<◌, ◌≤◌, ◌+◌, ◌⊎◌, ◌==◌, ◌&&◌, ◌||◌, is_some, is_none, Bool, true, false, List, []}
 use Rattle.std.specs.Prelude.{◌∷◌, ◌++◌, length, map, if◌then◌else◌, Option, Some, None, codes}
 use Rattle.std.specs.List.{list_all, list_any}
 use Rattle.mlk_dialect.specs.declared.dialect.Dialect.{Dialect}
@@ -20,11 +20,11 @@ use Rattle.mlk_syntax.specs.declared.command.Sign.{Sign}
 use Rattle.mlk_syntax.specs.declared.command.Sign.TheVariants as sign
 use Rattle.mlk_syntax.specs.declared.command.Part.{Part}
 use Rattle.mlk_syntax.specs.declared.command.Part.TheVariants as part
-use Rattle.mlk_syntax.specs.Trees.{VariableTree, Named, CallTree, Called, DoTree, DoCall, KillTree, KillOne}
+use Rattle.mlk_syntax.specs.Trees.{VariableTree, Named, CallTree, Called, DoTree, DoCall, GotoTree, GoesTo, KillTree, KillOne}
 use Rattle.mlk_syntax.specs.Trees.{KillAllBut, NewTree, NewOne, NewAllBut, LockTree, LockNames, MergeTree, MergeInto}
 use Rattle.mlk_syntax.specs.Trees.{ReadTree, ReadText, ReadFormat, ReadLine, ReadCharacter, TargetTree, SetWhole}
 use Rattle.mlk_syntax.specs.Trees.{SetPart, SetTree, SetTo, WriteTree, WriteValue, WriteCharacter, WriteFormat}
-use Rattle.mlk_syntax.specs.Trees.{ActionTree, Do, Else, Halt, Hang, If, Job, Kill, Lock, Merge, New, Quit, Read, Set}
+use Rattle.mlk_syntax.specs.Trees.{ActionTree, Do, Else, Goto, Halt, Hang, If, Job, Kill, Lock, Merge, New, Quit, Read, Set}
 use Rattle.mlk_syntax.specs.Trees.{Write, CommandTree, Does, ParameterTree, Once, Endless, Limited, ControlTree, Runs}
 use Rattle.mlk_syntax.specs.Trees.{CommandTrees, finished, then_command, then_for}
 use Rattle.mlk_routine_arguments.specs.declared.word.AddedWord.{AddedWord}
@@ -119,6 +119,14 @@ before_condition (Some t) = NoTouches
 abbrev pub IsDo : ℕ → DoTree → List ℕ → Type 0
 IsDo at (DoCall call condition) s =
     Both (λ n r. IsCall (before_condition condition) ByReference n call r) (λ n r. IsCondition n condition r) at s
+
+-- GOTO of a label of the same routine, with a postconditional. Standard: GOTO. Not read: an offset, another routine's label.
+abbrev pub is_own_label : CallTree → Bool
+is_own_label (Called column callee None) = is_none callee.routine
+is_own_label (Called column callee (Some given)) = false
+
+abbrev pub IsGoto : ℕ → GotoTree → List ℕ → Type 0
+IsGoto at (GoesTo call condition) s = IsDo at (DoCall call condition) s × (is_own_label call ≡ true)
 
 -- JOB passes only by value. Not read: its process parameters and its timeout.
 abbrev pub IsJob : ℕ → CallTree → List ℕ → Type 0
@@ -241,9 +249,11 @@ abbrev pub IsQuit : Bool → ℕ → Option Tree → List ℕ → Type 0
 IsQuit returns at None s = s ≡ []
 IsQuit returns at (Some t) s = (returns ≡ true) × After 32 (λ n r. IsValue n t r) at s
 
+-- the arguments of commands that both dialects have
 abbrev pub AreArgumentsOf : Dialect → Bool → ℕ → ActionTree → List ℕ → Type 0
 AreArgumentsOf d returns at (Do calls) s = ArePerhaps IsDo at calls s
 AreArgumentsOf d returns at Else s = s ≡ []
+AreArgumentsOf d returns at (Goto gotos) s = ⊥
 AreArgumentsOf d returns at Halt s = s ≡ []
 AreArgumentsOf d returns at (Hang times) s = AreSome IsValue at times s
 AreArgumentsOf d returns at (If conditions) s = ArePerhaps IsValue at conditions s
@@ -300,11 +310,16 @@ newing (item ∷ items) = new_or_nothing (locals_of (item ∷ items))
 abbrev pub AreNews : ℕ → ActionTree → List ℕ → Type 0
 AreNews at action s = (items : List (Option NewTree)) × (action ≡ newing items) × ArePerhaps IsNewed at items s
 
+-- GOTO occurs only where a QUIT may have a value: inside no FOR, and in no block. This project's own choice.
+abbrev pub AreGotos : Bool → ℕ → ActionTree → List ℕ → Type 0
+AreGotos returns at action s = (returns ≡ true) × ((gotos : List GotoTree) × (action ≡ Goto gotos) × AreSome IsGoto at gotos s)
+
 -- The arguments of a command that only the extended dialect has, and what it does.
-abbrev pub AreAdded : AddedWord → ℕ → ActionTree → List ℕ → Type 0
-AreAdded added.Close = AreDevices naming
-AreAdded added.Open = AreDevices opening
-AreAdded added.Use = AreDevices naming
+abbrev pub AreAdded : AddedWord → Bool → ℕ → ActionTree → List ℕ → Type 0
+AreAdded added.Close returns = AreDevices naming
+AreAdded added.Goto returns = AreGotos returns
+AreAdded added.Open returns = AreDevices opening
+AreAdded added.Use returns = AreDevices naming
 
 -- a word, an optional postconditional, arguments
 abbrev pub IsWordWith : (List ℕ → Bool) → Option Tree → (ℕ → List ℕ → Type 0) → ℕ → List ℕ → Type 0
@@ -312,8 +327,9 @@ IsWordWith is_word condition Arguments at s =
     Both (λ n r. is_word r ≡ true) (Both (λ n r. IsCondition n condition r) Arguments) at s
 
 -- What only the extended dialect reads: commands with words of their own, SET of a trap, and NEW of traps.
-abbrev pub IsExtended : Option Tree → ActionTree → ℕ → List ℕ → Type 0
-IsExtended condition action at s = ((w : AddedWord) × IsWordWith (is_added w) condition (λ n r. AreAdded w n action r) at s)
+abbrev pub IsExtended : Bool → Option Tree → ActionTree → ℕ → List ℕ → Type 0
+IsExtended returns condition action at s =
+    ((w : AddedWord) × IsWordWith (is_added w) condition (λ n r. AreAdded w returns n action r) at s)
     ⊎ IsWordWith (is_word_of (Set [])) condition (λ n r. IsTrap n action r) at s
     ⊎ IsWordWith (is_word_of (New [])) condition (λ n r. AreNews n action r) at s
 
@@ -322,7 +338,7 @@ abbrev pub IsCommand : Dialect → Bool → ℕ → CommandTree → List ℕ →
 IsCommand d returns at (Does column condition action) s = (column ≡ column_at at)
     × ((condition ≡ None) ⊎ (may_have_condition action ≡ true))
     × (IsWordWith (is_word_of action) condition (λ n r. AreArgumentsOf d returns n action r) at s
-    ⊎ ((d ≡ dialect.Extended) × IsExtended condition action at s))
+    ⊎ ((d ≡ dialect.Extended) × IsExtended returns condition action at s))
 
 abbrev pub least_of : CommandTree → ℕ
 least_of (Does column condition action) = least_after (has_arguments action)

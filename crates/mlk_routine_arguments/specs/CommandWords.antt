@@ -1,17 +1,18 @@
 -- The words of commands and what may follow them. Standard: commands; which of them are read is this project's own choice.
--- Refused by name: BREAK, GOTO, VIEW, XECUTE, TSTART, TCOMMIT, TROLLBACK, TRESTART, the commands of events, all words that begin
--- with Z and, in the standard dialect, CLOSE, OPEN and USE.
+-- Refused by name: BREAK, VIEW, XECUTE, TSTART, TCOMMIT, TROLLBACK, TRESTART, the commands of events, all words that begin with Z
+-- and, in the standard dialect, CLOSE, GOTO, OPEN and USE.
 use Rattle.std.specs.Prelude.{ℕ, Bool, true, false, List, [], ◌∷◌, None, codes}
 use Rattle.mlk_expr_tokens.specs.Words.{is_either}
 use Rattle.mlk_routine_arguments.specs.declared.word.AddedWord.{AddedWord}
 use Rattle.mlk_routine_arguments.specs.declared.word.AddedWord.TheVariants as added
-use Rattle.mlk_syntax.specs.Trees.{ActionTree, Do, Else, Halt, Hang, If, Job, Kill, Lock, Merge, New, Quit, Read, Set}
+use Rattle.mlk_syntax.specs.Trees.{ActionTree, Do, Else, Goto, Halt, Hang, If, Job, Kill, Lock, Merge, New, Quit, Read, Set}
 use Rattle.mlk_syntax.specs.Trees.{Write, CommandTrees, finished, then_command, then_for, Does}
 
--- Each command's word, short or whole, in either case. Standard: commands.
+-- Each command's word, short or whole, in either case; GOTO has one in the extended dialect alone. Standard: commands.
 unfoldable pub is_word_of : ActionTree → List ℕ → Bool
 is_word_of (Do calls) = is_either (codes "D") (codes "DO")
 is_word_of Else = is_either (codes "E") (codes "ELSE")
+is_word_of (Goto gotos) = λ s. false
 is_word_of Halt = is_either (codes "H") (codes "HALT")
 is_word_of (Hang times) = is_either (codes "H") (codes "HANG")
 is_word_of (If conditions) = is_either (codes "I") (codes "IF")
@@ -31,6 +32,7 @@ is_for = is_either (codes "F") (codes "FOR")
 -- The words of the commands that only the extended dialect has. Standard: commands.
 unfoldable pub is_added : AddedWord → List ℕ → Bool
 is_added added.Close = is_either (codes "C") (codes "CLOSE")
+is_added added.Goto = is_either (codes "G") (codes "GOTO")
 is_added added.Open = is_either (codes "O") (codes "OPEN")
 is_added added.Use = is_either (codes "U") (codes "USE")
 

@@ -7,7 +7,7 @@ use Rattle.mlk_expr.specs.Spellings.{IsStringLiteral}
 use Rattle.mlk_syntax.specs.declared.expr.Callee.{Callee}
 use Rattle.mlk_expr.specs.Theorem.{ExprEnds, ReferenceEnds, CalleeEnds, LabelEnds}
 use Rattle.mlk_routine_arguments.specs.PartsRead.{first_of}
-use Rattle.mlk_syntax.specs.Trees.{VariableTree, Named, CallTree, Called, DoTree, DoCall, KillTree, KillOne}
+use Rattle.mlk_syntax.specs.Trees.{VariableTree, Named, CallTree, Called, DoTree, DoCall, GotoTree, GoesTo, KillTree, KillOne}
 use Rattle.mlk_syntax.specs.Trees.{KillAllBut, MergeTree, MergeInto, ParameterTree, Once, Endless, Limited}
 use Rattle.mlk_syntax.specs.Trees.{ControlTree, Runs, NewTree, NewOne, NewAllBut, ActionTree, CommandTree, Does, CommandTrees}
 use Rattle.mlk_routine_arguments.specs.CommandWords.{has_arguments}
@@ -76,6 +76,9 @@ MergeEnds (MergeInto target source) rest = VariableEnds source rest
 abbrev pub DoEnds : DoTree → List ℕ → Type 0
 DoEnds (DoCall call None) rest = CallEnds call rest × Lacks 58 rest
 DoEnds (DoCall call (Some t)) rest = ExprEnds t rest
+
+abbrev pub GotoEnds : GotoTree → List ℕ → Type 0
+GotoEnds (GoesTo call condition) rest = DoEnds (DoCall call condition) rest
 
 -- after a call of JOB: no timeout either
 abbrev pub JobEnds : CallTree → List ℕ → Type 0

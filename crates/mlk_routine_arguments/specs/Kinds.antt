@@ -1,5 +1,5 @@
 -- Distinctions that the readers of commands make. For private clauses only. This project's own.
-use Rattle.std.specs.Prelude.{ℕ, ◌≡◌, ◌⊎◌, Bool, true, false, List, [], ◌∷◌, Option, Some, None, codes}
+use Rattle.std.specs.Prelude.{ℕ, ◌≡◌, ◌⊎◌, not, Bool, true, false, List, [], ◌∷◌, Option, Some, None, codes}
 use Rattle.std.specs.Prelude.{if◌then◌else◌, ◌+◌, ◌++◌, drop, Result, Ok, Err}
 use Rattle.mlk_dialect.specs.declared.dialect.Dialect.{Dialect}
 use Rattle.mlk_dialect.specs.declared.dialect.Dialect.TheVariants as dialect
@@ -13,7 +13,7 @@ use Rattle.mlk_routine_arguments.specs.declared.word.Word.{Word}
 use Rattle.mlk_routine_arguments.specs.declared.word.Word.TheVariants as word
 use Rattle.mlk_routine_arguments.specs.declared.word.AddedWord.{AddedWord}
 use Rattle.mlk_routine_arguments.specs.declared.word.AddedWord.TheVariants as added
-use Rattle.mlk_syntax.specs.Trees.{ActionTree, Do, Else, Halt, Hang, If, Job, Kill, Lock, Merge, New, Quit, Read, Set}
+use Rattle.mlk_syntax.specs.Trees.{ActionTree, Do, Else, Goto, Halt, Hang, If, Job, Kill, Lock, Merge, New, Quit, Read, Set}
 use Rattle.mlk_syntax.specs.Trees.{Write, NewTree}
 use Rattle.mlk_routine_arguments.specs.CommandWords.{has_arguments, is_added}
 use Rattle.mlk_routine_arguments.specs.declared.details.Device.{Device}
@@ -32,6 +32,7 @@ use Rattle.mlk_routine_arguments.specs.Ends.{starts, is_stop, is_bare_end, After
 abbrev pub kind : ActionTree → Word
 kind (Do calls) = word.Do
 kind Else = word.Else
+kind (Goto gotos) = word.Added added.Goto
 kind Halt = word.Halt
 kind (Hang times) = word.Hang
 kind (If conditions) = word.If
@@ -44,6 +45,11 @@ kind (Quit value) = word.Quit
 kind (Read reads) = word.Read
 kind (Set sets) = word.Set
 kind (Write writes) = word.Write
+
+-- the command is one that both dialects have
+abbrev pub is_standard : ActionTree → Bool
+is_standard (Goto gotos) = false
+is_standard action = true
 
 -- `H` is the word of both
 abbrev pub halts_or_hangs : ActionTree → Bool
@@ -87,7 +93,7 @@ word_of s = first_word all_words s
 
 -- the words that only the extended dialect has
 abbrev pub added_words : List Word
-added_words = word.Added added.Close ∷ word.Added added.Open ∷ word.Added added.Use ∷ []
+added_words = word.Added added.Close ∷ word.Added added.Goto ∷ word.Added added.Open ∷ word.Added added.Use ∷ []
 
 unfoldable pub added_word_of : List ℕ → Option Word
 added_word_of s = first_word added_words s
@@ -120,13 +126,18 @@ IsConditionOf w at condition s = ((condition ≡ None) ⊎ (has_condition w ≡ 
 abbrev pub ConditionEnds : Word → Option Tree → List ℕ → Type 0
 ConditionEnds w condition rest = has_condition w ≡ true → AfterEnds 58 condition rest
 
+-- whether the word is that of GOTO, in a place where QUIT may have no value
+abbrev pub is_misplaced : Word → Bool → Bool
+is_misplaced (word.Added added.Goto) returns = not returns
+is_misplaced w returns = false
+
 -- a device of the code
 abbrev pub device_of : Device → DeviceTree
 device_of device = (tree_of device.name, device.is_timed)
 
 -- what only the extended dialect reads, by the word
-abbrev pub IsExtendedAction : Word → Dialect → ℕ → ActionTree → List ℕ → Type 0
-IsExtendedAction w d at action s = ((one : AddedWord) × (w ≡ word.Added one) × AreAdded one at action s)
+abbrev pub IsExtendedAction : Word → Dialect → Bool → ℕ → ActionTree → List ℕ → Type 0
+IsExtendedAction w d returns at action s = ((one : AddedWord) × (w ≡ word.Added one) × AreAdded one returns at action s)
     ⊎ ((w ≡ word.Set) × (d ≡ dialect.Extended) × IsTrap at action s)
     ⊎ ((w ≡ word.New) × (d ≡ dialect.Extended) × AreNews at action s)
 
@@ -137,7 +148,7 @@ newed_of new_item.Trap = None
 
 -- the arguments of one of the word's commands
 abbrev pub IsActionOf : Word → Dialect → Bool → ℕ → ActionTree → List ℕ → Type 0
-IsActionOf w d returns at action s = (Means w action × AreArgumentsOf d returns at action s) ⊎ IsExtendedAction w d at action s
+IsActionOf w d returns at action s = (Means w action × AreArgumentsOf d returns at action s) ⊎ IsExtendedAction w d returns at action s
 
 abbrev pub ActionEnds : ActionTree → List ℕ → Type 0
 ActionEnds action rest = StopEnds (has_arguments action) rest

@@ -9,12 +9,12 @@ use Rattle.mlk_syntax.specs.ExprTrees.{Tree}
 use Rattle.mlk_expr_tokens.specs.Lexemes.{ends}
 use Rattle.mlk_expr.specs.Grammar.{has_subscript}
 use Rattle.mlk_expr.specs.Theorem.{ExprEnds, LabelEnds, callee_ends}
-use Rattle.mlk_syntax.specs.Trees.{VariableTree, Named, CallTree, Called, DoTree, DoCall, KillTree, KillOne}
+use Rattle.mlk_syntax.specs.Trees.{VariableTree, Named, CallTree, Called, DoTree, DoCall, GotoTree, GoesTo, KillTree, KillOne}
 use Rattle.mlk_syntax.specs.Trees.{KillAllBut, NewTree, NewOne, NewAllBut, MergeTree, MergeInto}
 use Rattle.mlk_syntax.specs.Trees.{ParameterTree, Once, Endless, Limited, LockTree, LockNames}
 use Rattle.mlk_syntax.specs.Trees.{ReadTree, ReadText, ReadFormat, ReadLine, ReadCharacter, WriteTree, WriteValue}
 use Rattle.mlk_syntax.specs.Trees.{WriteCharacter, WriteFormat, TargetTree, SetWhole, SetPart, SetTree, SetTo}
-use Rattle.mlk_routine_arguments.specs.Ends.{is_stop, Lacks, VariableEnds, CallEnds, DoEnds, JobEnds}
+use Rattle.mlk_routine_arguments.specs.Ends.{is_stop, Lacks, VariableEnds, CallEnds, DoEnds, GotoEnds, JobEnds}
 use Rattle.mlk_routine_arguments.specs.CommandGrammar.{DeviceTree}
 use Rattle.mlk_routine_arguments.specs.Ends.{KillEnds, MergeEnds, NewEnds, NewedEnds, ParameterEnds, LockEnds, DeviceEnds}
 use Rattle.mlk_routine_arguments.specs.Ends.{FormatEnds, MostEnds, ReadEnds, WriteEnds, TargetEnds, SetEnds}
@@ -98,6 +98,9 @@ job_stop c rest h = (call_stop c rest h, lacks_colon rest h)
 pub do_stop : (d : DoTree) (rest : List ℕ) → is_stop rest ≡ true → DoEnds d rest
 do_stop (DoCall call None) rest h = (call_stop call rest h, lacks_colon rest h)
 do_stop (DoCall call (Some t)) rest h = expr_stop t rest h
+
+pub goto_stop : (g : GotoTree) (rest : List ℕ) → is_stop rest ≡ true → GotoEnds g rest
+goto_stop (GoesTo call condition) rest h = do_stop (DoCall call condition) rest h
 
 pub kill_stop : (k : KillTree) (rest : List ℕ) → is_stop rest ≡ true → KillEnds k rest
 kill_stop (KillOne v) rest h = variable_stop v rest h

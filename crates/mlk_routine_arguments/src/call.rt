@@ -1,4 +1,4 @@
-// Calls by DO and JOB.
+// Calls by DO and JOB, and labels of GOTO.
 
 ghost use Rattle.std.specs.Prelude.{◌≡◌, ◌≤◌, length, option_map, Some, true, false};
 ghost use Rattle.mlk_syntax.specs.ExprTrees.{actual_trees};
@@ -7,14 +7,15 @@ ghost use Rattle.mlk_expr.specs.Theorem.{CalleeEnds};
 ghost use Rattle.mlk_expr.specs.declared.context.Allows.TheVariants.{Everything, NoTouches};
 ghost use Rattle.mlk_expr.specs.declared.context.Passing.TheVariants.{ByReference};
 ghost use Rattle.mlk_routine_arguments.specs.PartsRead.{Found, ReadsPart, byte_at};
-ghost use Rattle.mlk_routine_arguments.specs.Ends.{GivenEnds, CalledEnds, CallEnds, DoEnds, JobEnds};
-ghost use Rattle.mlk_syntax.specs.Views.{call_of, do_of};
-ghost use Rattle.mlk_routine_arguments.specs.CommandGrammar.{IsGiven, IsCall, IsDo, IsJob};
+ghost use Rattle.mlk_routine_arguments.specs.Ends.{GivenEnds, CalledEnds, CallEnds, DoEnds, GotoEnds, JobEnds};
+ghost use Rattle.mlk_syntax.specs.Views.{call_of, do_of, goto_of};
+ghost use Rattle.mlk_routine_arguments.specs.CommandGrammar.{IsGiven, IsCall, IsDo, IsGoto, IsJob, is_own_label};
 
 use crate::fault::{leaves_out, other_form, refusal_at};
 use crate::part::{expression, has_byte};
+use crate::word::no_goto;
 use mlk_expr::{Allows, Passing, read_actuals_where, read_callee};
-use mlk_syntax::{Actual, Call, Callee, DoArgument};
+use mlk_syntax::{Actual, Call, Callee, DoArgument, GotoArgument};
 use mlk_text::{Code, Column, Failure, Fault, LeftOut};
 use std::alloc::Global;
 
@@ -138,6 +139,35 @@ pub(crate) fn do_argument(
         DoArgument {
             call: less,
             condition: Some(condition),
+        },
+        next,
+    ))
+}
+
+// Whether a call is of a label of the same routine, and has no actuals.
+fn is_own_label(call: &Call) -> bool
+    ensures { result ≡ is_own_label (call_of call.now) }
+{
+    call.actuals.is_none() && call.callee.routine.is_none()
+}
+
+/// Reads an argument of GOTO: the argument, and the byte after it. It is written as one of DO.
+pub(crate) fn goto_argument(
+    alloc: Global,
+    line: &[u8],
+    at: usize,
+) -> Result<(GotoArgument, usize), Failure<Fault>>
+    requires { at ≤ length line.now }
+    ensures { ReadsPart goto_of IsGoto GotoEnds line.now at result }
+{
+    let (read, next) = do_argument(alloc, line, at)?;
+    if !is_own_label(&read.call) {
+        return Err(no_goto(alloc, at));
+    }
+    Ok((
+        GotoArgument {
+            call: read.call,
+            condition: read.condition,
         },
         next,
     ))

@@ -1,21 +1,21 @@
 // The arguments that occur in lists.
 
-ghost use Rattle.mlk_syntax.specs.Trees.{VariableTree, DoTree, CallTree, KillTree, NewTree, MergeTree, ParameterTree};
+ghost use Rattle.mlk_syntax.specs.Trees.{VariableTree, DoTree, GotoTree, CallTree, KillTree, NewTree, MergeTree, ParameterTree};
 ghost use Rattle.mlk_syntax.specs.Trees.{LockTree, ReadTree, WriteTree, TargetTree, SetTree};
-ghost use Rattle.mlk_syntax.specs.Views.{variable_of, do_of, call_of, kill_of, new_of, merge_of, parameter_of};
+ghost use Rattle.mlk_syntax.specs.Views.{variable_of, do_of, goto_of, call_of, kill_of, new_of, merge_of, parameter_of};
 ghost use Rattle.mlk_syntax.specs.Views.{lock_of, read_of, write_of, target_of, set_of};
-ghost use Rattle.mlk_routine_arguments.specs.Ends.{VariableEnds, DoEnds, JobEnds, KillEnds, NewEnds, MergeEnds, ParameterEnds};
+ghost use Rattle.mlk_routine_arguments.specs.Ends.{VariableEnds, DoEnds, GotoEnds, JobEnds, KillEnds, NewEnds, MergeEnds, ParameterEnds};
 ghost use Rattle.mlk_routine_arguments.specs.Ends.{LockEnds, ReadEnds, WriteEnds, TargetEnds, SetEnds};
-ghost use Rattle.mlk_routine_arguments.specs.CommandGrammar.{IsVariable, IsDo, IsJob, IsKill, IsNew, IsMerge, IsParameter};
+ghost use Rattle.mlk_routine_arguments.specs.CommandGrammar.{IsVariable, IsDo, IsGoto, IsJob, IsKill, IsNew, IsMerge, IsParameter};
 ghost use Rattle.mlk_routine_arguments.specs.CommandGrammar.{IsLock, IsRead, IsWrite, IsTarget, IsSet};
-ghost use Rattle.mlk_routine_arguments.specs.Stops.{do_stop, job_stop, kill_stop, merge_stop, new_stop, parameter_stop};
+ghost use Rattle.mlk_routine_arguments.specs.Stops.{do_stop, goto_stop, job_stop, kill_stop, merge_stop, new_stop, parameter_stop};
 ghost use Rattle.mlk_routine_arguments.specs.Stops.{variable_stop, lock_stop, read_stop, write_stop, target_stop, set_stop};
-ghost use Rattle.mlk_routine_arguments.specs.Begins.{do_begins, job_begins, kill_begins, merge_begins, new_begins};
+ghost use Rattle.mlk_routine_arguments.specs.Begins.{do_begins, goto_begins, job_begins, kill_begins, merge_begins, new_begins};
 ghost use Rattle.mlk_routine_arguments.specs.Begins.{parameter_begins, variable_begins, lock_begins, read_begins, write_begins};
 ghost use Rattle.mlk_routine_arguments.specs.Begins.{target_begins, set_begins};
 ghost use Rattle.mlk_expr.specs.declared.context.Allows.TheVariants.{Everything, NoTouches};
 
-use crate::call::{do_argument, job_argument};
+use crate::call::{do_argument, goto_argument, job_argument};
 use crate::changes::{kill, merge, new};
 use crate::devices::{read_argument, write_argument};
 use crate::item::Item;
@@ -26,7 +26,7 @@ use crate::set::{set, target};
 use mlk_dialect::Dialect;
 use mlk_expr::Allows;
 use mlk_syntax::{
-    Call, DoArgument, KillArgument, LockArgument, MergeArgument, NewArgument, Parameter,
+    Call, DoArgument, GotoArgument, KillArgument, LockArgument, MergeArgument, NewArgument, Parameter,
     ReadArgument, SetArgument, Target, Variable, WriteArgument,
 };
 use mlk_text::{Failure, Fault};
@@ -52,6 +52,29 @@ impl Item for DoArgument {
         at: usize,
     ) -> Result<(DoArgument, usize), Failure<Fault>> {
         do_argument(alloc, line, at)
+    }
+}
+
+impl Item for GotoArgument {
+    ghost Seen = { GotoTree };
+
+    ghost seen = { goto_of };
+
+    ghost is = { λ d. IsGoto };
+
+    ghost ends = { GotoEnds };
+
+    ghost stop = { goto_stop };
+
+    ghost begin = { λ d. goto_begins };
+
+    fn read(
+        alloc: Global,
+        _dialect: Dialect,
+        line: &[u8],
+        at: usize,
+    ) -> Result<(GotoArgument, usize), Failure<Fault>> {
+        goto_argument(alloc, line, at)
     }
 }
 

@@ -31,4 +31,4 @@ pub use spacing::{
     required_arguments,
 };
 pub use trap::{nothing, sets_trap, trap_action};
-pub use word::{AddedWord, Word, command_word, is_for};
+pub use word::{AddedWord, Word, command_word, is_for, no_goto};

@@ -20,6 +20,7 @@ use std::alloc::{AllocError, Global};
 #[derive(Clone, Copy, Debug, Drop, PartialEq, Eq)]
 pub enum AddedWord {
     Close,
+    Goto,
     Open,
     Use,
 }
@@ -114,6 +115,8 @@ fn added_word_of(word: &[u8]) -> Option<Word>
 {
     if is_either(b"C", b"CLOSE", word) {
         Some(Word::Added(AddedWord::Close))
+    } else if is_either(b"G", b"GOTO", word) {
+        Some(Word::Added(AddedWord::Goto))
     } else if is_either(b"O", b"OPEN", word) {
         Some(Word::Added(AddedWord::Open))
     } else if is_either(b"U", b"USE", word) {
@@ -183,6 +186,16 @@ fn in_upper_case(alloc: Global, word: &[u8]) -> Result<Value, AllocError> {
     let mut shown = Vec::from_slice(alloc, word)?;
     shown.as_mut_slice().make_ascii_uppercase();
     Ok(Value::new(shown))
+}
+
+/// The refusal of GOTO at `at`, where it is not read.
+pub fn no_goto(alloc: Global, at: usize) -> Failure<Fault>
+    ensures fault { (line : List ℕ) → at ≤ length line → IsFaulty line result }
+{
+    match in_upper_case(alloc, b"GOTO") {
+        Ok(shown) => no_command(alloc, shown, at),
+        Err(_) => Failure::OutOfMemory,
+    }
 }
 
 // Why `word` is not a command that is read.

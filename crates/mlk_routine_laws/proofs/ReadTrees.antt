@@ -1,5 +1,5 @@
 -- Routines that were read: their names and labels are spelled as such, their levels are those at which their lines are nested,
--- QUIT has a value only where it ends a call, formals differ, and READ is into locals only.
+-- QUIT has a value only where it ends a call, and GOTO is only there, formals differ, and READ is into locals only.
 use Rattle.std.proofs.Common.{◌≡◌, ap, refl, sym, subst, ℕ, zero, suc, ◌<◌, Bool, true, false, List, [], ◌∷◌, ◌++◌, Option, Some, None, inl, inr, arith}
 use Rattle.std.specs.Prelude.{Contains, ◌==◌, ◌&&◌, map, if◌then◌else◌}
 use Rattle.std.specs.List.{list_all, list_any}
@@ -11,8 +11,8 @@ use Rattle.mlk_text.specs.Spellings.{IsLabel}
 use Rattle.mlk_expr.specs.Grammar.{Spelled, AreNext, IsList}
 use Rattle.mlk_syntax.specs.Distinct.{AreDistinct}
 use Rattle.mlk_syntax.specs.ExprTrees.{Tree, Lit, LocalName}
-use Rattle.mlk_syntax.specs.Trees.{VariableTree, Named, CallTree, NewTree, LockTree, ReadTree, ReadText, ReadFormat, ReadLine, ReadCharacter}
-use Rattle.mlk_syntax.specs.Trees.{ActionTree, Do, Else, Halt, Hang, If, Job, Kill, Lock, Merge, New, Quit, Read, Set, Write}
+use Rattle.mlk_syntax.specs.Trees.{VariableTree, Named, CallTree, GotoTree, NewTree, LockTree, ReadTree, ReadText, ReadFormat, ReadLine, ReadCharacter}
+use Rattle.mlk_syntax.specs.Trees.{ActionTree, Do, Else, Goto, Halt, Hang, If, Job, Kill, Lock, Merge, New, Quit, Read, Set, Write}
 use Rattle.mlk_syntax.specs.Trees.{Named_routine, CommandTree, Does, CommandTrees, finished, then_command, then_for, HeadTree, LineHead, LineTrees, no_lines, line}
 use Rattle.mlk_routine_arguments.specs.CommandGrammar as grammar
 use Rattle.mlk_routine_arguments.specs.declared.word.AddedWord.{AddedWord}
@@ -66,11 +66,11 @@ unfolding IsRoutine
 routines-spelled d stem text (Named_routine name lines) (texts, stemmed, named, small, cut, few, good, nested, distinct) =
     (named, λ l label c own. each_line d (λ head. (l : List ℕ) → label_of head ≡ Some l → IsLabel l) (line_labelled d) 1 (heads_of lines) texts good l.0 (among lines l c) label own)
 
--- QUIT has a value only where it may
+-- QUIT has a value, and GOTO is, only where it may
 no : {A : Type 0} → false ≡ true → A
 no h = absurd (cc h)
 
--- What only the extended dialect reads is HANG, LOCK, JOB or NEW.
+-- What only the extended dialect reads is HANG, LOCK, JOB, NEW, or GOTO where it may be.
 opening_as : (P : ActionTree → Type 0) → ((times : List Tree) → P (Hang times)) → ((locks : List LockTree) → P (Lock locks)) → (devices : List DeviceTree) → P (opening devices)
 opening_as P hangs locks devices = go (list_any (λ device. device.1) devices)
   where
@@ -78,10 +78,12 @@ opening_as P hangs locks devices = go (list_any (λ device. device.1) devices)
     go true = locks (map claim_of devices)
     go false = hangs (map (λ device. device.0) devices)
 
-added_as : (P : ActionTree → Type 0) → ((times : List Tree) → P (Hang times)) → ((locks : List LockTree) → P (Lock locks)) → (w : AddedWord) (at : ℕ) (a : ActionTree) (s : List ℕ) → AreAdded w at a s → P a
-added_as P hangs locks added.Close at a s (devices, same, list) = subst P (sym same) (hangs (map (λ device. device.0) devices))
-added_as P hangs locks added.Open at a s (devices, same, list) = subst P (sym same) (opening_as P hangs locks devices)
-added_as P hangs locks added.Use at a s (devices, same, list) = subst P (sym same) (hangs (map (λ device. device.0) devices))
+added_as : (P : ActionTree → Type 0) → ((times : List Tree) → P (Hang times)) → ((locks : List LockTree) → P (Lock locks)) → (may : Bool) → (may ≡ true → (gotos : List GotoTree) → P (Goto gotos))
+    → (w : AddedWord) (at : ℕ) (a : ActionTree) (s : List ℕ) → AreAdded w may at a s → P a
+added_as P hangs locks may jumps added.Goto at a s (yes, (gotos, same, list)) = subst P (sym same) (jumps yes gotos)
+added_as P hangs locks may jumps added.Close at a s (devices, same, list) = subst P (sym same) (hangs (map (λ device. device.0) devices))
+added_as P hangs locks may jumps added.Open at a s (devices, same, list) = subst P (sym same) (opening_as P hangs locks devices)
+added_as P hangs locks may jumps added.Use at a s (devices, same, list) = subst P (sym same) (hangs (map (λ device. device.0) devices))
 
 pub newing_as : (P : ActionTree → Type 0) → ((times : List Tree) → P (Hang times)) → ((news : List NewTree) → P (New news)) → (items : List (Option NewTree)) → P (newing items)
 newing_as P hangs news [] = news []
@@ -92,16 +94,17 @@ newing_as P hangs news (item ∷ items) = go (locals_of (item ∷ items))
     go (x ∷ locals) = news (x ∷ locals)
 
 extended_as : (P : ActionTree → Type 0) → ((times : List Tree) → P (Hang times)) → ((locks : List LockTree) → P (Lock locks)) → ((calls : List CallTree) → P (Job calls)) → ((news : List NewTree) → P (New news))
-    → (condition : Option Tree) (a : ActionTree) (at : ℕ) (s : List ℕ) → IsExtended condition a at s → P a
-extended_as P hangs locks jobs news condition a at s (inl (w, (front, rest, joined, word, (front', rest', joined', cond, more)))) = added_as P hangs locks w _ a rest' more
-extended_as P hangs locks jobs news condition a at s (inr (inl (front, rest, joined, word, (front', rest', joined', cond, (name, code, is, trap, plain, inl (same, ends)))))) = subst P (sym same) (hangs (Lit [] ∷ []))
-extended_as P hangs locks jobs news condition a at s (inr (inl (front, rest, joined, word, (front', rest', joined', cond, (name, code, is, trap, plain, inr (call, same, restarts)))))) = subst P (sym same) (jobs (call ∷ []))
-extended_as P hangs locks jobs news condition a at s (inr (inr (front, rest, joined, word, (front', rest', joined', cond, (items, same, more))))) = subst P (sym same) (newing_as P hangs news items)
+    → (may : Bool) → (may ≡ true → (gotos : List GotoTree) → P (Goto gotos)) → (condition : Option Tree) (a : ActionTree) (at : ℕ) (s : List ℕ) → IsExtended may condition a at s → P a
+extended_as P hangs locks jobs news may jumps condition a at s (inl (w, (front, rest, joined, word, (front', rest', joined', cond, more)))) = added_as P hangs locks may jumps w _ a rest' more
+extended_as P hangs locks jobs news may jumps condition a at s (inr (inl (front, rest, joined, word, (front', rest', joined', cond, (name, code, is, trap, plain, inl (same, ends)))))) = subst P (sym same) (hangs (Lit [] ∷ []))
+extended_as P hangs locks jobs news may jumps condition a at s (inr (inl (front, rest, joined, word, (front', rest', joined', cond, (name, code, is, trap, plain, inr (call, same, restarts)))))) = subst P (sym same) (jobs (call ∷ []))
+extended_as P hangs locks jobs news may jumps condition a at s (inr (inr (front, rest, joined, word, (front', rest', joined', cond, (items, same, more))))) = subst P (sym same) (newing_as P hangs news items)
 
 quits_by : (d : Dialect) (may : Bool) (column at : ℕ) (condition : Option Tree) (a : ActionTree) (s : List ℕ) → AreArgumentsOf d may at a s → answers (Does column condition a) ≡ true → may ≡ true
 quits_by d may column at condition (Quit (Some t)) s (returns, more) h = returns
 quits_by d may column at condition (Do calls) s is h = no h
 quits_by d may column at condition Else s is h = no h
+quits_by d may column at condition (Goto gotos) s is h = absurd is
 quits_by d may column at condition Halt s is h = no h
 quits_by d may column at condition (Hang times) s is h = no h
 quits_by d may column at condition (If conditions) s is h = no h
@@ -118,7 +121,7 @@ quits_by d may column at condition (Write writes) s is h = no h
 quits : (d : Dialect) (may : Bool) (at : ℕ) (c : CommandTree) (s : List ℕ) → IsCommand d may at c s → answers c ≡ true → may ≡ true
 quits d may at (Does column condition a) s (is, conditioned, inl (front, rest, joined, word, (front', rest', joined', cond, more))) h = quits_by d may column _ condition a rest' more h
 quits d may at (Does column condition a) s (is, conditioned, inr (extended, also)) h =
-    extended_as (λ a. answers (Does column condition a) ≡ true → may ≡ true) (λ times h. no h) (λ locks h. no h) (λ calls h. no h) (λ news h. no h) condition a at s also h
+    extended_as (λ a. answers (Does column condition a) ≡ true → may ≡ true) (λ times h. no h) (λ locks h. no h) (λ calls h. no h) (λ news h. no h) may (λ yes gotos h. yes) condition a at s also h
 
 -- and none behind a FOR
 answer_at_end : (d : Dialect) (level loops at : ℕ) (cs : CommandTrees) (s : List ℕ) → AreCommands d level loops at cs s → AnswersAtEnd ((level == 1) && (loops == 0)) cs
@@ -205,6 +208,7 @@ reads_by : (d : Dialect) (may : Bool) (column at : ℕ) (condition : Option Tree
 reads_by d may column at condition (Read reads) s (after, space, list) = list_holds (IsRead d) reads_local (argument_reads d) reads _ after list
 reads_by d may column at condition (Do calls) s is = refl
 reads_by d may column at condition Else s is = refl
+reads_by d may column at condition (Goto gotos) s is = refl
 reads_by d may column at condition Halt s is = refl
 reads_by d may column at condition (Hang times) s is = refl
 reads_by d may column at condition (If conditions) s is = refl
@@ -220,7 +224,7 @@ reads_by d may column at condition (Write writes) s is = refl
 command_reads : (d : Dialect) (may : Bool) (at : ℕ) (c : CommandTree) (s : List ℕ) → IsCommand d may at c s → reads_locals c ≡ true
 command_reads d may at (Does column condition a) s (is, conditioned, inl (front, rest, joined, word, (front', rest', joined', cond, more))) = reads_by d may column _ condition a rest' more
 command_reads d may at (Does column condition a) s (is, conditioned, inr (extended, also)) =
-    extended_as (λ a. reads_locals (Does column condition a) ≡ true) (λ times. refl) (λ locks. refl) (λ calls. refl) (λ news. refl) condition a at s also
+    extended_as (λ a. reads_locals (Does column condition a) ≡ true) (λ times. refl) (λ locks. refl) (λ calls. refl) (λ news. refl) may (λ yes gotos. refl) condition a at s also
 
 commands_read : (d : Dialect) (level loops at : ℕ) (cs : CommandTrees) (s : List ℕ) → AreCommands d level loops at cs s → ReadsLocals cs
 commands_read d level loops at finished s h = tt

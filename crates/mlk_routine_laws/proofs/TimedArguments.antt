@@ -7,7 +7,7 @@ use Rattle.mlk_dialect.specs.declared.dialect.Dialect.TheVariants as dialect
 use Rattle.mlk_syntax.specs.ExprTrees.{Tree}
 use Rattle.mlk_syntax.specs.declared.command.Sign.TheVariants as sign
 use Rattle.mlk_syntax.specs.Trees.{LockTree, LockNames, ReadTree, ReadText, ReadFormat, ReadLine, ReadCharacter}
-use Rattle.mlk_syntax.specs.Trees.{ActionTree, Do, Else, Halt, Hang, If, Job, Kill, Lock, Merge, New, Quit, Read, Set, Write}
+use Rattle.mlk_syntax.specs.Trees.{ActionTree, Do, Else, Goto, Halt, Hang, If, Job, Kill, Lock, Merge, New, Quit, Read, Set, Write}
 use Rattle.mlk_syntax.specs.Trees.{CommandTree, Does, CommandTrees, finished, then_command, then_for, HeadTree, LineHead}
 use Rattle.mlk_routine_arguments.specs.declared.word.AddedWord.{AddedWord}
 use Rattle.mlk_routine_arguments.specs.declared.word.AddedWord.TheVariants as added
@@ -53,16 +53,18 @@ opening_timed column condition devices = go (list_any (λ device. device.1) devi
     go true = claims_timed devices
     go false = refl
 
-added_timed : (w : AddedWord) (column at : ℕ) (condition : Option Tree) (a : ActionTree) (s : List ℕ) → AreAdded w at a s → runs_in_any_order dialect.Extended (Does column condition a) ≡ true
-added_timed added.Close column at condition a s (devices, same, list) = ap (λ x. runs_in_any_order dialect.Extended (Does column condition x)) same
-added_timed added.Open column at condition a s (devices, same, list) = ap (λ x. runs_in_any_order dialect.Extended (Does column condition x)) same ∙ opening_timed column condition devices
-added_timed added.Use column at condition a s (devices, same, list) = ap (λ x. runs_in_any_order dialect.Extended (Does column condition x)) same
+added_timed : (w : AddedWord) (may : Bool) (column at : ℕ) (condition : Option Tree) (a : ActionTree) (s : List ℕ) → AreAdded w may at a s → runs_in_any_order dialect.Extended (Does column condition a) ≡ true
+added_timed added.Goto may column at condition a s (yes, (gotos, same, list)) = ap (λ x. runs_in_any_order dialect.Extended (Does column condition x)) same
+added_timed added.Close may column at condition a s (devices, same, list) = ap (λ x. runs_in_any_order dialect.Extended (Does column condition x)) same
+added_timed added.Open may column at condition a s (devices, same, list) = ap (λ x. runs_in_any_order dialect.Extended (Does column condition x)) same ∙ opening_timed column condition devices
+added_timed added.Use may column at condition a s (devices, same, list) = ap (λ x. runs_in_any_order dialect.Extended (Does column condition x)) same
 
 timed_by : (d : Dialect) (may : Bool) (column at : ℕ) (condition : Option Tree) (a : ActionTree) (s : List ℕ) → AreArgumentsOf d may at a s → runs_in_any_order d (Does column condition a) ≡ true
 timed_by d may column at condition (Lock locks) s is = locks_timed d _ locks s is
 timed_by d may column at condition (Read reads) s (after, space, list) = list_holds (IsRead d) (reads_in_any_order d) (read_timed d) reads _ after list
 timed_by d may column at condition (Do calls) s is = refl
 timed_by d may column at condition Else s is = refl
+timed_by d may column at condition (Goto gotos) s is = refl
 timed_by d may column at condition Halt s is = refl
 timed_by d may column at condition (Hang times) s is = refl
 timed_by d may column at condition (If conditions) s is = refl
@@ -77,7 +79,7 @@ timed_by d may column at condition (Write writes) s is = refl
 command_timed : (d : Dialect) (may : Bool) (at : ℕ) (c : CommandTree) (s : List ℕ) → IsCommand d may at c s → runs_in_any_order d c ≡ true
 command_timed d may at (Does column condition a) s (is, conditioned, inl (front, rest, joined, word, (front', rest', joined', cond, more))) = timed_by d may column _ condition a rest' more
 command_timed d may at (Does column condition a) s (is, conditioned, inr (extended, inl (w, (front, rest, joined, word, (front', rest', joined', cond, more))))) =
-    ap (λ x. runs_in_any_order x (Does column condition a)) extended ∙ added_timed w column _ condition a rest' more
+    ap (λ x. runs_in_any_order x (Does column condition a)) extended ∙ added_timed w may column _ condition a rest' more
 command_timed d may at (Does column condition a) s (is, conditioned, inr (extended, inr (inl (front, rest, joined, word, (front', rest', joined', cond, (name, code, text, trap, plain, inl (same, ends))))))) =
     ap (λ x. runs_in_any_order d (Does column condition x)) same
 command_timed d may at (Does column condition a) s (is, conditioned, inr (extended, inr (inl (front, rest, joined, word, (front', rest', joined', cond, (name, code, text, trap, plain, inr (call, same, restarts))))))) =

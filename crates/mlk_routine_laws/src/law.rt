@@ -8,7 +8,7 @@ pub fn routines_spelled()
     ensures { RoutinesSpelled }
 {}
 
-/// In a routine that was read, each line has its own level, QUIT has a value only on lines of level 1 and outside of FORs, no
+/// In a routine that was read, each line has its own level, QUIT has a value, and GOTO is, only on lines of level 1 and outside of FORs, no
 /// formal list has a name twice, and READ is into locals: the premises of the laws on runs about trees.
 pub fn well_formed()
     ensures { WellFormed }

@@ -5,13 +5,13 @@ use Rattle.mlk_names.specs.Lists.{Among}
 use Rattle.mlk_syntax.specs.ExprTrees.{Tree}
 use Rattle.mlk_syntax.specs.Trees.{RoutineTree, CommandTree, Does, ControlTree, CommandTrees, finished}
 use Rattle.mlk_syntax.specs.Trees.{then_command, then_for, HeadTree, LineHead, LineTrees, no_lines, line}
-use Rattle.mlk_syntax.specs.Trees.{ActionTree, Do, Else, Halt, Hang, If, Job, Kill, Lock, Merge, New, Quit, Read, Set, Write}
+use Rattle.mlk_syntax.specs.Trees.{ActionTree, Do, Else, Goto, Halt, Hang, If, Job, Kill, Lock, Merge, New, Quit, Read, Set, Write}
 use Rattle.mlk_syntax.specs.Views.{lines_from}
 use Rattle.mlk_program.specs.declared.entry.EntryId.{EntryId}
 use Rattle.mlk_program.specs.Entries.{as_lines, formals_of, lines_of}
 use Rattle.mlk_cert_parts.specs.declared.case.Case.{Case}
 use Rattle.mlk_machine_jobs.specs.Calling.{commands_in}
-use Rattle.mlk_machine_jobs.specs.Commands.{in_turn, evaluated, do_parts, if_parts, job_parts, kill_parts}
+use Rattle.mlk_machine_jobs.specs.Commands.{in_turn, evaluated, do_parts, goto_parts, if_parts, job_parts, kill_parts}
 use Rattle.mlk_machine_jobs.specs.Commands.{lock_parts, merge_parts, new_parts, read_parts, set_parts, write_parts}
 use Rattle.mlk_machine_jobs.specs.Tasks.{Task, LineTree, RunLines, Parameters, Forever, NextValue, LaterRound}
 use Rattle.mlk_walk_state.specs.States.{at_rest}
@@ -25,7 +25,7 @@ use Rattle.mlk_walk_exprs.specs.declared.walk.Walk.{Walk}
 use Rattle.mlk_walk_commands.specs.Arguments.{set_argument, kill_argument, new_argument, read_argument}
 use Rattle.mlk_walk_commands.specs.Arguments.{merge_argument, write_argument, do_argument, job_argument, if_argument}
 use Rattle.mlk_walk_commands.specs.Locks.{lock_argument}
-use Rattle.mlk_walk_lines.specs.Commands.{turn}
+use Rattle.mlk_walk_lines.specs.Commands.{turn, goto_argument}
 use Rattle.mlk_walk_lines.specs.Endings.{OfBlock}
 use Rattle.mlk_walk_lines.specs.Lines.{block_with, walk_lines}
 use Rattle.mlk_walk_lines.specs.Loops.{commands, at_word}
@@ -134,6 +134,7 @@ come_to row p (x ∷ xs) s u = (t : State) × Among t (turn row p (alone s) x).g
 abbrev pub arguments_from : ActionTree → ℕ → List Task
 arguments_from (Do calls) k = in_turn do_parts (Do calls) k (drop k calls)
 arguments_from Else k = []
+arguments_from (Goto gotos) k = in_turn goto_parts (Goto gotos) k (drop k gotos)
 arguments_from Halt k = []
 arguments_from (Hang times) k = in_turn evaluated (Hang times) k (drop k times)
 arguments_from (If conditions) k = in_turn if_parts (If conditions) k (drop k conditions)
@@ -151,6 +152,7 @@ arguments_from (Write writes) k = in_turn write_parts (Write writes) k (drop k w
 abbrev pub acts_to : Spot → ActionTree → ℕ → State → State → Type 0
 acts_to p (Do calls) k s u = come_to do_argument p (take k calls) s u
 acts_to p Else k s u = ⊥
+acts_to p (Goto gotos) k s u = come_to goto_argument p (take k gotos) s u
 acts_to p Halt k s u = ⊥
 acts_to p (Hang times) k s u = come_to value p (take k times) s u
 acts_to p (If conditions) k s u = come_to if_argument p (take k conditions) s u

@@ -9,7 +9,7 @@ use Rattle.mlk_program.specs.declared.entry.EntryId.{EntryId}
 use Rattle.mlk_syntax.specs.declared.expr.Callee.{Callee}
 use Rattle.mlk_syntax.specs.ExprTrees.{Tree, ActualTree}
 use Rattle.mlk_syntax.specs.Trees.{RoutineTree, Called, HeadTree, LineTrees, Does, SetTree, SetTo}
-use Rattle.mlk_syntax.specs.Trees.{ActionTree, Do, Else, Halt, Hang, If, Job, Kill, Lock, Merge, New, Quit, Read, Set, Write}
+use Rattle.mlk_syntax.specs.Trees.{ActionTree, Do, Else, Goto, Halt, Hang, If, Job, Kill, Lock, Merge, New, Quit, Read, Set, Write}
 use Rattle.mlk_cert_parts.specs.declared.block.EntryCert.{EntryCert}
 use Rattle.mlk_cert_parts.specs.declared.case.Case.{Case}
 use Rattle.mlk_machine_jobs.specs.Calling.{formals_in, lines_after, called}
@@ -49,6 +49,7 @@ use Rattle.mlk_soundness_walk.proofs.Doing.{do_one_fits, job_one_fits}
 use Rattle.mlk_soundness_walk.proofs.Entries as entered
 use Rattle.mlk_soundness_walk.proofs.Entries.{IsWell, do_comes, value_fits}
 use Rattle.mlk_soundness_walk.proofs.Expressions.{CallsFit, evaluate_fits, subs_fit, actuals_fit}
+use Rattle.mlk_soundness_walk.proofs.Jumping.{gotos_fit}
 use Rattle.mlk_soundness_walk.proofs.Inputs.{reads_fit}
 use Rattle.mlk_soundness_walk.proofs.Locks.{lock_fits}
 use Rattle.mlk_soundness_walk.proofs.Merging.{merges_fit}
@@ -125,6 +126,8 @@ module _ (routines : List RoutineTree) (rules : RuleLists) (entries : List (Entr
         turns_fit routines here w b S Q n do_argument (do_keeps here) do_parts in_do ts
         (λ d its more u B m k. do_one_fits routines here w b S Q n evaluate (actuals_fit routines here w b S Q n calls_fit) do_call d its more u B m k) (Do (c ∷ calls)) (c ∷ calls) s mark ours A l go
     act_fits column condition Else may_be locals ours s mark l = else_fits routines here w b world S Q n evaluate ts A go skip s l
+    act_fits column condition (Goto gotos) may_be locals ours s mark l =
+        gotos_fit routines here refl w b S Q n evaluate ts (jump (may_be refl)) A go (Goto gotos) gotos s mark ours l
     act_fits column condition (Hang times) may_be locals ours s mark l =
         turns_fit routines here w b S Q n value (value_keeps here) evaluated in_tree ts (λ t its more u B m k. evaluated_fits routines here w b S Q n evaluate t its [] more u B m k) (Hang times) times s mark ours A l go
     act_fits column condition (If []) may_be locals ours s mark l = if_fits routines here w b world S Q n evaluate ts A go skip s l

@@ -38,3 +38,4 @@ pub mod Starting
 pub mod Listed
 pub mod OneJob
 pub mod Gotos
+pub mod Jumping

@@ -10,13 +10,17 @@ use Rattle.mlk_syntax.specs.declared.command.Part.{Part}
 pub data VariableTree : Type 0 where
   Named : (column : ℕ) → (name : Tree) → VariableTree
 
--- a call by DO or JOB; `None` is no actual list, an empty list is `()`
+-- a call by DO, JOB or GOTO; `None` is no actual list, an empty list is `()`
 pub data CallTree : Type 0 where
   Called : (column : ℕ) → (callee : Callee) → (actuals : Option (List ActualTree)) → CallTree
 
 -- an argument of DO, with its own postconditional
 pub data DoTree : Type 0 where
   DoCall : (call : CallTree) → (condition : Option Tree) → DoTree
+
+-- an argument of GOTO, whose call has no actuals, with its own postconditional
+pub data GotoTree : Type 0 where
+  GoesTo : (call : CallTree) → (condition : Option Tree) → GotoTree
 
 -- an argument of KILL: one variable, or all locals except these
 pub data KillTree : Type 0 where
@@ -61,6 +65,7 @@ pub data WriteTree : Type 0 where
 pub data ActionTree : Type 0 where
   Do : (calls : List DoTree) → ActionTree
   Else : ActionTree
+  Goto : (gotos : List GotoTree) → ActionTree
   Halt : ActionTree
   Hang : (times : List Tree) → ActionTree
   If : (conditions : List Tree) → ActionTree

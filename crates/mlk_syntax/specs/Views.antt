@@ -4,6 +4,7 @@ use Rattle.mlk_syntax.specs.ExprTrees.{tree_of, trees, actual_trees}
 use Rattle.mlk_syntax.specs.declared.command.Variable.{Variable}
 use Rattle.mlk_syntax.specs.declared.command.Call.{Call}
 use Rattle.mlk_syntax.specs.declared.command.DoArgument.{DoArgument}
+use Rattle.mlk_syntax.specs.declared.command.GotoArgument.{GotoArgument}
 use Rattle.mlk_syntax.specs.declared.command.KillArgument.{KillArgument}
 use Rattle.mlk_syntax.specs.declared.command.KillArgument.TheVariants as kill
 use Rattle.mlk_syntax.specs.declared.command.NewArgument.{NewArgument}
@@ -28,11 +29,11 @@ use Rattle.mlk_syntax.specs.declared.command.Commands.TheOpen.{Commands-F, For-F
 use Rattle.mlk_syntax.specs.declared.routine.Line.{Line, fold-Line}
 use Rattle.mlk_syntax.specs.declared.routine.Line.TheOpen.{Line-F}
 use Rattle.mlk_syntax.specs.declared.routine.Routine.{Routine}
-use Rattle.mlk_syntax.specs.Trees.{VariableTree, Named, CallTree, Called, DoTree, DoCall, KillTree, KillOne}
+use Rattle.mlk_syntax.specs.Trees.{VariableTree, Named, CallTree, Called, DoTree, DoCall, GotoTree, GoesTo, KillTree, KillOne}
 use Rattle.mlk_syntax.specs.Trees.{KillAllBut, NewTree, NewOne, NewAllBut, LockTree, LockNames, MergeTree, MergeInto}
 use Rattle.mlk_syntax.specs.Trees.{ReadTree, ReadText, ReadFormat, ReadLine, ReadCharacter, TargetTree, SetWhole}
 use Rattle.mlk_syntax.specs.Trees.{SetPart, SetTree, SetTo, WriteTree, WriteValue, WriteCharacter, WriteFormat}
-use Rattle.mlk_syntax.specs.Trees.{ActionTree, Do, Else, Halt, Hang, If, Job, Kill, Lock, Merge, New, Quit, Read, Set}
+use Rattle.mlk_syntax.specs.Trees.{ActionTree, Do, Else, Goto, Halt, Hang, If, Job, Kill, Lock, Merge, New, Quit, Read, Set}
 use Rattle.mlk_syntax.specs.Trees.{Write, CommandTree, Does, ParameterTree, Once, Endless, Limited, ControlTree, Runs}
 use Rattle.mlk_syntax.specs.Trees.{CommandTrees, finished, then_command, then_for, HeadTree, LineHead, LineTrees}
 use Rattle.mlk_syntax.specs.Trees.{no_lines, line, RoutineTree, Named_routine}
@@ -45,6 +46,9 @@ call_of c = Called c.column c.callee (option_map (λ v. actual_trees v.items) c.
 
 abbrev pub do_of : DoArgument → DoTree
 do_of d = DoCall (call_of d.call) (option_map tree_of d.condition)
+
+abbrev pub goto_of : GotoArgument → GotoTree
+goto_of g = GoesTo (call_of g.call) (option_map tree_of g.condition)
 
 abbrev pub kill_of : KillArgument → KillTree
 kill_of (kill.One v) = KillOne (variable_of v)
@@ -81,6 +85,7 @@ write_of (write.Format tab) = WriteFormat (option_map tree_of tab)
 abbrev pub action_of : Action → ActionTree
 action_of (action.Do v) = Do (map do_of v.items)
 action_of action.Else = Else
+action_of (action.Goto v) = Goto (map goto_of v.items)
 action_of action.Halt = Halt
 action_of (action.Hang v) = Hang (trees v.items)
 action_of (action.If v) = If (trees v.items)

@@ -11,7 +11,7 @@ pub struct Variable {
     pub name: Expr,
 }
 
-/// The label, routine and actuals of a call by DO or JOB, and the column where it begins. `actuals` is `None` if there is no
+/// The label, routine and actuals of a call by DO, JOB or GOTO, and the column where it begins. `actuals` is `None` if there is no
 /// actual list; `()` is an empty one.
 #[derive(Drop)]
 pub struct Call {
@@ -23,6 +23,13 @@ pub struct Call {
 /// An argument of DO, with its own postconditional.
 #[derive(Drop)]
 pub struct DoArgument {
+    pub call: Call,
+    pub condition: Option<Expr>,
+}
+
+/// An argument of GOTO, whose call has no actuals, with its own postconditional.
+#[derive(Drop)]
+pub struct GotoArgument {
     pub call: Call,
     pub condition: Option<Expr>,
 }
@@ -118,6 +125,7 @@ pub enum Action {
     /// without arguments: the block under the line
     Do(Vec<DoArgument>),
     Else,
+    Goto(Vec<GotoArgument>),
     Halt,
     Hang(Vec<Expr>),
     /// without arguments: by `$TEST`

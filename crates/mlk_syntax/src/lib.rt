@@ -8,7 +8,7 @@ mod routine;
 mod several;
 
 pub use command::{
-    Action, Call, Command, Commands, Control, DoArgument, For, KillArgument, LockArgument,
+    Action, Call, Command, Commands, Control, DoArgument, For, GotoArgument, KillArgument, LockArgument,
     MergeArgument, NewArgument, Parameter, Part, ReadArgument, SetArgument, Sign, Target, Variable,
     WriteArgument,
 };

@@ -8,10 +8,10 @@ use Rattle.mlk_syntax.specs.declared.expr.Callee.{Callee}
 use Rattle.mlk_syntax.specs.ExprTrees.{Tree, Lit, Free, LocalName, GlobalName, SpecialName, Prefixed, Chain, PatternText, Func, Selected, BareCall, CallOf}
 use Rattle.mlk_syntax.specs.ExprTrees.{Trees, no_trees, tree, Subs, no_subs, sub, Links, no_links, link, Choices, no_choices, choice}
 use Rattle.mlk_syntax.specs.ExprTrees.{ActualTree, Given, ByRef, Missing, Actuals, no_actuals, actual, actuals_from, count_subs, as_list}
-use Rattle.mlk_syntax.specs.Trees.{VariableTree, CallTree, DoTree, DoCall, KillTree, KillOne, KillAllBut, NewTree, NewOne, NewAllBut}
+use Rattle.mlk_syntax.specs.Trees.{VariableTree, CallTree, DoTree, DoCall, GotoTree, GoesTo, KillTree, KillOne, KillAllBut, NewTree, NewOne, NewAllBut}
 use Rattle.mlk_syntax.specs.Trees.{LockTree, LockNames, MergeTree, MergeInto, ReadTree, ReadText, ReadFormat, ReadLine, ReadCharacter}
 use Rattle.mlk_syntax.specs.Trees.{TargetTree, SetWhole, SetPart, SetTree, SetTo, WriteTree, WriteValue, WriteCharacter, WriteFormat}
-use Rattle.mlk_syntax.specs.Trees.{ActionTree, Do, Else, Halt, Hang, If, Job, Kill, Lock, Merge, New, Quit, Read, Set, Write}
+use Rattle.mlk_syntax.specs.Trees.{ActionTree, Do, Else, Goto, Halt, Hang, If, Job, Kill, Lock, Merge, New, Quit, Read, Set, Write}
 use Rattle.mlk_walk_exprs.specs.declared.walk.Walk.{Walk}
 use Rattle.mlk_walk_exprs.specs.declared.spot.Block.{Block}
 use Rattle.mlk_walk_exprs.specs.declared.reference.Use.{Use}
@@ -29,7 +29,7 @@ use Rattle.mlk_walk_exprs.specs.Expressions.{forget_subs, extrinsic, evaluate, e
 use Rattle.mlk_walk_commands.specs.Variables.{subs_of, name_in, count_in, capture_variable}
 use Rattle.mlk_walk_commands.specs.Locks.{capture_names, known_names, lock_row, is_timed, lock_argument, release}
 use Rattle.mlk_walk_commands.specs.Arguments.{variable_in, arguments_in, capture_target, capture_targets, read_target, read_part, write_variable, assign, assign_all, set_argument, kill_row, kill_argument, new_argument, in_time_or_not, read_row, read_variable, read_argument, merge_from, merge_argument, write_argument, capture_given, given_in, do_row, forget_given, do_argument, job_row, job_argument, if_outcomes, if_argument, forget, count_targets}
-use Rattle.mlk_walk_lines.specs.Commands.{turn, in_turn, if_row, else_row, enters, enter_row, block_ends, some_enter, do_block, halt_row, quit_row, do_calls, if_all, kill_each, lock_each, new_each, act, stay, command}
+use Rattle.mlk_walk_lines.specs.Commands.{turn, in_turn, goto_row, goto_argument, if_row, else_row, enters, enter_row, block_ends, some_enter, do_block, halt_row, quit_row, do_calls, if_all, kill_each, lock_each, new_each, act, stay, command}
 use Rattle.mlk_walk_laws.proofs.Lists.{all_distinct}
 use Rattle.mlk_walk_laws.proofs.Transfers.{Keeps, both, stays, each_keeps, changed_keeps, capture_keeps, unknown_keeps, clean_without, part_with, added_none, added_both}
 use Rattle.mlk_walk_laws.proofs.Counts.{few_keeps, ways_keep}
@@ -199,6 +199,9 @@ do_keeps p (DoCall call condition) =
     both (capture_given p call) (conditioned p condition (each (do_row p call)) (forget_given call)) (actuals_keep p call)
     (conditioned_keeps p condition (each (do_row p call)) (forget_given call) (each_keeps (do_row p call)) (changed_keeps _))
 
+pub goto_keeps : (p : Spot) (g : GotoTree) → Keeps (goto_argument p g)
+goto_keeps p (GoesTo call condition) = conditioned_keeps p condition (each (goto_row p call)) stay (each_keeps (goto_row p call)) stays
+
 pub job_keeps : (p : Spot) (call : CallTree) → Keeps (job_argument p call)
 job_keeps p call = both (capture_given p call) (each (job_row p call)) (actuals_keep p call) (each_keeps (job_row p call))
 
@@ -271,6 +274,7 @@ news_keep p (n ∷ news) = turns_keep new_argument p (new_keeps p) (n ∷ news)
 pub acts_keep : (p : Spot) (a : ActionTree) → Keeps (act p a)
 acts_keep p (Do calls) = calls_keep p calls
 acts_keep p Else = each_keeps else_row
+acts_keep p (Goto gotos) = turns_keep goto_argument p (goto_keeps p) gotos
 acts_keep p Halt = each_keeps (halt_row p)
 acts_keep p (Hang times) = turns_keep value p (value_keeps p) times
 acts_keep p (If conditions) = ifs_keep p conditions

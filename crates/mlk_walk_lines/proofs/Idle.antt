@@ -4,10 +4,10 @@ use Rattle.mlk_syntax.specs.declared.expr.Callee.{Callee}
 use Rattle.mlk_syntax.specs.ExprTrees.{Tree, Lit, Free, LocalName, GlobalName, SpecialName, Prefixed, Chain, PatternText, Func, Selected, BareCall, CallOf}
 use Rattle.mlk_syntax.specs.ExprTrees.{Trees, no_trees, tree, Subs, no_subs, sub, Links, no_links, link, Choices, no_choices, choice}
 use Rattle.mlk_syntax.specs.ExprTrees.{ActualTree, Given, ByRef, Missing, Actuals, no_actuals, actual, actuals_from, count_subs, as_list}
-use Rattle.mlk_syntax.specs.Trees.{VariableTree, CallTree, DoTree, DoCall, KillTree, KillOne, KillAllBut, NewTree, NewOne, NewAllBut}
+use Rattle.mlk_syntax.specs.Trees.{VariableTree, CallTree, DoTree, DoCall, GotoTree, GoesTo, KillTree, KillOne, KillAllBut, NewTree, NewOne, NewAllBut}
 use Rattle.mlk_syntax.specs.Trees.{LockTree, LockNames, MergeTree, MergeInto, ReadTree, ReadText, ReadFormat, ReadLine, ReadCharacter}
 use Rattle.mlk_syntax.specs.Trees.{TargetTree, SetWhole, SetPart, SetTree, SetTo, WriteTree, WriteValue, WriteCharacter, WriteFormat}
-use Rattle.mlk_syntax.specs.Trees.{ActionTree, Do, Else, Halt, Hang, If, Job, Kill, Lock, Merge, New, Quit, Read, Set, Write, CommandTree, Does}
+use Rattle.mlk_syntax.specs.Trees.{ActionTree, Do, Else, Goto, Halt, Hang, If, Job, Kill, Lock, Merge, New, Quit, Read, Set, Write, CommandTree, Does}
 use Rattle.mlk_syntax.specs.Trees.{ParameterTree, Once, Endless, Limited, ControlTree, Runs, CommandTrees, finished, then_command, then_for, HeadTree, LineHead, LineTrees, no_lines, line}
 use Rattle.mlk_syntax.specs.declared.routine.Line.{Line}
 use Rattle.mlk_syntax.specs.declared.routine.Line.TheViews.{out-Line}
@@ -29,7 +29,7 @@ use Rattle.mlk_walk_exprs.specs.Expressions.{by_condition, capture, forget_subs,
 use Rattle.mlk_walk_commands.specs.Variables.{capture_variable, subs_of, name_in, count_in}
 use Rattle.mlk_walk_commands.specs.Locks.{capture_names, known_names, lock_row, is_timed, lock_argument}
 use Rattle.mlk_walk_commands.specs.Arguments.{variable_in, arguments_in, capture_targets, assign, assign_all, forget, count_targets, set_argument, kill_row, kill_argument, new_argument, in_time_or_not, read_row, read_variable, read_argument, merge_from, merge_argument, write_argument, given_in, do_row, forget_given, do_argument, job_row, job_argument, if_argument}
-use Rattle.mlk_walk_lines.specs.Commands.{in_turn, stay, do_block, act}
+use Rattle.mlk_walk_lines.specs.Commands.{in_turn, stay, goto_row, goto_argument, do_block, act}
 use Rattle.mlk_walk_lines.specs.Loops.{Rounds, parameter, parameters, controlled, at_word, one_command, after_rounds, commands}
 use Rattle.mlk_walk_lines.specs.Endings.{LineEnd, Around, number_of, at_end}
 use Rattle.mlk_walk_lines.specs.Lines.{head_walk, with_line}
@@ -180,6 +180,9 @@ do_idle p (DoCall call condition) =
     ap (conditioned p condition (each (do_row p call)) (forget_given call)) (given_idle p (actuals_from (given_in call)))
     ∙ conditioned_idle p condition (each (do_row p call)) (forget_given call) refl refl
 
+goto_idle : (p : Spot) (g : GotoTree) → goto_argument p g idle ≡ idle
+goto_idle p (GoesTo call condition) = conditioned_idle p condition (each (goto_row p call)) stay refl refl
+
 job_idle : (p : Spot) (call : CallTree) → job_argument p call idle ≡ idle
 job_idle p call = ap (each (job_row p call)) (given_idle p (actuals_from (given_in call)))
 
@@ -203,6 +206,7 @@ act_idle : (p : Spot) (a : ActionTree) → act p a idle ≡ idle
 act_idle p (Do []) = block_idle p p.block
 act_idle p (Do (d ∷ calls)) = turns_idle do_argument p (do_idle p) (d ∷ calls)
 act_idle p Else = refl
+act_idle p (Goto gotos) = turns_idle goto_argument p (goto_idle p) gotos
 act_idle p Halt = refl
 act_idle p (Hang times) = turns_idle value p (value_idle p) times
 act_idle p (If []) = refl

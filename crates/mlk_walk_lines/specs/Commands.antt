@@ -1,13 +1,14 @@
 -- The effect of a command other than FOR on states. Standard: the commands, postconditionals.
-use Rattle.std.specs.Prelude.{Bool, true, false, if◌then◌else◌, List, [], ◌∷◌, ◌++◌, map, fold, Option, Some, None}
+use Rattle.std.specs.Prelude.{ℕ, Bool, true, false, if◌then◌else◌, List, [], ◌∷◌, ◌++◌, map, fold, is_some, Option, Some, None}
 use Rattle.std.specs.List.{list_any}
-use Rattle.mlk_text.specs.declared.code.Code.TheVariants.{HeldAtEnd, CaseNotListed, SummaryShort}
+use Rattle.mlk_text.specs.declared.code.Code.TheVariants.{HeldAtEnd, CaseNotListed, FallsIntoFormals, SummaryShort}
 use Rattle.mlk_syntax.specs.ExprTrees.{Tree}
-use Rattle.mlk_syntax.specs.Trees.{ActionTree, Do, Else, Halt, Hang, If, Job, Kill, Lock, Merge, New, Quit, Read, Set, Write}
-use Rattle.mlk_syntax.specs.Trees.{DoTree, KillTree, LockTree, NewTree}
+use Rattle.mlk_syntax.specs.Trees.{ActionTree, Do, Else, Goto, Halt, Hang, If, Job, Kill, Lock, Merge, New, Quit, Read, Set, Write}
+use Rattle.mlk_syntax.specs.Trees.{HeadTree, LineTrees, CallTree, Called, DoTree, GotoTree, GoesTo, KillTree, LockTree, NewTree}
+use Rattle.mlk_program.specs.Entries.{formals_of}
 use Rattle.mlk_cert_parts.specs.declared.case.Case.{Case}
 use Rattle.mlk_walk_state.specs.Cases.{known_test, is_listed, holds_some}
-use Rattle.mlk_walk_state.specs.Scope.{listed}
+use Rattle.mlk_walk_state.specs.Scope.{listed, own_line}
 use Rattle.mlk_walk_state.specs.declared.state.State.{State}
 use Rattle.mlk_walk_state.specs.States.{at_rest}
 use Rattle.mlk_walk_exprs.specs.declared.walk.Walk.{Walk}
@@ -15,9 +16,13 @@ use Rattle.mlk_walk_exprs.specs.declared.spot.Block.{Block}
 use Rattle.mlk_walk_exprs.specs.Walks.{Outcome, Goes, Skips, Quits, Refused, each, few, put_states, with_states}
 use Rattle.mlk_walk_exprs.specs.Spots.{Spot}
 use Rattle.mlk_walk_exprs.specs.Expressions.{value, value_if, conditioned}
+use Rattle.mlk_walk_lines.specs.Endings.{number_of}
 use Rattle.mlk_walk_commands.specs.Locks.{lock_argument, release}
 use Rattle.mlk_walk_commands.specs.Arguments.{set_argument, kill_argument, kill_all_but, new_argument, new_all_but, read_argument}
 use Rattle.mlk_walk_commands.specs.Arguments.{merge_argument, write_argument, do_argument, job_argument, if_argument, if_outcomes}
+
+abbrev pub stay : Walk → Walk
+stay w = w
 
 -- Arguments one after another, each like a command of its own: after each it is checked that there are not too many states.
 abbrev pub turn : {A : Type 0} → (Spot → A → Walk → Walk) → Spot → Walk → A → Walk
@@ -61,6 +66,24 @@ abbrev pub do_block : Spot → Option Block → Walk → Walk
 do_block p None w = w
 do_block p (Some b) w = with_states (block_ends (some_enter p b w) b) (each (enter_row p b) w)
 
+-- GOTO: no case continues at the next command. If the label is that of one of the entry's lines, it is 716 there if the line has a
+-- formal list, and 710 there if the case is not listed at it. If it is that of another line, it is 710 at the label.
+abbrev pub line_row : Spot → HeadTree → State → List Outcome
+line_row p head s =
+    if is_some (formals_of head) then Refused (number_of head) 1 FallsIntoFormals ∷ []
+    else if is_listed (listed p.scope (number_of head) 0) s.case then []
+    else Refused (number_of head) 1 CaseNotListed ∷ []
+
+abbrev pub jump_row : Spot → ℕ → Option (HeadTree × LineTrees) → State → List Outcome
+jump_row p column None s = Refused p.line column CaseNotListed ∷ []
+jump_row p column (Some l) s = line_row p l.0 s
+
+abbrev pub goto_row : Spot → CallTree → State → List Outcome
+goto_row p (Called column callee given) s = jump_row p column (own_line p.scope callee) s
+
+abbrev pub goto_argument : Spot → GotoTree → Walk → Walk
+goto_argument p (GoesTo call condition) w = conditioned p condition (each (goto_row p call)) stay w
+
 -- HALT: 709 if a lock is held; 712 if the summary does not say that all may be released. No case continues.
 abbrev pub halt_row : Spot → State → List Outcome
 halt_row p s =
@@ -97,6 +120,7 @@ new_each p (n ∷ news) w = in_turn new_argument p (n ∷ news) w
 abbrev pub act : Spot → ActionTree → Walk → Walk
 act p (Do calls) w = do_calls p calls w
 act p Else w = each else_row w
+act p (Goto gotos) w = in_turn goto_argument p gotos w
 act p Halt w = each (halt_row p) w
 act p (Hang times) w = in_turn value p times w
 act p (If conditions) w = if_all p conditions w
@@ -109,9 +133,6 @@ act p (Quit t) w = each (quit_row p) (value_if p t w)
 act p (Read reads) w = in_turn read_argument p reads w
 act p (Set sets) w = in_turn set_argument p sets w
 act p (Write writes) w = in_turn write_argument p writes w
-
-abbrev pub stay : Walk → Walk
-stay w = w
 
 -- A command: if its postconditional is false, it does nothing. After it, it is checked that there are not too many states,
 -- those included that its postconditional set aside.

@@ -203,6 +203,7 @@ pub(crate) fn act<'a>(
     match action {
         Action::Do(calls) => do_action(spot, calls, walk),
         Action::Else => apply_to_states(spot.alloc, &ElseTest { alloc: spot.alloc }, walk),
+        Action::Goto(gotos) => walk_arguments(spot, gotos, walk),
         Action::Halt => apply_to_states(spot.alloc, &HaltTransfer { spot }, walk),
         Action::Hang(times) => walk_arguments(spot, times, walk),
         Action::If(conditions) => if_action(spot, conditions, walk),

@@ -2,16 +2,17 @@
 
 ghost use Rattle.std.specs.Prelude.{◌≡◌, OnOk, map};
 ghost use Rattle.mlk_syntax.specs.ExprTrees.{Tree, tree_of};
-ghost use Rattle.mlk_syntax.specs.Trees.{CallTree, DoTree, KillTree, LockTree, MergeTree, NewTree, ReadTree, SetTree, WriteTree};
-ghost use Rattle.mlk_syntax.specs.Views.{do_of, kill_of, lock_of, merge_of, new_of, read_of, set_of, write_of, call_of};
+ghost use Rattle.mlk_syntax.specs.Trees.{CallTree, DoTree, GotoTree, KillTree, LockTree, MergeTree, NewTree, ReadTree, SetTree, WriteTree};
+ghost use Rattle.mlk_syntax.specs.Views.{do_of, goto_of, kill_of, lock_of, merge_of, new_of, read_of, set_of, write_of, call_of};
 ghost use Rattle.mlk_walk_exprs.specs.Spots.{spot_of};
 ghost use Rattle.mlk_walk_exprs.specs.Expressions as expressions;
 ghost use Rattle.mlk_walk_commands.specs.Arguments as row;
 ghost use Rattle.mlk_walk_commands.specs.Locks as locks;
-ghost use Rattle.mlk_walk_lines.specs.Commands.{turn, in_turn};
+ghost use Rattle.mlk_walk_lines.specs.Commands.{turn, in_turn, goto_argument as jumped};
 
+use crate::goto::goto_argument;
 use mlk_syntax::{
-    Call, DoArgument, Expr, KillArgument, LockArgument, MergeArgument, NewArgument, ReadArgument,
+    Call, DoArgument, Expr, GotoArgument, KillArgument, LockArgument, MergeArgument, NewArgument, ReadArgument,
     SetArgument, WriteArgument,
 };
 use mlk_walk_commands::{
@@ -73,6 +74,18 @@ impl Argument for DoArgument {
 
     fn make<'a>(&'a self, spot: &'a Spot<'a>, walk: &mut Walk) -> Result<(), AllocError> {
         do_argument(spot, self, walk)
+    }
+}
+
+impl Argument for GotoArgument {
+    ghost Shape = { GotoTree };
+
+    ghost tree = { goto_of };
+
+    ghost made = { jumped };
+
+    fn make<'a>(&'a self, spot: &'a Spot<'a>, walk: &mut Walk) -> Result<(), AllocError> {
+        goto_argument(spot, self, walk)
     }
 }
 

@@ -16,8 +16,12 @@ use mlk_text::List;
 use mlk_walk_exprs::{Spot, Walk, value, where_it_holds};
 use std::alloc::{AllocError, Global};
 
-// Adds the states `aside` that a postconditional set aside, unless the walk of the line is over.
-fn with_aside(alloc: Global, aside: List<State>, walk: &mut Walk) -> Result<(), AllocError>
+/// Adds the states `aside` that a postconditional set aside, unless the walk of the line is over.
+pub(crate) fn with_aside(
+    alloc: Global,
+    aside: List<State>,
+    walk: &mut Walk,
+) -> Result<(), AllocError>
     ensures { OnOk result (walk.new
         ≡ (if walk.old.over then walk.old else joined walk.old.going (with_states aside walk.old))) }
 {

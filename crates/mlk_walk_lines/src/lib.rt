@@ -8,6 +8,7 @@ mod conditioned;
 mod control;
 mod ending;
 mod found;
+mod goto;
 mod level;
 mod line_end;
 mod rounds;
