@@ -1,10 +1,10 @@
-// The lines that declared entries reach: by calls, and by running on from line to line, up to one that surely ends.
+// The lines that declared entries reach: by calls, by GOTO, and by running on from line to line, up to one that surely ends.
 
 use crate::marks::{Mark, Marks};
 use mlk_program::{EntryId, Program};
 use mlk_rules::{Rules, entries};
 use mlk_survey_trees::{Mention, mentions_in};
-use mlk_syntax::{Action, Command, Line};
+use mlk_syntax::{Action, Command, GotoArgument, Line};
 use mlk_text::push_sparing;
 use std::alloc::{AllocError, Global};
 
@@ -13,9 +13,21 @@ fn may_skip(command: &Command) -> bool {
     matches!(command.action, Action::If(_) | Action::Else)
 }
 
-// Whether a command is a QUIT or HALT without a condition.
+// Whether an argument of `gotos` has no condition.
+fn has_sure_jump(gotos: &[GotoArgument]) -> bool {
+    gotos.iter().any(|argument| argument.condition.is_none())
+}
+
+// Whether a command is a QUIT, a HALT or a GOTO without a condition.
 fn is_end(command: &Command) -> bool {
-    command.condition.is_none() && matches!(command.action, Action::Quit(_) | Action::Halt)
+    if command.condition.is_some() {
+        return false;
+    }
+    match &command.action {
+        Action::Quit(_) | Action::Halt => true,
+        Action::Goto(gotos) => has_sure_jump(gotos.as_slice()),
+        _ => false,
+    }
 }
 
 // Whether the next line is never run after this one: a command before any FOR ends the entry, and none before it may skip it.
@@ -54,7 +66,7 @@ impl<'p, 'a> Search<'p, 'a> {
         }
     }
 
-    // Awaits the entries that a line of the routine at `place` calls, and those at which it begins jobs.
+    // Awaits the entries that a line of the routine at `place` calls or jumps to, and those at which it begins jobs.
     fn wait_for_callees(&mut self, place: EntryId, line: &'p Line) -> Result<(), AllocError> {
         for at in mentions_in(self.alloc, b"", line)? {
             if let Mention::Call(_, callee) = at.mention {

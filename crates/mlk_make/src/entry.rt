@@ -9,6 +9,7 @@ use mlk_calls::in_order;
 use mlk_cert::{Case, NameSet, Own, Shared, Test};
 use mlk_make_drafts::{At, Draft};
 use mlk_program::EntryId;
+use mlk_syntax::Line;
 use mlk_text::{Code, Column, Failure, Name};
 use mlk_walk_exprs::Fault;
 use mlk_walk_lines::Around;
@@ -57,19 +58,31 @@ fn begin(ground: &Ground<'_>, maker: &mut Maker, draft: &mut Draft) -> Result<()
     Ok(())
 }
 
+// Walks an entry's lines until their lists no longer grow: a GOTO may bring a case to an earlier line.
+fn settle(ground: &Ground<'_>, maker: &mut Maker, draft: &mut Draft) -> Result<(), Failure<Stop>> {
+    let lines = ground.program.lines_of(draft.entry);
+    let around = Around::Frame(ground.program.line_after(draft.entry));
+    let mut is_fresh = true;
+    for _ in 0..MOST_WALKS {
+        settle_lines(lines, around, ground, maker, draft, is_fresh)?;
+        if !has_new(draft, lines) {
+            return Ok(());
+        }
+        is_fresh = false;
+    }
+    Ok(())
+}
+
+// Whether one of `lines` has a case that was not walked yet.
+fn has_new(draft: &Draft, lines: &[Line]) -> bool {
+    lines.iter().any(|line| draft.lists.has_new(line.number))
+}
+
 // Walks an entry's lines, and returns whether they have to be walked again, since the entry calls itself and its summary has changed.
 fn sweep(ground: &Ground<'_>, maker: &mut Maker, draft: &mut Draft) -> Result<bool, Failure<Stop>> {
     begin(ground, maker, draft)?;
     let before = draft.changed;
-    let around = Around::Frame(ground.program.line_after(draft.entry));
-    settle_lines(
-        ground.program.lines_of(draft.entry),
-        around,
-        ground,
-        maker,
-        draft,
-        true,
-    )?;
+    settle(ground, maker, draft)?;
     Ok(draft.changed != before && draft.callees.contains(&draft.entry))
 }
 

@@ -168,7 +168,7 @@ fn begin_of(line: &Line) -> Fault {
 }
 
 /// Walks the lines of one level and their blocks until their lists no longer grow, and returns whether the cases change in which
-/// their block may end. A case comes to a line only from the lines before it, so the first line without a case ends the walk.
+/// their block may end. A line without a case is walked if a later GOTO brings one to it.
 #[cycle(settle)]
 pub(crate) fn settle_lines<'a>(
     lines: &'a [Line],
@@ -182,8 +182,11 @@ pub(crate) fn settle_lines<'a>(
     let mut later = lines;
     for line in lines {
         later = without_first(later);
-        if !draft.lists.has_some(line.number) {
+        if draft.lists.is_past(line.number) {
             return Ok(changes);
+        }
+        if !draft.lists.has_some(line.number) {
+            continue;
         }
         let surroundings = Surroundings {
             around,

@@ -48,23 +48,39 @@ pub(crate) struct Walked {
     pub(crate) ends: Vec<Case>,
 }
 
-// Adds the columns of the calls by which a command begins jobs.
-fn add_begun(columns: &mut BTreeSet<Column>, command: &Command) -> Result<(), AllocError> {
-    if let Action::Job(calls) = &command.action {
-        for call in calls {
-            columns.insert(call.column)?;
-        }
-    }
-    Ok(())
+// The columns of what is like a call in a line: where it begins a job, and where it jumps.
+#[derive(Drop)]
+struct LikeCalls {
+    begun: BTreeSet<Column>,
+    jumps: BTreeSet<Column>,
 }
 
-fn add_all_begun(columns: &mut BTreeSet<Column>, commands: &Commands) -> Result<(), AllocError> {
-    for command in commands.before.as_slice() {
-        add_begun(columns, command)?;
+impl LikeCalls {
+    fn add(&mut self, command: &Command) -> Result<(), AllocError> {
+        match &command.action {
+            Action::Job(calls) => {
+                for call in calls {
+                    self.begun.insert(call.column)?;
+                }
+            }
+            Action::Goto(gotos) => {
+                for argument in gotos {
+                    self.jumps.insert(argument.call.column)?;
+                }
+            }
+            _ => {}
+        }
+        Ok(())
     }
-    match &commands.last {
-        None => Ok(()),
-        Some(last) => add_all_begun(columns, &last.rest),
+
+    fn add_all(&mut self, commands: &Commands) -> Result<(), AllocError> {
+        for command in commands.before.as_slice() {
+            self.add(command)?;
+        }
+        match &commands.last {
+            None => Ok(()),
+            Some(last) => self.add_all(&last.rest),
+        }
     }
 }
 
@@ -74,15 +90,21 @@ pub(crate) fn targets_of(
     routine: usize,
     line: &Line,
 ) -> Result<Vec<CalledEntry>, AllocError> {
-    let mut begun = BTreeSet::new(ground.alloc);
-    add_all_begun(&mut begun, &line.commands)?;
+    let mut like_calls = LikeCalls {
+        begun: BTreeSet::new(ground.alloc),
+        jumps: BTreeSet::new(ground.alloc),
+    };
+    like_calls.add_all(&line.commands)?;
     let mut targets = Vec::new(ground.alloc);
     for call in calls_of(ground.alloc, &line.commands)? {
+        if like_calls.jumps.contains(&call.column) {
+            continue;
+        }
         if let Some(entry) = ground.program.target(routine, call.callee) {
             targets.push(CalledEntry {
                 column: call.column,
                 entry,
-                begins: begun.contains(&call.column),
+                begins: like_calls.begun.contains(&call.column),
             })?;
         }
     }

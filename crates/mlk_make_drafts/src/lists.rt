@@ -153,6 +153,14 @@ impl Lists {
         !self.cases(At { line, round: 0 }).is_empty()
     }
 
+    /// Whether neither a line nor one after it has a case.
+    pub fn is_past(&self, line: LineNumber) -> bool {
+        match self.place_of(line) {
+            Some(place) => place >= self.lines.len(),
+            None => false,
+        }
+    }
+
     /// Whether a line has a case that was not walked yet.
     pub fn has_new(&self, line: LineNumber) -> bool {
         match self.line(line) {

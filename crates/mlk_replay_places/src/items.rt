@@ -3,7 +3,7 @@
 use crate::scan::{find_outside, rest_at};
 use crate::steps::Steps;
 use mlk_syntax::{
-    Action, Actual, Call, Command, DoArgument, Expr, KillArgument, LockArgument, MergeArgument,
+    Action, Actual, Call, Command, DoArgument, Expr, GotoArgument, KillArgument, LockArgument, MergeArgument,
     NewArgument, Parameter, ReadArgument, SetArgument, Subscript, Target, Variable, WriteArgument,
 };
 use mlk_text::lexeme::letters;
@@ -169,6 +169,16 @@ impl HasItems for KillArgument {
     }
 }
 
+impl HasItems for GotoArgument {
+    fn add_to<'a>(&'a self, items: &mut Items<'a, '_>, at: usize) -> Result<(), AllocError> {
+        if let Some(condition) = &self.condition {
+            let start = items.after(index_of(self.call.column), b':');
+            items.add_value(condition, start)?;
+        }
+        items.add_steps(2, index_of(self.call.column))
+    }
+}
+
 impl HasItems for NewArgument {
     fn add_to<'a>(&'a self, items: &mut Items<'a, '_>, at: usize) -> Result<(), AllocError> {
         items.add_steps(1, at)
@@ -331,6 +341,7 @@ fn add_action<'a>(
     match action {
         Action::Do(calls) => add_calls(items, calls.as_slice(), has_block, at),
         Action::Else | Action::Halt | Action::Quit(None) => items.add_steps(1, at),
+        Action::Goto(gotos) => add_each(items, gotos.as_slice(), at),
         Action::Hang(times) => add_each(items, times.as_slice(), at),
         Action::If(conditions) => add_conditions(items, conditions.as_slice(), at),
         Action::Job(calls) => add_each(items, calls.as_slice(), at),

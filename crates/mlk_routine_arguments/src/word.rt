@@ -190,7 +190,7 @@ fn in_upper_case(alloc: Global, word: &[u8]) -> Result<Value, AllocError> {
 
 /// The refusal of GOTO at `at`, where it is not read.
 pub fn no_goto(alloc: Global, at: usize) -> Failure<Fault>
-    ensures fault { (line : List ℕ) → at ≤ length line → IsFaulty line result }
+    ensures { (line : List ℕ) → at ≤ length line → IsFaulty line result }
 {
     match in_upper_case(alloc, b"GOTO") {
         Ok(shown) => no_command(alloc, shown, at),

@@ -12,7 +12,7 @@ use std::alloc::{AllocError, Global};
 /// The maximum number of steps that are walked from one label.
 const MOST_STEPS: usize = 10_000;
 
-/// The maximum number of times that paths branch at one step, in the walk from one label.
+/// The maximum number of times that paths branch at one step, or take one GOTO, in the walk from one label.
 const MOST_BRANCHES: usize = 16;
 
 /// The maximum number of calls and blocks that a path is in.
@@ -70,7 +70,7 @@ impl<'w, 'a> Walk<'w, 'a> {
         })
     }
 
-    // Counts a branch at the step `at`, and returns whether it is followed.
+    // Counts a branch or a GOTO at the step `at`, and returns whether it is followed.
     fn may_branch(&mut self, at: usize) -> Result<bool, AllocError> {
         let Some(count) = self.branches.get_mut(at) else {
             return Ok(false);
@@ -145,6 +145,12 @@ impl<'w, 'a> Walk<'w, 'a> {
     fn jump(&mut self, path: &mut Path<'a>, jump: Jump) -> Result<Fate, AllocError> {
         match jump {
             Jump::Always(mark) => path.at = self.code.address(mark),
+            Jump::Goto(mark) => {
+                if !self.may_branch(path.at)? {
+                    return Ok(Fate::Ends);
+                }
+                path.at = self.code.address(mark);
+            }
             Jump::Branch(condition, mark) => {
                 path.discard(1);
                 let tests = Tests::after(condition, path.test);

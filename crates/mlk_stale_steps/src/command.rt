@@ -5,7 +5,7 @@ use crate::step::{Amount, Call, CallKind, Change, Condition, Jump, Mark, StackSt
 use crate::writer::Writer;
 use mlk_names::Extent;
 use mlk_syntax::{
-    Action, Actual, Command, DoArgument, Expr, KillArgument, LockArgument, MergeArgument,
+    Action, Actual, Command, DoArgument, Expr, GotoArgument, KillArgument, LockArgument, MergeArgument,
     NewArgument, ReadArgument, SetArgument, Subscript, Target, Variable, WriteArgument,
 };
 use mlk_text::{Name, push_sparing};
@@ -107,6 +107,45 @@ fn add_dos<'a>(
         ),
         _ => Ok(()),
     }
+}
+
+// Adds a jump to the label of `argument`. A path ends at a label that the program does not have.
+fn add_jump<'a>(
+    writer: &mut Writer<'_, 'a>,
+    argument: &'a GotoArgument,
+) -> Result<(), AllocError> {
+    let target = writer
+        .program
+        .target(writer.routine, &argument.call.callee);
+    match target.and_then(|entry| writer.lines.of(entry)) {
+        Some(mark) => writer.push_jump(Jump::Goto(mark)),
+        None => push_sparing(&mut writer.steps, Step::Halt),
+    }
+}
+
+fn add_goto<'a>(
+    writer: &mut Writer<'_, 'a>,
+    argument: &'a GotoArgument,
+) -> Result<(), AllocError> {
+    let Some(condition) = &argument.condition else {
+        return add_jump(writer, argument);
+    };
+    let over = writer.make_mark()?;
+    add_expr(writer, condition)?;
+    writer.push_jump(Jump::Branch(Condition::of(condition), over))?;
+    add_jump(writer, argument)?;
+    writer.place(over);
+    Ok(())
+}
+
+fn add_gotos<'a>(
+    writer: &mut Writer<'_, 'a>,
+    arguments: &'a [GotoArgument],
+) -> Result<(), AllocError> {
+    for argument in arguments {
+        add_goto(writer, argument)?;
+    }
+    Ok(())
 }
 
 fn add_ifs<'a>(
@@ -368,6 +407,7 @@ fn add_action<'a>(
     match action {
         Action::Do(arguments) => add_dos(writer, scope, arguments),
         Action::Else => writer.push_jump(Jump::OnTest(false, scope.skip)),
+        Action::Goto(arguments) => add_gotos(writer, arguments),
         Action::Halt => push_sparing(&mut writer.steps, Step::Halt),
         Action::Hang(values) => {
             add_exprs(writer, values)?;

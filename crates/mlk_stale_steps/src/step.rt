@@ -141,6 +141,8 @@ pub enum Change<'a> {
 #[derive(Clone, Copy, Drop)]
 pub enum Jump {
     Always(Mark),
+    /// GOTO: jumps to a line
+    Goto(Mark),
     /// pops a condition, and jumps if it does not hold
     Branch(Condition, Mark),
     /// pops a condition, sets `$TEST` to it, and jumps if it does not hold

@@ -6,7 +6,7 @@ use mlk_syntax::{Action, Actual, Callee, Commands, Line};
 use mlk_text::{Column, push_sparing};
 use std::alloc::{AllocError, Global};
 
-/// How a label is called.
+/// How a label is called. GOTO is like DO.
 #[derive(Clone, Copy, Drop, PartialEq, Eq)]
 pub(crate) enum CallKind {
     Do,
@@ -41,7 +41,7 @@ impl<'a> Call<'a> {
     }
 }
 
-// The columns of the calls by DO and by JOB in a line. All other calls of the line are extrinsic.
+// The columns of the calls by DO and GOTO and by JOB in a line. All other calls of the line are extrinsic.
 #[derive(Drop)]
 struct CommandCalls {
     dos: Vec<Column>,
@@ -53,6 +53,11 @@ impl CommandCalls {
     fn add_action(&mut self, action: &Action) -> Result<(), AllocError> {
         match action {
             Action::Do(arguments) => {
+                for argument in arguments {
+                    push_sparing(&mut self.dos, argument.call.column)?;
+                }
+            }
+            Action::Goto(arguments) => {
                 for argument in arguments {
                     push_sparing(&mut self.dos, argument.call.column)?;
                 }

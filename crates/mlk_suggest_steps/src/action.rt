@@ -6,7 +6,7 @@ use crate::expr::{add_actuals, add_expr, add_exprs, add_subscripts};
 use crate::step::{CallKind, Rounds, Step};
 use mlk_names::{Access, Extent};
 use mlk_syntax::{
-    Action, Call, Command, Control, DoArgument, Expr, KillArgument, LockArgument, MergeArgument,
+    Action, Call, Command, Control, DoArgument, Expr, GotoArgument, KillArgument, LockArgument, MergeArgument,
     NewArgument, Parameter, ReadArgument, SetArgument, Subscript, Target, Variable, WriteArgument,
 };
 use mlk_text::Column;
@@ -83,6 +83,33 @@ fn add_dos<'a>(
     }
     for argument in arguments {
         add_do(draft, argument)?;
+    }
+    Ok(())
+}
+
+// Adds a GOTO: the lines from the label on are done, and then the unit returns.
+fn add_jump<'a>(draft: &mut Draft<'a>, call: &'a Call) -> Result<(), AllocError> {
+    add_call(draft, call, CallKind::Next)?;
+    draft.push(Step::Quit)
+}
+
+fn add_goto<'a>(draft: &mut Draft<'a>, argument: &'a GotoArgument) -> Result<(), AllocError> {
+    match &argument.condition {
+        None => add_jump(draft, &argument.call),
+        Some(condition) => {
+            begin_condition(draft, condition)?;
+            add_jump(draft, &argument.call)?;
+            end_condition(draft)
+        }
+    }
+}
+
+fn add_gotos<'a>(
+    draft: &mut Draft<'a>,
+    arguments: &'a [GotoArgument],
+) -> Result<(), AllocError> {
+    for argument in arguments {
+        add_goto(draft, argument)?;
     }
     Ok(())
 }
@@ -246,6 +273,7 @@ fn add_action<'a>(draft: &mut Draft<'a>, command: &'a Command) -> Result<(), All
     match &command.action {
         Action::Do(arguments) => add_dos(draft, command.column, arguments),
         Action::Else => draft.push(Step::OnTest(false)),
+        Action::Goto(arguments) => add_gotos(draft, arguments),
         Action::Halt => draft.push(Step::Halt),
         Action::Hang(values) => add_exprs(draft, values),
         Action::If(conditions) => add_ifs(draft, conditions),

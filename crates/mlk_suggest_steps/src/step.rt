@@ -66,7 +66,7 @@ pub enum CallKind {
     Block,
     /// JOB
     Job,
-    /// the lines before it continue into it
+    /// the lines before it continue into it, or GOTO goes to it
     Next,
 }
 

@@ -5,7 +5,7 @@ use crate::lock_name::subscripts_of;
 use crate::mention::{Mention, Touch, Usage};
 use mlk_names::Extent;
 use mlk_syntax::{
-    Action, Actual, Call, Command, Commands, Control, DoArgument, Expr, KillArgument, LockArgument,
+    Action, Actual, Call, Command, Commands, Control, DoArgument, Expr, GotoArgument, KillArgument, LockArgument,
     MergeArgument, Parameter, ReadArgument, SetArgument, Several, Target, Variable, WriteArgument,
 };
 use mlk_text::push_sparing;
@@ -136,6 +136,13 @@ impl HasMentions for DoArgument {
     }
 }
 
+impl HasMentions for GotoArgument {
+    fn find<'a>(&'a self, found: &mut Vec<Mention<'a>>) -> Result<(), AllocError> {
+        self.call.find(found)?;
+        self.condition.find(found)
+    }
+}
+
 impl HasMentions for KillArgument {
     fn find<'a>(&'a self, found: &mut Vec<Mention<'a>>) -> Result<(), AllocError> {
         match self {
@@ -232,6 +239,7 @@ impl HasMentions for Action {
         match self {
             Action::Do(calls) => calls.find(found),
             Action::Else | Action::Halt | Action::New(_) => Ok(()),
+            Action::Goto(gotos) => gotos.find(found),
             Action::Hang(values) | Action::If(values) => values.find(found),
             Action::Job(calls) => in_jobs(found, calls),
             Action::Kill(kills) => kills.find(found),

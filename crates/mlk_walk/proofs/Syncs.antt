@@ -15,6 +15,7 @@ use Rattle.mlk_syntax.specs.contracts.expr.Actual as Actual
 use Rattle.mlk_syntax.specs.contracts.command.Variable as Variable
 use Rattle.mlk_syntax.specs.contracts.command.Call as Call
 use Rattle.mlk_syntax.specs.contracts.command.DoArgument as DoArgument
+use Rattle.mlk_syntax.specs.contracts.command.GotoArgument as GotoArgument
 use Rattle.mlk_syntax.specs.contracts.command.KillArgument as KillArgument
 use Rattle.mlk_syntax.specs.contracts.command.NewArgument as NewArgument
 use Rattle.mlk_syntax.specs.contracts.command.LockArgument as LockArgument
@@ -74,6 +75,9 @@ call = recorded_sync (Call.the_field).row _ _ (Call.the_type).to_one call_field
 do_argument : IsSync DoArgument.the_row
 do_argument = recorded_sync (DoArgument.the_field).row _ _ (DoArgument.the_type).to_one (struct_sync (structs.shape DoArgument.the_type) (call_field, (search with_exprs depth 60 fits 20000, tt)))
 
+goto_argument : IsSync GotoArgument.the_row
+goto_argument = recorded_sync (GotoArgument.the_field).row _ _ (GotoArgument.the_type).to_one (struct_sync (structs.shape GotoArgument.the_type) (call_field, (search with_exprs depth 60 fits 20000, tt)))
+
 kill_argument : IsSync KillArgument.the_row
 kill_argument = recorded_sync (KillArgument.the_field).row _ _ (KillArgument.the_type).to_one (enum_sync (enums.shape KillArgument.the_type) ((variable_field, tt), ((search crossing depth 60 fits 20000, tt), tt)))
 
@@ -99,7 +103,7 @@ write_argument : IsSync WriteArgument.the_row
 write_argument = recorded_sync (WriteArgument.the_field).row _ _ (WriteArgument.the_type).to_one (enum_sync (enums.shape WriteArgument.the_type) ((search with_exprs depth 60 fits 20000, tt), ((search with_exprs depth 60 fits 20000, tt), ((search with_exprs depth 60 fits 20000, tt), tt))))
 
 action_field : IsSync (Action.the_field).row
-action_field = enum_sync (enums.shape Action.the_type) ((search (crossing, do_argument) depth 60 fits 20000, tt), (tt, (tt, ((search with_exprs depth 60 fits 20000, tt), ((search with_exprs depth 60 fits 20000, tt), ((search (crossing, call) depth 60 fits 20000, tt), ((search (crossing, kill_argument) depth 60 fits 20000, tt), ((search (crossing, lock_argument) depth 60 fits 20000, tt), ((search (crossing, merge_argument) depth 60 fits 20000, tt), ((search (crossing, new_argument) depth 60 fits 20000, tt), ((search with_exprs depth 60 fits 20000, tt), ((search (crossing, read_argument) depth 60 fits 20000, tt), ((search (crossing, set_argument) depth 60 fits 20000, tt), ((search (crossing, write_argument) depth 60 fits 20000, tt), tt))))))))))))))
+action_field = enum_sync (enums.shape Action.the_type) ((search (crossing, do_argument) depth 60 fits 20000, tt), (tt, ((search (crossing, goto_argument) depth 60 fits 20000, tt), (tt, ((search with_exprs depth 60 fits 20000, tt), ((search with_exprs depth 60 fits 20000, tt), ((search (crossing, call) depth 60 fits 20000, tt), ((search (crossing, kill_argument) depth 60 fits 20000, tt), ((search (crossing, lock_argument) depth 60 fits 20000, tt), ((search (crossing, merge_argument) depth 60 fits 20000, tt), ((search (crossing, new_argument) depth 60 fits 20000, tt), ((search with_exprs depth 60 fits 20000, tt), ((search (crossing, read_argument) depth 60 fits 20000, tt), ((search (crossing, set_argument) depth 60 fits 20000, tt), ((search (crossing, write_argument) depth 60 fits 20000, tt), tt)))))))))))))))
 
 action : IsSync Action.the_row
 action = recorded_sync (Action.the_field).row _ _ (Action.the_type).to_one action_field
