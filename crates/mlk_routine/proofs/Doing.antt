@@ -202,9 +202,13 @@ misplaced_tail (word.Added added.Use) d returns line at bad = cc bad
 misplaced_tail w d returns line at bad = cc bad
 
 -- the action of GOTO
-pub goto_turned : (returns : Bool) (line : List ℕ) (at : ℕ) → returns ≡ true → Turned line at (AreSome IsGoto) (λ gotos. StopEnds true) (AreGotos returns) ActionEnds Goto
-goto_turned returns line at may = record {
-  into = λ gotos s is. (may, (gotos, refl, is));
+well_placed : (returns : Bool) → is_misplaced (word.Added added.Goto) returns ≡ false → returns ≡ true
+well_placed true h = refl
+well_placed false h = cc h
+
+pub goto_turned : (returns : Bool) (line : List ℕ) (at : ℕ) → is_misplaced (word.Added added.Goto) returns ≡ false → Turned line at (AreSome IsGoto) (λ gotos. StopEnds true) (AreGotos returns) ActionEnds Goto
+goto_turned returns line at placed = record {
+  into = λ gotos s is. (well_placed returns placed, (gotos, refl, is));
   ends = λ gotos rest e. e;
   apart = λ a u rest h (may, (gotos, same, list)) e. (gotos, same, list, subst (λ b. StopEnds b rest) (ap has_arguments same) e);
 }

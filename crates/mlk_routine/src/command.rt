@@ -1,6 +1,6 @@
 // Commands other than FOR: postconditionals and arguments.
 
-ghost use Rattle.std.specs.Prelude.{◌≡◌, ◌≤◌, ℕ, List, [], IfOk, length, map, option_map, Some, true};
+ghost use Rattle.std.specs.Prelude.{◌≡◌, ◌≤◌, ℕ, List, [], IfOk, length, map, option_map, Some, true, false};
 ghost use Rattle.std.specs.List.{list_any};
 ghost use Rattle.mlk_syntax.specs.ExprTrees.{tree_of, trees};
 ghost use Rattle.mlk_routine_arguments.specs.PartsRead.{ReadsPart};
@@ -8,6 +8,7 @@ ghost use Rattle.mlk_routine_arguments.specs.Faults.{IsFaulty};
 ghost use Rattle.mlk_routine_arguments.specs.Ends.{StopEnds, CommandEnd};
 ghost use Rattle.mlk_syntax.specs.declared.command.Sign.TheVariants as sign;
 ghost use Rattle.mlk_routine_arguments.specs.declared.word.Word.TheVariants as words;
+ghost use Rattle.mlk_routine_arguments.specs.declared.word.AddedWord.TheVariants as added;
 ghost use Rattle.mlk_syntax.specs.Views.{action_of, command_of, goto_of, lock_of, new_of};
 ghost use Rattle.mlk_routine_arguments.specs.CommandGrammar.{After, IsValue, IsQuit, IsCommand, naming, opening, newing, locals_of, AreDevices, AreGotos, AreAdded};
 ghost use Rattle.mlk_routine_arguments.specs.Kinds.{IsConditionOf, ConditionEnds, IsActionOf, ActionEnds, IsNothing, halting, device_of, newed_of, is_misplaced};
@@ -264,7 +265,7 @@ fn goto_action(
     at: usize,
 ) -> Result<(Action, usize), Failure<Fault>>
     requires within { at ≤ length line.now }
-    requires place { manner.returns ≡ true }
+    requires place { is_misplaced (words.Added added.Goto) manner.returns ≡ false }
     ensures { ReadsPart action_of (AreGotos manner.returns) ActionEnds line.now at result }
 {
     let (gotos, next) = required_arguments(alloc, manner.dialect, line, at)?;
