@@ -28,7 +28,7 @@ use Rattle.mlk_cert_parts.specs.Limits.{AreTerms, IsNameSet, AreMods, IsOwn, Are
 use Rattle.mlk_cert_parts.specs.Limits.{names_below, own_below, cases_below, exits_below, points_below}
 use Rattle.mlk_machine_jobs.specs.Calling.{formals_in}
 use Rattle.mlk_machine_jobs.specs.Tasks.{LineTree}
-use Rattle.mlk_machine_laws.specs.WellFormed.{answers, AnswersAtEnd, IsAtLevel, AreLeveled, reads_locals, ReadsLocals, HeadReadsLocals, LinesReadLocals, lines_of_routine, IsWellFormed}
+use Rattle.mlk_machine_laws.specs.WellFormed.{is_outer, OuterWhere, IsAtLevel, AreLeveled, reads_locals, ReadsLocals, HeadReadsLocals, LinesReadLocals, lines_of_routine, IsWellFormed}
 use Rattle.mlk_machine_laws.specs.WellFormed.{AreFormed}
 
 -- each item has the property if the test passes for all
@@ -291,13 +291,13 @@ formals_differ l = are_distinct (formals_in l.0)
 -- QUIT with a value, where it is allowed
 abbrev answers_at_end : Bool → CommandTrees → Bool
 answers_at_end may finished = true
-answers_at_end may (then_command c rest) = (not (answers c) || may) && answers_at_end may rest
+answers_at_end may (then_command c rest) = (not (is_outer c) || may) && answers_at_end may rest
 answers_at_end may (then_for column index control rest) = answers_at_end false rest
 
-answers_by : (may : Bool) (cs : CommandTrees) → answers_at_end may cs ≡ true → AnswersAtEnd may cs
+answers_by : (may : Bool) (cs : CommandTrees) → answers_at_end may cs ≡ true → OuterWhere may cs
 answers_by may finished e = tt
 answers_by may (then_command c rest) e =
-    let p = and_parts (not (answers c) || may) (answers_at_end may rest) e in
+    let p = and_parts (not (is_outer c) || may) (answers_at_end may rest) e in
     ((λ is. let z : (not true || may) ≡ true = subst (λ b. (not b || may) ≡ true) is p.0 in z), answers_by may rest p.1)
 answers_by may (then_for column index control rest) e = answers_by false rest e
 

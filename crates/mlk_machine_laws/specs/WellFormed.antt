@@ -1,7 +1,7 @@
 -- Properties of each tree that a text spells, on which the laws of jobs' runs depend: a QUIT with a value occurs only where it
--- ends a call, and GOTO only there, each line has the level that it is listed at, no formal list contains a name twice, and READ is into locals.
--- Restates ISO/IEC 11756: QUIT, block, formallist, READ; that no QUIT with a value and no GOTO occurs in a block or in a FOR, and
--- that READ is into no global, is this project's own choice.
+-- ends a call, and GOTO only there, each line has the level that it is listed at, no formal list contains a name twice, and READ
+-- is into locals. Restates ISO/IEC 11756: QUIT, block, formallist, READ; that no QUIT with a value and no GOTO occurs in a block or
+-- in a FOR, and that READ is into no global, is this project's own choice.
 use Rattle.std.specs.Prelude.{◌≡◌, ℕ, suc, Bool, true, false, List, Some, Contains}
 use Rattle.std.specs.List.{list_all}
 use Rattle.mlk_syntax.specs.Distinct.{AreDistinct}
@@ -13,20 +13,20 @@ use Rattle.mlk_program.specs.Entries.{lines_in}
 use Rattle.mlk_machine_jobs.specs.Tasks.{LineTree}
 use Rattle.mlk_machine_jobs.specs.Calling.{formals_in}
 
--- QUIT with a value, and GOTO
-abbrev pub answers : CommandTree → Bool
-answers (Does column condition (Quit (Some t))) = true
-answers (Does column condition (Goto gotos)) = true
-answers c = false
+-- a command that occurs only outside of blocks and FORs: QUIT with a value, and GOTO
+abbrev pub is_outer : CommandTree → Bool
+is_outer (Does column condition (Quit (Some t))) = true
+is_outer (Does column condition (Goto gotos)) = true
+is_outer c = false
 
--- a QUIT with a value, and GOTO, occur only where `may` allows them, and behind no FOR
-abbrev pub AnswersAtEnd : Bool → CommandTrees → Type 0
-AnswersAtEnd may finished = Unit {0}
-AnswersAtEnd may (then_command c rest) = (answers c ≡ true → may ≡ true) × AnswersAtEnd may rest
-AnswersAtEnd may (then_for column index control rest) = AnswersAtEnd false rest
+-- such a command occurs only where `may` allows it, and behind no FOR
+abbrev pub OuterWhere : Bool → CommandTrees → Type 0
+OuterWhere may finished = Unit {0}
+OuterWhere may (then_command c rest) = (is_outer c ≡ true → may ≡ true) × OuterWhere may rest
+OuterWhere may (then_for column index control rest) = OuterWhere false rest
 
 abbrev pub IsAtLevel : ℕ → Bool → HeadTree → Type 0
-IsAtLevel level may (LineHead number at end label formals commands) = (at ≡ level) × AnswersAtEnd may commands
+IsAtLevel level may (LineHead number at end label formals commands) = (at ≡ level) × OuterWhere may commands
 
 -- lines of one level, each with its block one level deeper, in which no QUIT has a value and no GOTO is
 abbrev pub AreLeveled : ℕ → Bool → LineTrees → Type 0

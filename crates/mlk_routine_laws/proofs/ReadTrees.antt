@@ -21,7 +21,7 @@ use Rattle.mlk_routine_arguments.specs.CommandGrammar.{IsRead, AreArgumentsOf, A
 use Rattle.mlk_routine.specs.RoutineGrammar.{IsFormals, IsLabelled, IsLine, IsBody, AreLines, IsRoutine, AreNested, heads_of, level_of}
 use Rattle.mlk_program.specs.Entries.{as_lines, label_of}
 use Rattle.mlk_machine_jobs.specs.Calling.{formals_in}
-use Rattle.mlk_machine_laws.specs.WellFormed.{answers, AnswersAtEnd, IsAtLevel, AreLeveled, is_local, reads_local, reads_locals, ReadsLocals, HeadReadsLocals, LinesReadLocals}
+use Rattle.mlk_machine_laws.specs.WellFormed.{is_outer, OuterWhere, IsAtLevel, AreLeveled, is_local, reads_local, reads_locals, ReadsLocals, HeadReadsLocals, LinesReadLocals}
 use Rattle.mlk_routine_laws.specs.Laws.{RoutinesSpelled, WellFormed}
 
 one : (a b : List ℕ) → Some a ≡ Some b → a ≡ b
@@ -100,7 +100,7 @@ extended_as P hangs locks jobs news may jumps condition a at s (inr (inl (front,
 extended_as P hangs locks jobs news may jumps condition a at s (inr (inl (front, rest, joined, word, (front', rest', joined', cond, (name, code, is, trap, plain, inr (call, same, restarts)))))) = subst P (sym same) (jobs (call ∷ []))
 extended_as P hangs locks jobs news may jumps condition a at s (inr (inr (front, rest, joined, word, (front', rest', joined', cond, (items, same, more))))) = subst P (sym same) (newing_as P hangs news items)
 
-quits_by : (d : Dialect) (may : Bool) (column at : ℕ) (condition : Option Tree) (a : ActionTree) (s : List ℕ) → AreArgumentsOf d may at a s → answers (Does column condition a) ≡ true → may ≡ true
+quits_by : (d : Dialect) (may : Bool) (column at : ℕ) (condition : Option Tree) (a : ActionTree) (s : List ℕ) → AreArgumentsOf d may at a s → is_outer (Does column condition a) ≡ true → may ≡ true
 quits_by d may column at condition (Quit (Some t)) s (returns, more) h = returns
 quits_by d may column at condition (Do calls) s is h = no h
 quits_by d may column at condition Else s is h = no h
@@ -118,18 +118,18 @@ quits_by d may column at condition (Read reads) s is h = no h
 quits_by d may column at condition (Set sets) s is h = no h
 quits_by d may column at condition (Write writes) s is h = no h
 
-quits : (d : Dialect) (may : Bool) (at : ℕ) (c : CommandTree) (s : List ℕ) → IsCommand d may at c s → answers c ≡ true → may ≡ true
+quits : (d : Dialect) (may : Bool) (at : ℕ) (c : CommandTree) (s : List ℕ) → IsCommand d may at c s → is_outer c ≡ true → may ≡ true
 quits d may at (Does column condition a) s (is, conditioned, inl (front, rest, joined, word, (front', rest', joined', cond, more))) h = quits_by d may column _ condition a rest' more h
 quits d may at (Does column condition a) s (is, conditioned, inr (extended, also)) h =
-    extended_as (λ a. answers (Does column condition a) ≡ true → may ≡ true) (λ times h. no h) (λ locks h. no h) (λ calls h. no h) (λ news h. no h) may (λ yes gotos h. yes) condition a at s also h
+    extended_as (λ a. is_outer (Does column condition a) ≡ true → may ≡ true) (λ times h. no h) (λ locks h. no h) (λ calls h. no h) (λ news h. no h) may (λ yes gotos h. yes) condition a at s also h
 
 -- and none behind a FOR
-answer_at_end : (d : Dialect) (level loops at : ℕ) (cs : CommandTrees) (s : List ℕ) → AreCommands d level loops at cs s → AnswersAtEnd ((level == 1) && (loops == 0)) cs
+answer_at_end : (d : Dialect) (level loops at : ℕ) (cs : CommandTrees) (s : List ℕ) → AreCommands d level loops at cs s → OuterWhere ((level == 1) && (loops == 0)) cs
 answer_at_end d level loops at finished s h = tt
 answer_at_end d level loops at (then_command c rest) s (text, gap, following, joined, is, gapped, more) =
     (quits d ((level == 1) && (loops == 0)) at c text is, answer_at_end d level loops _ rest following more)
 answer_at_end d level loops at (then_for column index control rest) s (text, gap, following, joined, head, counted, few, gapped, more) =
-    subst (λ b. AnswersAtEnd b rest) (none_behind level loops) (answer_at_end d level (suc loops) _ rest following more)
+    subst (λ b. OuterWhere b rest) (none_behind level loops) (answer_at_end d level (suc loops) _ rest following more)
   where
     none_behind : (level loops : ℕ) → ((level == 1) && (suc loops == 0)) ≡ false
     none_behind level loops = grind (arith, nat_tests)
@@ -138,12 +138,12 @@ abbrev commands_of : HeadTree → CommandTrees
 commands_of (LineHead number level end label formals commands) = commands
 
 abbrev AnswersRight : HeadTree → Type 0
-AnswersRight head = AnswersAtEnd (level_of head == 1) (commands_of head)
+AnswersRight head = OuterWhere (level_of head == 1) (commands_of head)
 
-body_answers : (d : Dialect) (level at : ℕ) (cs : CommandTrees) (s : List ℕ) → IsBody d level at cs s → AnswersAtEnd (level == 1) cs
-body_answers d level at cs s (inl (first, none, comment)) = subst (AnswersAtEnd (level == 1)) (sym none) tt
+body_answers : (d : Dialect) (level at : ℕ) (cs : CommandTrees) (s : List ℕ) → IsBody d level at cs s → OuterWhere (level == 1) cs
+body_answers d level at cs s (inl (first, none, comment)) = subst (OuterWhere (level == 1)) (sym none) tt
 body_answers d level at cs s (inr (periods, start, text, comment, joined, is, few, started, are, after)) =
-    subst (λ b. AnswersAtEnd b cs) (no_loops (level == 1)) (answer_at_end d level 0 _ cs text are)
+    subst (λ b. OuterWhere b cs) (no_loops (level == 1)) (answer_at_end d level 0 _ cs text are)
   where
     no_loops : (b : Bool) → (b && true) ≡ b
     no_loops true = refl
@@ -175,7 +175,7 @@ leveled level (line head block rest) low (at, reached, below, more) each = (
 )
   where
     at_level : (head : HeadTree) → level_of head ≡ level → AnswersRight head → IsAtLevel level (level == 1) head
-    at_level (LineHead number l end label formals commands) e a = (e, subst (λ n. AnswersAtEnd (n == 1) commands) e a)
+    at_level (LineHead number l end label formals commands) e a = (e, subst (λ n. OuterWhere (n == 1) commands) e a)
 
     deeper : (level : ℕ) → 0 < level → (suc level == 1) ≡ false
     deeper level low = grind (arith, nat_tests, low)

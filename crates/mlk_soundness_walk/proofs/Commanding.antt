@@ -40,7 +40,7 @@ use Rattle.mlk_soundness_machine.proofs.Going.{Next, steady, less}
 use Rattle.mlk_soundness_machine.proofs.Values.{Safe, Fits, FitsValue}
 use Rattle.mlk_soundness_walk.specs.Commands.{Gives, Jumps}
 use Rattle.mlk_soundness_walk.specs.Entries.{scope, EntryFits}
-use Rattle.mlk_machine_laws.specs.WellFormed.{answers, reads_locals}
+use Rattle.mlk_machine_laws.specs.WellFormed.{is_outer, reads_locals}
 use Rattle.mlk_soundness_walk.specs.Ours.{IsOurs, AreOurs, IsOf}
 use Rattle.mlk_soundness_walk.proofs.Acts.{write_fits, ifs_fit, if_fits, else_fits, quit_fits, answer_fits}
 use Rattle.mlk_soundness_walk.proofs.Alone.{Leads, leads_both, leads_each, leads_few, leads_stay}
@@ -119,7 +119,7 @@ module _ (routines : List RoutineTree) (rules : RuleLists) (entries : List (Entr
     abbrev pub MarksFit : ActionTree → State → Type 0
     MarksFit a s = (k : ℕ) (u : State) → acts_to here a k s u → (j : task.Job) → Describes sc w b [] u (idle j) → j.tasks ≡ task.NextArgument a k ∷ (arguments_from a k ++ ts) → KeepsIn sc w b j
 
-    pub act_fits : (column : ℕ) (condition : Option Tree) (a : ActionTree) → (answers (Does column condition a) ≡ true → may ≡ true) → reads_locals (Does column condition a) ≡ true → AreOurs sc (in_action a) → (s : State) → MarksFit a s → Leads (act here a) s A S Q
+    pub act_fits : (column : ℕ) (condition : Option Tree) (a : ActionTree) → (is_outer (Does column condition a) ≡ true → may ≡ true) → reads_locals (Does column condition a) ≡ true → AreOurs sc (in_action a) → (s : State) → MarksFit a s → Leads (act here a) s A S Q
         → Fits routines sc w b [] n (action_parts block a ++ ts) s
     act_fits column condition (Do []) may_be locals ours s mark l = in_a_block s l
     act_fits column condition (Do (c ∷ calls)) may_be locals ours s mark l =

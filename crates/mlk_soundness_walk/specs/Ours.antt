@@ -4,7 +4,7 @@ use Rattle.mlk_syntax.specs.Trees.{CallTree, CommandTree, CommandTrees, HeadTree
 use Rattle.mlk_program.specs.Calls.{in_command, in_commands}
 use Rattle.mlk_program.specs.Program.{calls_of}
 use Rattle.mlk_walk_state.specs.Scope.{Scope}
-use Rattle.mlk_machine_laws.specs.WellFormed.{answers, AnswersAtEnd, reads_locals, ReadsLocals}
+use Rattle.mlk_machine_laws.specs.WellFormed.{is_outer, OuterWhere, reads_locals, ReadsLocals}
 
 -- the call occurs in the routine that is walked
 abbrev pub IsOurs : Scope → CallTree → Type 0
@@ -13,15 +13,15 @@ IsOurs sc c = (number : ℕ) × Contains (calls_of sc.routines) (record { routin
 abbrev pub AreOurs : Scope → List CallTree → Type 0
 AreOurs sc calls = (c : CallTree) → Contains calls c → IsOurs sc c
 
--- what is required of a command, and of commands in a row: a QUIT with a value occurs only where it may, READ is into locals,
+-- what is required of a command, and of commands in a row: QUIT with a value and GOTO occur only where they may, READ is into locals,
 -- and calls are the program's
 pub record IsOf (sc : Scope) (may : Bool) (c : CommandTree) : Type 0 where
-  pub ends : answers c ≡ true → may ≡ true
+  pub ends : is_outer c ≡ true → may ≡ true
   pub reads : reads_locals c ≡ true
   pub ours : AreOurs sc (in_command c)
 
 pub record AreOf (sc : Scope) (may : Bool) (cs : CommandTrees) : Type 0 where
-  pub at_end : AnswersAtEnd may cs
+  pub at_end : OuterWhere may cs
   pub reads : ReadsLocals cs
   pub ours : AreOurs sc (in_commands cs)
 
