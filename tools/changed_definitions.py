@@ -89,6 +89,9 @@ CHANGED = {
         ENDS, 'if list_any (escapes_block e.level c) c.own then Faulty e.line column NameEscapes\n    else Leaves', 'Leaves'),
     'exits-are-not-checked': (
         ENDS, 'else if is_exit e.scope.summary.exits c then Passes\n    else Faulty e.line column CaseNotListed', 'else Passes'),
+    'goto-of-a-line-that-does-not-list-the-case': (
+        COMMANDS, '    else if is_listed (listed p.scope (number_of head) 0) s.case then []\n    else Refused (number_of head) 1 CaseNotListed ∷ []',
+        '    else []'),
     'halt-while-callers-hold-locks': (
         COMMANDS, 'else if p.scope.summary.drops then []\n    else Refused p.line p.word SummaryShort ∷ []', 'else []'),
     'a-declared-entry-with-needs': (
