@@ -15,8 +15,8 @@ use crate::part::{add_arguments, record_done};
 use mlk_machine_expressions::add;
 use mlk_machine_jobs::{LineTask, LocalTask, LockTask, Names, Task, TestTask, ValueTask};
 use mlk_syntax::{
-    Action, Call, Command, DoArgument, Expr, GotoArgument, KillArgument, Line, LockArgument, MergeArgument,
-    NewArgument, ReadArgument, SetArgument, WriteArgument,
+    Action, Call, Command, DoArgument, Expr, GotoArgument, KillArgument, Line, LockArgument,
+    MergeArgument, NewArgument, ReadArgument, SetArgument, WriteArgument,
 };
 use std::alloc::AllocError;
 

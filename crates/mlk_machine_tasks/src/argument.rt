@@ -11,7 +11,8 @@ use crate::command::{evaluate_and_drop, evaluate_if_some, given_in, in_time, in_
 use mlk_machine_expressions::{add, bare_name, each_actual};
 use mlk_machine_jobs::{Calling, LocalTask, Names, ScopeTask, Task, ValueTask, count_in};
 use mlk_syntax::{
-    DoArgument, Expr, GotoArgument, MergeArgument, NewArgument, ReadArgument, Variable, WriteArgument,
+    DoArgument, Expr, GotoArgument, MergeArgument, NewArgument, ReadArgument, Variable,
+    WriteArgument,
 };
 use std::alloc::AllocError;
 

@@ -13,8 +13,8 @@ use crate::{argument, target};
 use mlk_machine_expressions::add;
 use mlk_machine_jobs::{LineTask, Task};
 use mlk_syntax::{
-    Action, Call, DoArgument, GotoArgument, KillArgument, LockArgument, MergeArgument, NewArgument, ReadArgument,
-    SetArgument, Target, Variable, WriteArgument,
+    Action, Call, DoArgument, GotoArgument, KillArgument, LockArgument, MergeArgument, NewArgument,
+    ReadArgument, SetArgument, Target, Variable, WriteArgument,
 };
 use std::alloc::AllocError;
 

@@ -10,8 +10,9 @@ ghost use Rattle.mlk_program.specs.Found.{Finds, site_of, of_expr, of_actual};
 use crate::call::{CallSite, add_call};
 use crate::expr;
 use mlk_syntax::{
-    Action, Actual, Call, Command, Commands, Control, DoArgument, Expr, GotoArgument, KillArgument, LockArgument,
-    MergeArgument, Parameter, ReadArgument, SetArgument, Several, Target, Variable, WriteArgument,
+    Action, Actual, Call, Command, Commands, Control, DoArgument, Expr, GotoArgument, KillArgument,
+    LockArgument, MergeArgument, Parameter, ReadArgument, SetArgument, Several, Target, Variable,
+    WriteArgument,
 };
 use std::alloc::{AllocError, Global};
 

@@ -3,8 +3,9 @@
 use crate::scan::{find_outside, rest_at};
 use crate::steps::Steps;
 use mlk_syntax::{
-    Action, Actual, Call, Command, DoArgument, Expr, GotoArgument, KillArgument, LockArgument, MergeArgument,
-    NewArgument, Parameter, ReadArgument, SetArgument, Subscript, Target, Variable, WriteArgument,
+    Action, Actual, Call, Command, DoArgument, Expr, GotoArgument, KillArgument, LockArgument,
+    MergeArgument, NewArgument, Parameter, ReadArgument, SetArgument, Subscript, Target, Variable,
+    WriteArgument,
 };
 use mlk_text::lexeme::letters;
 use mlk_text::{Column, push_sparing};

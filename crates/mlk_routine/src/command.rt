@@ -18,8 +18,8 @@ use mlk_dialect::Dialect;
 use mlk_expr::Allows;
 use mlk_routine_arguments::{
     AddedWord, Device, NewItem, Word, command_word, expr_after, expression, first_argument,
-    has_byte, is_bare, is_command_end, leaves_out, no_goto, nothing, optional_arguments, refusal_at,
-    required_arguments, sets_trap, trap_action,
+    has_byte, is_bare, is_command_end, leaves_out, no_goto, nothing, optional_arguments,
+    refusal_at, required_arguments, sets_trap, trap_action,
 };
 use mlk_syntax::{Action, Command, Expr, LockArgument, NewArgument, Sign};
 use mlk_text::{Code, Column, Failure, Fault, LeftOut};

@@ -33,7 +33,7 @@ module _ (line : List ℕ) (at : ℕ) where
     pub goto_found : is_own_label call ≡ true → Found IsGoto GotoEnds line at (GoesTo call condition) next
     goto_found own =
         let stands : Stands IsGoto GotoEnds line at (GoesTo call condition) next =
-          record { text = f.0.text; within = f.0.within; joined = f.0.joined; spelled = (f.0.spelled, own); ended = f.0.ended } in
+        record { text = f.0.text; within = f.0.within; joined = f.0.joined; spelled = (f.0.spelled, own); ended = f.0.ended } in
         (stands, λ g u rest h is e. go g u rest h is e)
       where
         go : (g : GotoTree) (u rest : List ℕ) → drop at line ≡ u ++ rest → IsGoto (suc at) g u → GotoEnds g rest → (g ≡ GoesTo call condition) × (rest ≡ drop next line)

@@ -26,8 +26,8 @@ use crate::set::{set, target};
 use mlk_dialect::Dialect;
 use mlk_expr::Allows;
 use mlk_syntax::{
-    Call, DoArgument, GotoArgument, KillArgument, LockArgument, MergeArgument, NewArgument, Parameter,
-    ReadArgument, SetArgument, Target, Variable, WriteArgument,
+    Call, DoArgument, GotoArgument, KillArgument, LockArgument, MergeArgument, NewArgument,
+    Parameter, ReadArgument, SetArgument, Target, Variable, WriteArgument,
 };
 use mlk_text::{Failure, Fault};
 use std::alloc::Global;

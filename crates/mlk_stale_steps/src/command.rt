@@ -5,8 +5,9 @@ use crate::step::{Amount, Call, CallKind, Change, Condition, Jump, Mark, StackSt
 use crate::writer::Writer;
 use mlk_names::Extent;
 use mlk_syntax::{
-    Action, Actual, Command, DoArgument, Expr, GotoArgument, KillArgument, LockArgument, MergeArgument,
-    NewArgument, ReadArgument, SetArgument, Subscript, Target, Variable, WriteArgument,
+    Action, Actual, Command, DoArgument, Expr, GotoArgument, KillArgument, LockArgument,
+    MergeArgument, NewArgument, ReadArgument, SetArgument, Subscript, Target, Variable,
+    WriteArgument,
 };
 use mlk_text::{Name, push_sparing};
 use std::alloc::AllocError;
@@ -110,23 +111,15 @@ fn add_dos<'a>(
 }
 
 // Adds a jump to the label of `argument`. A path ends at a label that the program does not have.
-fn add_jump<'a>(
-    writer: &mut Writer<'_, 'a>,
-    argument: &'a GotoArgument,
-) -> Result<(), AllocError> {
-    let target = writer
-        .program
-        .target(writer.routine, &argument.call.callee);
+fn add_jump<'a>(writer: &mut Writer<'_, 'a>, argument: &'a GotoArgument) -> Result<(), AllocError> {
+    let target = writer.program.target(writer.routine, &argument.call.callee);
     match target.and_then(|entry| writer.lines.of(entry)) {
         Some(mark) => writer.push_jump(Jump::Goto(mark)),
         None => push_sparing(&mut writer.steps, Step::Halt),
     }
 }
 
-fn add_goto<'a>(
-    writer: &mut Writer<'_, 'a>,
-    argument: &'a GotoArgument,
-) -> Result<(), AllocError> {
+fn add_goto<'a>(writer: &mut Writer<'_, 'a>, argument: &'a GotoArgument) -> Result<(), AllocError> {
     let Some(condition) = &argument.condition else {
         return add_jump(writer, argument);
     };

@@ -6,8 +6,9 @@ use crate::expr::{add_actuals, add_expr, add_exprs, add_subscripts};
 use crate::step::{CallKind, Rounds, Step};
 use mlk_names::{Access, Extent};
 use mlk_syntax::{
-    Action, Call, Command, Control, DoArgument, Expr, GotoArgument, KillArgument, LockArgument, MergeArgument,
-    NewArgument, Parameter, ReadArgument, SetArgument, Subscript, Target, Variable, WriteArgument,
+    Action, Call, Command, Control, DoArgument, Expr, GotoArgument, KillArgument, LockArgument,
+    MergeArgument, NewArgument, Parameter, ReadArgument, SetArgument, Subscript, Target, Variable,
+    WriteArgument,
 };
 use mlk_text::Column;
 use std::alloc::AllocError;
@@ -104,10 +105,7 @@ fn add_goto<'a>(draft: &mut Draft<'a>, argument: &'a GotoArgument) -> Result<(),
     }
 }
 
-fn add_gotos<'a>(
-    draft: &mut Draft<'a>,
-    arguments: &'a [GotoArgument],
-) -> Result<(), AllocError> {
+fn add_gotos<'a>(draft: &mut Draft<'a>, arguments: &'a [GotoArgument]) -> Result<(), AllocError> {
     for argument in arguments {
         add_goto(draft, argument)?;
     }

@@ -5,8 +5,9 @@ use crate::lock_name::subscripts_of;
 use crate::mention::{Mention, Touch, Usage};
 use mlk_names::Extent;
 use mlk_syntax::{
-    Action, Actual, Call, Command, Commands, Control, DoArgument, Expr, GotoArgument, KillArgument, LockArgument,
-    MergeArgument, Parameter, ReadArgument, SetArgument, Several, Target, Variable, WriteArgument,
+    Action, Actual, Call, Command, Commands, Control, DoArgument, Expr, GotoArgument, KillArgument,
+    LockArgument, MergeArgument, Parameter, ReadArgument, SetArgument, Several, Target, Variable,
+    WriteArgument,
 };
 use mlk_text::push_sparing;
 use std::alloc::AllocError;

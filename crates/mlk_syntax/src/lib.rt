@@ -8,9 +8,9 @@ mod routine;
 mod several;
 
 pub use command::{
-    Action, Call, Command, Commands, Control, DoArgument, For, GotoArgument, KillArgument, LockArgument,
-    MergeArgument, NewArgument, Parameter, Part, ReadArgument, SetArgument, Sign, Target, Variable,
-    WriteArgument,
+    Action, Call, Command, Commands, Control, DoArgument, For, GotoArgument, KillArgument,
+    LockArgument, MergeArgument, NewArgument, Parameter, Part, ReadArgument, SetArgument, Sign,
+    Target, Variable, WriteArgument,
 };
 pub use expr::{Actual, Callee, Expr, Function, Special, Subscript};
 pub use rare::Rare;

@@ -12,8 +12,8 @@ ghost use Rattle.mlk_walk_lines.specs.Commands.{turn, in_turn, goto_argument as 
 
 use crate::goto::goto_argument;
 use mlk_syntax::{
-    Call, DoArgument, Expr, GotoArgument, KillArgument, LockArgument, MergeArgument, NewArgument, ReadArgument,
-    SetArgument, WriteArgument,
+    Call, DoArgument, Expr, GotoArgument, KillArgument, LockArgument, MergeArgument, NewArgument,
+    ReadArgument, SetArgument, WriteArgument,
 };
 use mlk_walk_commands::{
     do_argument, if_argument, job_argument, kill_argument, lock_argument, merge_argument,

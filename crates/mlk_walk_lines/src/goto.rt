@@ -29,7 +29,12 @@ fn enter_line(spot: &Spot, line: &Line, state: State, walk: &mut Walk) -> Result
         return Ok(());
     }
     let mend = Mend::Listed(line.number, 0, state.case);
-    walk.refuse(line.number, Column::new(1), Code::CaseNotListed, Note::of(mend))
+    walk.refuse(
+        line.number,
+        Column::new(1),
+        Code::CaseNotListed,
+        Note::of(mend),
+    )
 }
 
 // The jump to the label of a call.
