@@ -112,8 +112,10 @@ fn add_dos<'a>(
 
 // Adds a jump to the label of `argument`. A path ends at a label that the program does not have.
 fn add_jump<'a>(writer: &mut Writer<'_, 'a>, argument: &'a GotoArgument) -> Result<(), AllocError> {
-    let target = writer.program.target(writer.routine, &argument.call.callee);
-    match target.and_then(|entry| writer.lines.of(entry)) {
+    let Some(entry) = writer.program.target(writer.routine, &argument.call.callee) else {
+        return push_sparing(&mut writer.steps, Step::Halt);
+    };
+    match writer.lines.of(entry) {
         Some(mark) => writer.push_jump(Jump::Goto(mark)),
         None => push_sparing(&mut writer.steps, Step::Halt),
     }
