@@ -17,9 +17,9 @@ pub returns-then-not-is_own_label : goal.returns-then-not-is_own_label
 returns-then-not-is_own_label c =
     let read = c.in_ok-read.read in
     denies IsGoto GotoEnds c.args.line.now c.args.at c.no_goto.result (c.no_goto.ensures c.args.line.now c.requires)
-    (goto_nowhere c.args.line.now c.args.at (call_of read.call) (option_map tree_of read.condition) c.in_ok-read.next c.in_ok-read.ensures (sym c.is_own_label.ensures ∙ c.if-not-is_own_label.false))
+    (goto_nowhere c.args.line.now c.args.at (call_of read.call) (option_map tree_of read.condition) c.in_ok-read.next c.in_ok-read.ensures (sym c.is_own_label.ensures ∙ c.if-not-is_own_label.true))
 
 pub returns : goal.returns
 returns c =
     let read = c.in_ok-read.read in
-    goto_found c.args.line.now c.args.at (call_of read.call) (option_map tree_of read.condition) c.in_ok-read.next c.in_ok-read.ensures (sym c.is_own_label.ensures ∙ c.if-not-is_own_label.true)
+    goto_found c.args.line.now c.args.at (call_of read.call) (option_map tree_of read.condition) c.in_ok-read.next c.in_ok-read.ensures (sym c.is_own_label.ensures ∙ c.if-not-is_own_label.false)
