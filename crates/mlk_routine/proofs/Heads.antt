@@ -11,7 +11,7 @@ use Rattle.mlk_text.specs.declared.failure.Failure.TheVariants.{OutOfMemory, Ref
 use Rattle.mlk_text.specs.declared.fault.Fault.{Fault}
 use Rattle.mlk_routine.specs.declared.front.Front.{Front}
 use Rattle.mlk_routine.specs.declared.line.Before.{Before}
-use Rattle.mlk_syntax.specs.Trees.{CommandTrees, HeadTree, LineHead, LineTrees}
+use Rattle.mlk_syntax.specs.Trees.{CommandTrees, finished, HeadTree, LineHead, LineTrees}
 use Rattle.mlk_syntax.specs.Views.{commands_of, line_step}
 use Rattle.mlk_syntax.specs.declared.routine.Line.{Line}
 use Rattle.mlk_syntax.specs.declared.routine.Line.TheOpen.{Line-F}
@@ -19,10 +19,12 @@ use Rattle.mlk_syntax.specs.declared.routine.Line.TheViews.{roll-Line}
 use Rattle.mlk_syntax.specs.declared.routine.Line.TheFolds.{fold-roll-Line}
 use Rattle.mlk_routine_arguments.specs.PartsRead.{Found, Nowhere, Denied}
 use Rattle.mlk_routine_arguments.specs.Faults.{IsFaulty}
-use Rattle.mlk_routine.specs.RoutineGrammar.{IsLabelled, IsComment, IsBody, MayHaveLabel, IsLine, is_line_byte}
-use Rattle.mlk_routine.specs.Lines.{IsLabelPart, IsFormalsPart, IsOpening, OpeningEnds, IsFront, FrontEnds, AtEnd, IsTailOf, level_in, IsKept, Fits, FitsAfter, IsLineOnly, NoLine, head_of}
+use Rattle.mlk_naked.specs.Naked.{named}
+use Rattle.mlk_routine.specs.RoutineGrammar.{IsLabelled, IsComment, IsBody, MayHaveLabel, IsLine, is_line_byte, marked}
+use Rattle.mlk_routine.specs.Lines.{IsLabelPart, IsFormalsPart, IsOpening, OpeningEnds, IsFront, FrontEnds, AtEnd, IsReadTailOf, IsTailOf, level_in, IsKept, Fits, FitsAfter, IsLineOnly, NoLine, head_of}
 use Rattle.mlk_routine_arguments.proofs.Sequences.{next_is}
 use Rattle.mlk_routine.proofs.Tails.{comment_ends, tail_no_lead}
+use Rattle.mlk_routine.proofs.Naming.{comment_kept, comment_before, lead_before}
 
 -- a label with its formals, in two parts
 labelled_parts : (label : Option (List ℕ)) (formals : Option (List (List ℕ))) (s : List ℕ) → IsLabelled label formals s → (l r : List ℕ) × (s ≡ l ++ r) × IsLabelPart 1 label l × IsFormalsPart (is_some label) (1 + length l) formals r
@@ -40,14 +42,20 @@ labelled_whole (Some label) (Some formals) l r k one two = (r, ap (λ x. x ++ r)
 -- what follows the label, in two parts
 body_parts : (d : Dialect) (level k : ℕ) (c : CommandTrees) (s : List ℕ) → IsBody d level k c s
     → (o : Option ℕ) × (start tail : List ℕ) × (s ≡ start ++ tail) × IsOpening k o start × IsTailOf d o (k + length start) c tail × (level ≡ level_in o) × (level ≤ 15) × OpeningEnds o tail
-body_parts d level k c s (inl (first, none, comment)) = (None, [], s, refl, refl, (none, comment), first, omega (arith, first), comment_ends s comment)
-body_parts d level k c s (inr (periods, start, text, comment, is, same, few, begun, commands, note)) =
-    (Some level, start, text ++ comment, is, (periods, same, begun), (text, comment, refl, commands, note), refl, few, tail_no_lead d level (k + length start) c (text ++ comment) (text, comment, refl, commands, note))
+body_parts d level k c s (inl (first, none, comment)) =
+    let kept = comment_kept d (k + 0) s comment in
+    (None, [], s, refl, refl, (finished, (refl, subst IsComment (sym kept.0) comment), ap (λ p. named p finished) kept.1 ∙ ap Some (sym none)), first, omega (arith, first), comment_ends s comment)
+body_parts d level k c s (inr (periods, start, tail, is, same, few, begun, (read, text, comment, joined, commands, note, names))) =
+    let inside : IsReadTailOf d (Some level) (k + length start) read (marked d tail) = (text, comment, joined, commands, note) in
+    (Some level, start, tail, is, (periods, same, begun), (read, inside, names), refl, few, lead_before d tail (tail_no_lead d level (k + length start) read (marked d tail) inside))
 
 body_whole : (d : Dialect) (o : Option ℕ) (k : ℕ) (c : CommandTrees) (start tail : List ℕ) → IsOpening k o start → IsTailOf d o (k + length start) c tail → level_in o ≤ 15 → IsBody d (level_in o) k c (start ++ tail)
-body_whole d None k c start tail one two few = inl (refl, two.0, subst IsComment (sym (ap (λ l. l ++ tail) one)) two.1)
-body_whole d (Some level) k c start tail (periods, same, begun) (text, comment, is, commands, note) few =
-    inr (periods, start, text, comment, ap (λ l. start ++ l) is, same, few, begun, commands, note)
+body_whole d None k c start tail one (read, (none, comment), names) few =
+    let before = comment_before d (k + length start) tail comment in
+    let same : c ≡ finished = cc (sym names ∙ ap (λ p. named p read) before.1 ∙ ap Some none) in
+    inl (refl, same, subst IsComment (sym (ap (λ l. l ++ tail) one)) before.0)
+body_whole d (Some level) k c start tail (periods, same, begun) (read, (text, comment, joined, commands, note), names) few =
+    inr (periods, start, tail, refl, same, few, begun, (read, text, comment, joined, commands, note, names))
 
 opening_level : (k : ℕ) (o : Option ℕ) (s : List ℕ) → IsOpening k o s → 0 < level_in o
 opening_level k None s is = omega arith

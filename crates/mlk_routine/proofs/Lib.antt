@@ -10,6 +10,7 @@ pub mod Starts
 pub mod Fronts
 pub mod LineBytes
 pub mod Tails
+pub mod Naming
 pub mod Reaching
 pub mod Heads
 pub mod FlatLines

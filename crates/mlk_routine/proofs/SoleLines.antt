@@ -1,5 +1,5 @@
 -- At a place there is at most one thing of its kind: what precedes commands, lines, and routines.
-use Rattle.std.proofs.Common.{◌≡◌, ◌<◌, ◌≤◌, ◌+◌, ◌-◌, ◌⊎◌, ℕ, zero, suc, Bool, true, false, List, [], ◌∷◌, ◌++◌, length, drop, Some, None, refl, sym, ap, ◌∙◌, arith, subst, inl, inr, nat_lt, append-nil, add-one}
+use Rattle.std.proofs.Common.{◌≡◌, ◌<◌, ◌≤◌, ◌+◌, ◌-◌, ◌⊎◌, ℕ, zero, suc, Bool, true, false, List, [], ◌∷◌, ◌++◌, length, take, drop, Some, None, refl, sym, ap, ◌∙◌, arith, subst, inl, inr, nat_lt, append-nil, length-append, length-take-le, add-one}
 use Rattle.std.specs.Prelude.{Option, is_some}
 use Rattle.std.specs.List.{prefix_len}
 use Rattle.std.proofs.lemmas.Bool.{cases_Bool}
@@ -11,8 +11,8 @@ use Rattle.mlk_syntax.specs.Trees.{HeadTree, RoutineTree, Named_routine}
 use Rattle.mlk_routine_arguments.specs.PartsRead.{Found, first_of, byte_at}
 use Rattle.mlk_routine_arguments.specs.Ends.{AnyEnds, RunEnds, IsRun, starts, is_commands_end}
 use Rattle.mlk_routine_arguments.specs.CommandGrammar.{AreEnclosed}
-use Rattle.mlk_routine.specs.RoutineGrammar.{is_blank, IsFormals, ArePeriods, IsLine, AreLines, IsRoutine, heads_of}
-use Rattle.mlk_routine.specs.Lines.{is_label_byte, IsLabelPart, LabelPartEnds, IsFormalList, IsFormalsPart, FormalsPartEnds, ArePeriodsHere, PeriodsEnd, IsOpening, OpeningEnds, IsFront, FrontEnds, AtEnd, IsTailOf}
+use Rattle.mlk_routine.specs.RoutineGrammar.{is_blank, IsFormals, ArePeriods, IsLine, AreLines, IsRoutine, heads_of, marked, naked_places}
+use Rattle.mlk_routine.specs.Lines.{is_label_byte, IsLabelPart, LabelPartEnds, IsFormalList, IsFormalsPart, FormalsPartEnds, ArePeriodsHere, PeriodsEnd, IsOpening, OpeningEnds, IsFront, FrontEnds, AtEnd, IsReadTailOf, IsTailOf}
 use Rattle.mlk_routine_arguments.proofs.Sequences.{next_is, stands_at}
 use Rattle.mlk_routine_arguments.proofs.Bytes.{drop_next, byte_before}
 use Rattle.mlk_routine_arguments.proofs.Stretches.{run_found}
@@ -20,7 +20,9 @@ use Rattle.mlk_routine.proofs.Labels.{a_label, no_label}
 use Rattle.mlk_routine.proofs.FormalLists.{no_names}
 use Rattle.mlk_routine.proofs.Fronts.{formals_turned, no_formals, FormalsThen, ThenEnds, then_parts, front_parts}
 use Rattle.mlk_routine.proofs.Starts.{period_parts, SomeBlanks, start_parts, opening_turned, no_opening, opening_nowhere}
+use Rattle.mlk_naked.specs.Naked.{named}
 use Rattle.mlk_routine.proofs.Tails.{IsNote, tail_parts}
+use Rattle.mlk_routine.proofs.Naming.{drop_marked}
 use Rattle.mlk_routine.proofs.Heads.{head_tree, line_apart, line_front}
 use Rattle.mlk_routine.specs.Refusals.{lines_in}
 use Rattle.mlk_routine.proofs.Nesting.{nested_once}
@@ -119,9 +121,29 @@ front_sole line = sole_both (front_parts line) (omega arith) (label_sole line) (
 note_alone : Alone IsNote AtEnd
 note_alone line at less a n s b u rest h is e = (refl, e ∙ sym s.ended)
 
+read_tail_alone : (d : Dialect) (level : Option ℕ) → Alone (IsReadTailOf d level) AtEnd
+read_tail_alone d None line at less = λ a n s b u rest h is e. (is.0 ∙ sym s.spelled.0, e ∙ sym s.ended)
+read_tail_alone d (Some level) line at less = sole_both (tail_parts d level line at) less (commands_alone d level 0 line at less) (λ c m s. note_alone line m s.within)
+
+-- with the names of naked references, from the line with marks
 tail_alone : (d : Dialect) (level : Option ℕ) → Alone (IsTailOf d level) AtEnd
-tail_alone d None line at less = λ a n s b u rest h is e. (is.0 ∙ sym s.spelled.0, e ∙ sym s.ended)
-tail_alone d (Some level) line at less = sole_both (tail_parts d level line at) less (commands_alone d level 0 line at less) (λ c m s. note_alone line m s.within)
+tail_alone d level line at less a n s b u rest h (other, also, others) e =
+    let one : drop at line ≡ s.text = s.joined ∙ ap (λ l. s.text ++ l) s.ended ∙ append-nil s.text in
+    let two : drop at line ≡ u = h ∙ ap (λ l. u ++ l) e ∙ append-nil u in
+    let m = take at line ++ marked d (drop at line) in
+    let low : at ≤ length m =
+        let front = length-take-le at line less in
+        let size = length-append (take at line) (marked d (drop at line)) in
+        omega (arith, front, size)
+    in
+    let on_line : (t : List ℕ) → drop at line ≡ t → drop at m ≡ marked d t ++ [] =
+        λ t is. drop_marked d level line m at less refl ∙ ap (marked d) is ∙ sym (append-nil (marked d t))
+    in
+    let there = stands_at (IsReadTailOf d level) AtEnd m at s.spelled.0 (marked d s.text) [] low (on_line s.text one) s.spelled.1 refl in
+    let same = read_tail_alone d level m at low s.spelled.0 _ there.0 other (marked d u) [] (on_line u two) also refl in
+    let names = ap (λ t. named (naked_places d (suc at) t) s.spelled.0) (sym two ∙ one) in
+    let theirs : named (naked_places d (suc at) u) s.spelled.0 ≡ Some b = ap (named (naked_places d (suc at) u)) (sym same.0) ∙ others in
+    (cc (sym theirs ∙ names ∙ s.spelled.2), e ∙ sym s.ended)
 
 -- a line, lines, a routine
 line_once : (d : Dialect) (n : ℕ) (line : List ℕ) (a b : HeadTree) → IsLine d n a line → IsLine d n b line → a ≡ b

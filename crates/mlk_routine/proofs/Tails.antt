@@ -20,7 +20,7 @@ use Rattle.mlk_routine_arguments.specs.declared.word.AddedWord.TheVariants as ad
 use Rattle.mlk_routine_arguments.specs.CommandWords.{is_word_of, is_for, is_added}
 use Rattle.mlk_routine_arguments.specs.CommandGrammar.{IsCommand, IsForHead, AreCommands}
 use Rattle.mlk_routine.specs.RoutineGrammar.{IsComment}
-use Rattle.mlk_routine.specs.Lines.{OpeningEnds, AtEnd, IsTail, IsTailOf, is_lead, level_in}
+use Rattle.mlk_routine.specs.Lines.{OpeningEnds, AtEnd, IsReadTail, IsReadTailOf, is_lead, level_in}
 use Rattle.mlk_routine_arguments.proofs.Sequences.{Parts, both_found, first_nowhere, second_nowhere}
 
 -- a text that begins with a letter, or with a byte above all that may precede or follow commands
@@ -143,7 +143,7 @@ note_nowhere : (line : List ℕ) (at : ℕ) → (IsComment (drop at line) → �
 note_nowhere line at none c u rest h is e = none (subst IsComment (sym (h ∙ ap (λ l. u ++ l) e ∙ append-nil u)) is)
 
 module _ (d : Dialect) (level : ℕ) (line : List ℕ) (at : ℕ) where
-  pub tail_parts : Parts line at (AreCommands d level 0) CommandsEnd (λ c. IsNote) (λ c. AtEnd) (IsTail d level) AtEnd (λ c u. c)
+  pub tail_parts : Parts line at (AreCommands d level 0) CommandsEnd (λ c. IsNote) (λ c. AtEnd) (IsReadTail d level) AtEnd (λ c u. c)
   tail_parts = record {
     into = λ c u s t one two. (s, t, refl, one, two);
     ends = λ c u k t rest is before after. after;
@@ -159,38 +159,38 @@ module _ (d : Dialect) (line : List ℕ) (at : ℕ) (end : is_commands_end (drop
       let same : b ≡ 59 = grind (arith, nat_tests, byte) in
       omega (arith, same, high)
 
-  comment_alone : (c : CommandTrees) (k : ℕ) (u rest : List ℕ) → drop at line ≡ u ++ rest → IsTail d 1 k c u → (c ≡ finished) × IsComment u
+  comment_alone : (c : CommandTrees) (k : ℕ) (u rest : List ℕ) → drop at line ≡ u ++ rest → IsReadTail d 1 k c u → (c ≡ finished) × IsComment u
   comment_alone c k u rest h (s, t, is, one, two) = elim (commands_lettered d 1 0 k c s one) [
     | inl none ↦ (none.0, subst IsComment (sym (is ∙ ap (λ l. l ++ t) none.1)) two)
     | inr letter ↦ absurd (no_letter s t rest (h ∙ ap (λ l. l ++ rest) is) letter)
   ]
 
-  alone_tail : (c : CommandTrees) (k : ℕ) (u : List ℕ) → (c ≡ finished) × IsComment u → IsTail d 1 k c u
-  alone_tail c k u is = subst (λ x. IsTail d 1 k x u) (sym is.0) ([], u, refl, refl, is.1)
+  alone_tail : (c : CommandTrees) (k : ℕ) (u : List ℕ) → (c ≡ finished) × IsComment u → IsReadTail d 1 k c u
+  alone_tail c k u is = subst (λ x. IsReadTail d 1 k x u) (sym is.0) ([], u, refl, refl, is.1)
 
-  alone_found : (c : CommandTrees) → Found (IsTail d 1) AtEnd line at c (length line) → Found (IsTailOf d None) AtEnd line at c (length line)
+  alone_found : (c : CommandTrees) → Found (IsReadTail d 1) AtEnd line at c (length line) → Found (IsReadTailOf d None) AtEnd line at c (length line)
   alone_found c f =
-      let stands : Stands (IsTailOf d None) AtEnd line at c (length line) = record { text = f.0.text; within = f.0.within; joined = f.0.joined; spelled = comment_alone c (suc at) f.0.text (drop (length line) line) f.0.joined f.0.spelled; ended = f.0.ended } in
+      let stands : Stands (IsReadTailOf d None) AtEnd line at c (length line) = record { text = f.0.text; within = f.0.within; joined = f.0.joined; spelled = comment_alone c (suc at) f.0.text (drop (length line) line) f.0.joined f.0.spelled; ended = f.0.ended } in
       (stands, λ c u rest h is e. f.1 c u rest h (alone_tail c (suc at) u is) e)
 
-  alone_nowhere : Nowhere (IsTail d 1) AtEnd line at → Nowhere (IsTailOf d None) AtEnd line at
+  alone_nowhere : Nowhere (IsReadTail d 1) AtEnd line at → Nowhere (IsReadTailOf d None) AtEnd line at
   alone_nowhere f c u rest h is e = f c u rest h (alone_tail c (suc at) u is) e
 
 module _ (d : Dialect) (line : List ℕ) (at : ℕ) (less : at ≤ length line) where
-  pub tail_found : (level : Option ℕ) → OpeningEnds level (drop at line) → (c : CommandTrees) (m : ℕ) → Found (AreCommands d (level_in level) 0) CommandsEnd line at c m → IsComment (drop m line) → Found (IsTailOf d level) AtEnd line at c (length line)
+  pub tail_found : (level : Option ℕ) → OpeningEnds level (drop at line) → (c : CommandTrees) (m : ℕ) → Found (AreCommands d (level_in level) 0) CommandsEnd line at c m → IsComment (drop m line) → Found (IsReadTailOf d level) AtEnd line at c (length line)
   tail_found None end c m f note = alone_found d line at end c (both_found (tail_parts d 1 line at) less c tt m (length line) f (note_found line m f.0.within note))
   tail_found (Some level) end c m f note = both_found (tail_parts d level line at) less c tt m (length line) f (note_found line m f.0.within note)
 
-  pub no_comment_tail : (level : Option ℕ) → OpeningEnds level (drop at line) → (c : CommandTrees) (m : ℕ) → Found (AreCommands d (level_in level) 0) CommandsEnd line at c m → (IsComment (drop m line) → ⊥) → Nowhere (IsTailOf d level) AtEnd line at
+  pub no_comment_tail : (level : Option ℕ) → OpeningEnds level (drop at line) → (c : CommandTrees) (m : ℕ) → Found (AreCommands d (level_in level) 0) CommandsEnd line at c m → (IsComment (drop m line) → ⊥) → Nowhere (IsReadTailOf d level) AtEnd line at
   no_comment_tail None end c m f none = alone_nowhere d line at end (second_nowhere (tail_parts d 1 line at) less c m f (note_nowhere line m none))
   no_comment_tail (Some level) end c m f none = second_nowhere (tail_parts d level line at) less c m f (note_nowhere line m none)
 
-  pub no_commands_tail : (level : Option ℕ) → OpeningEnds level (drop at line) → Nowhere (AreCommands d (level_in level) 0) CommandsEnd line at → Nowhere (IsTailOf d level) AtEnd line at
+  pub no_commands_tail : (level : Option ℕ) → OpeningEnds level (drop at line) → Nowhere (AreCommands d (level_in level) 0) CommandsEnd line at → Nowhere (IsReadTailOf d level) AtEnd line at
   no_commands_tail None end none = alone_nowhere d line at end (first_nowhere (tail_parts d 1 line at) less none)
   no_commands_tail (Some level) end none = first_nowhere (tail_parts d level line at) less none
 
 -- the first byte of a tail cannot be part of a line's start
-pub tail_no_lead : (d : Dialect) (level k : ℕ) (c : CommandTrees) (s : List ℕ) → IsTail d level k c s → starts is_lead s ≡ false
+pub tail_no_lead : (d : Dialect) (level k : ℕ) (c : CommandTrees) (s : List ℕ) → IsReadTail d level k c s → starts is_lead s ≡ false
 tail_no_lead d level k c s (front, back, is, one, two) = elim (commands_lettered d level 0 k c front one) [
   | inl none ↦ ap (starts is_lead) (is ∙ ap (λ l. l ++ back) none.1) ∙ comment_no_lead back two
   | inr letter ↦ ap (starts is_lead) (is ∙ ap (λ l. l ++ back) (letter.2)) ∙ high_no_lead (letter.0) (letter.3)

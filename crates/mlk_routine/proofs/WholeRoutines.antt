@@ -52,7 +52,7 @@ nested_follow lines nested = subst (Follow 0 true) (append-nil (heads_of lines))
 -- no line's level is 0
 body_positive : (d : Dialect) (level k : ℕ) (c : CommandTrees) (s : List ℕ) → IsBody d level k c s → 0 < level
 body_positive d level k c s (inl (first, none, comment)) = omega (arith, first)
-body_positive d level k c s (inr (periods, start, text, comment, is, same, few, begun, commands, note)) = omega (arith, same)
+body_positive d level k c s (inr (periods, start, tail, is, same, few, begun, inside)) = omega (arith, same)
 
 line_positive : (d : Dialect) (n : ℕ) (h : HeadTree) (s : List ℕ) → IsLine d n h s → 0 < level_of h
 line_positive d n (LineHead number level end label formals commands) s (front, body, is, count, last, labelled, only, inside) = body_positive d level (suc (length front)) commands body inside

@@ -12,7 +12,8 @@ use Rattle.mlk_expr.specs.Theorem.{LabelEnds}
 use Rattle.mlk_routine_arguments.specs.Ends.{Lacks, starts, is_commands_end}
 use Rattle.mlk_routine.specs.RoutineGrammar.{IsFormals, is_blank, ArePeriods, IsStart}
 use Rattle.mlk_routine.specs.RoutineGrammar.{IsComment, IsLine, level_of, reaches, is_line_byte}
-use Rattle.mlk_routine.specs.RoutineGrammar.{AreLines, labels_of, AreNested, heads_of, percent}
+use Rattle.mlk_routine.specs.RoutineGrammar.{AreLines, labels_of, AreNested, heads_of, percent, marked, naked_places}
+use Rattle.mlk_naked.specs.Naked.{named}
 use Rattle.mlk_syntax.specs.Distinct.{AreDistinct}
 use Rattle.mlk_text.specs.Spellings.{IsName}
 use Rattle.mlk_routine_arguments.specs.CommandGrammar.{Both, AreCommands}
@@ -95,13 +96,18 @@ FrontEnds f rest = OpeningEnds f.level rest
 abbrev pub AtEnd : {A : Type 0} → A → List ℕ → Type 0
 AtEnd a rest = rest ≡ []
 
--- the commands and the comment of a line of this level; without a start, a comment only
-abbrev pub IsTail : Dialect → ℕ → ℕ → CommandTrees → List ℕ → Type 0
-IsTail d level at commands s = Both (λ n r. AreCommands d level 0 n commands r) (λ n r. IsComment r) at s
+-- the commands and the comment of a line of this level, before naked references get names; without a start, a comment only
+abbrev pub IsReadTail : Dialect → ℕ → ℕ → CommandTrees → List ℕ → Type 0
+IsReadTail d level at commands s = Both (λ n r. AreCommands d level 0 n commands r) (λ n r. IsComment r) at s
 
+abbrev pub IsReadTailOf : Dialect → Option ℕ → ℕ → CommandTrees → List ℕ → Type 0
+IsReadTailOf d None at commands s = (commands ≡ finished) × IsComment s
+IsReadTailOf d (Some level) at commands s = IsReadTail d level at commands s
+
+-- and with their names
 abbrev pub IsTailOf : Dialect → Option ℕ → ℕ → CommandTrees → List ℕ → Type 0
-IsTailOf d None at commands s = (commands ≡ finished) × IsComment s
-IsTailOf d (Some level) at commands s = IsTail d level at commands s
+IsTailOf d level at commands s = (read : CommandTrees) × IsReadTailOf d level at read (marked d s)
+    × (named (naked_places d at s) read ≡ Some commands)
 
 -- the result of reading all the rest of a line
 abbrev pub ReadsToEnd : {X A : Type 0} → (X → A) → Spelled A → List ℕ → ℕ → Result X (Failure Fault) → Type 0

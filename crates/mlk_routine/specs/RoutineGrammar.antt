@@ -1,5 +1,5 @@
 -- Lines, blocks and routines, from trees to texts.
-use Rattle.std.specs.Prelude.{ℕ, zero, suc, ◌≡◌, ◌≢◌, ◌<◌, ◌≤◌, ◌+◌, ◌⊎◌, ◌==◌, ◌||◌, not, Bool, true, List, []}
+use Rattle.std.specs.Prelude.{ℕ, zero, suc, ◌≡◌, ◌≢◌, ◌<◌, ◌≤◌, ◌+◌, ◌⊎◌, ◌==◌, ◌||◌, not, Bool, true, false, List, []}
 use Rattle.std.specs.Prelude.{◌∷◌, ◌++◌, length, if◌then◌else◌, Option, Some, None}
 use Rattle.std.specs.List.{list_all}
 use Rattle.mlk_dialect.specs.declared.dialect.Dialect.{Dialect}
@@ -11,6 +11,8 @@ use Rattle.mlk_expr.specs.Grammar.{IsList, IsEnclosed, IsNameText}
 use Rattle.mlk_syntax.specs.Distinct.{AreDistinct}
 use Rattle.mlk_syntax.specs.Trees.{CommandTrees, finished, HeadTree, LineHead, LineTrees, no_lines, line}
 use Rattle.mlk_syntax.specs.Trees.{RoutineTree, Named_routine}
+use Rattle.mlk_naked.specs.Marks.{marked_in, places_in}
+use Rattle.mlk_naked.specs.Naked.{named}
 use Rattle.mlk_routine_arguments.specs.CommandWords.{reaches_block}
 use Rattle.mlk_routine_arguments.specs.CommandGrammar.{AreCommands}
 
@@ -50,12 +52,27 @@ IsStart periods s = (blanks rest : List ℕ) × (s ≡ blanks ++ rest) × (0 < l
 abbrev pub IsComment : List ℕ → Type 0
 IsComment s = (s ≡ []) ⊎ ((text : List ℕ) × (s ≡ 59 ∷ text) × (is_text text ≡ true))
 
+-- The text in which naked references are marked, and their places, where it begins in the column `at`. In the standard dialect
+-- they are not read, so none is marked.
+abbrev pub marked : Dialect → List ℕ → List ℕ
+marked dialect.Standard s = s
+marked dialect.Extended s = marked_in false s
+
+abbrev pub naked_places : Dialect → ℕ → List ℕ → List ℕ
+naked_places dialect.Standard at s = []
+naked_places dialect.Extended at s = places_in at false s
+
+-- Commands, and a comment or nothing. In the commands that are read each naked reference gets its name.
+abbrev pub IsTail : Dialect → ℕ → ℕ → CommandTrees → List ℕ → Type 0
+IsTail d level at commands s = (read : CommandTrees) × (text comment : List ℕ) × (marked d s ≡ text ++ comment)
+    × AreCommands d level 0 at read text × IsComment comment × (named (naked_places d at s) read ≡ Some commands)
+
 -- What follows the label: a comment or nothing; or a line's start, commands, and a comment or nothing. The level is one more than
 -- the number of periods, at most 15, which is this project's own choice. Standard: line body.
 abbrev pub IsBody : Dialect → ℕ → ℕ → CommandTrees → List ℕ → Type 0
 IsBody d level at commands s = ((level ≡ 1) × (commands ≡ finished) × IsComment s)
-    ⊎ ((periods : ℕ) × (start text comment : List ℕ) × (s ≡ start ++ (text ++ comment)) × (level ≡ suc periods)
-    × (level ≤ 15) × IsStart periods start × AreCommands d level 0 (at + length start) commands text × IsComment comment)
+    ⊎ ((periods : ℕ) × (start tail : List ℕ) × (s ≡ start ++ tail) × (level ≡ suc periods)
+    × (level ≤ 15) × IsStart periods start × IsTail d level (at + length start) commands tail)
 
 -- Where a line may have a label: at level 1. In the extended dialect a deeper line may have one without formals, which no call
 -- means, since calls are of lines of level 1. That is this project's own choice. Standard: level line, formal line.

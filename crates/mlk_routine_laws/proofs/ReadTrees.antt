@@ -18,6 +18,8 @@ use Rattle.mlk_routine_arguments.specs.CommandGrammar as grammar
 use Rattle.mlk_routine_arguments.specs.declared.word.AddedWord.{AddedWord}
 use Rattle.mlk_routine_arguments.specs.declared.word.AddedWord.TheVariants as added
 use Rattle.mlk_routine_arguments.specs.CommandGrammar.{IsRead, AreArgumentsOf, AreAdded, locals_of, new_or_nothing, newing, IsExtended, IsCommand, AreCommands, DeviceTree, claim_of, naming, opening}
+use Rattle.mlk_naked.specs.Naked.{State, command, run}
+use Rattle.mlk_naked.proofs.Kept.{action_keeps, named_as}
 use Rattle.mlk_routine.specs.RoutineGrammar.{IsFormals, IsLabelled, IsLine, IsBody, AreLines, IsRoutine, AreNested, heads_of, level_of}
 use Rattle.mlk_program.specs.Entries.{as_lines, label_of}
 use Rattle.mlk_machine_jobs.specs.Calling.{formals_in}
@@ -137,10 +139,21 @@ commands_of (LineHead number level end label formals commands) = commands
 abbrev AnswersRight : HeadTree → Type 0
 AnswersRight head = AnswersAtEnd (level_of head == 1) (commands_of head)
 
+-- and naming changes no QUIT's form
+answers_same : (s : State) (c : CommandTree) → answers (command s c).0 ≡ answers c
+answers_same s (Does column None a) = action_keeps (λ a. answers (Does column None a)) (λ ts us. refl) (λ ts us. refl) (λ ts us. refl) (λ t u. refl) (λ ts us. refl) (λ ts us. refl) s a
+answers_same s (Does column (Some t) a) = action_keeps (λ a. answers (Does column (Some t) a)) (λ ts us. refl) (λ ts us. refl) (λ ts us. refl) (λ t u. refl) (λ ts us. refl) (λ ts us. refl) _ a
+
+answers_kept : (may : Bool) (s : State) (cs : CommandTrees) → AnswersAtEnd may cs → AnswersAtEnd may (run s cs).0
+answers_kept may s finished h = tt
+answers_kept may s (then_command c rest) h = (λ e. h.0 (sym (answers_same s c) ∙ e), answers_kept may (command s c).1 rest h.1)
+answers_kept may s (then_for column index control rest) h = answers_kept false (s.0, None) rest h
+
 body_answers : (d : Dialect) (level at : ℕ) (cs : CommandTrees) (s : List ℕ) → IsBody d level at cs s → AnswersAtEnd (level == 1) cs
 body_answers d level at cs s (inl (first, none, comment)) = subst (AnswersAtEnd (level == 1)) (sym none) tt
-body_answers d level at cs s (inr (periods, start, text, comment, joined, is, few, started, are, after)) =
-    subst (λ b. AnswersAtEnd b cs) (no_loops (level == 1)) (answer_at_end d level 0 _ cs text are)
+body_answers d level at cs s (inr (periods, start, tail, joined, is, few, started, (read, text, comment, parts, are, after, names))) =
+    named_as (AnswersAtEnd (level == 1)) (answers_kept (level == 1)) _ read cs names
+    (subst (λ b. AnswersAtEnd b read) (no_loops (level == 1)) (answer_at_end d level 0 _ read text are))
   where
     no_loops : (b : Bool) → (b && true) ≡ b
     no_loops true = refl
@@ -229,9 +242,19 @@ commands_read d level loops at (then_command c rest) s (text, gap, following, jo
 commands_read d level loops at (then_for column index control rest) s (text, gap, following, joined, head, counted, few, gapped, more) =
     commands_read d level (suc loops) _ rest following more
 
+reads_same : (s : State) (c : CommandTree) → reads_locals (command s c).0 ≡ reads_locals c
+reads_same s (Does column None a) = action_keeps (λ a. reads_locals (Does column None a)) (λ ts us. refl) (λ ts us. refl) (λ ts us. refl) (λ t u. refl) (λ ts us. refl) (λ ts us. refl) s a
+reads_same s (Does column (Some t) a) = action_keeps (λ a. reads_locals (Does column (Some t) a)) (λ ts us. refl) (λ ts us. refl) (λ ts us. refl) (λ t u. refl) (λ ts us. refl) (λ ts us. refl) _ a
+
+reads_kept : (s : State) (cs : CommandTrees) → ReadsLocals cs → ReadsLocals (run s cs).0
+reads_kept s finished h = tt
+reads_kept s (then_command c rest) h = (reads_same s c ∙ h.0, reads_kept (command s c).1 rest h.1)
+reads_kept s (then_for column index control rest) h = reads_kept (s.0, None) rest h
+
 body_reads : (d : Dialect) (level at : ℕ) (cs : CommandTrees) (s : List ℕ) → IsBody d level at cs s → ReadsLocals cs
 body_reads d level at cs s (inl (first, none, comment)) = subst ReadsLocals (sym none) tt
-body_reads d level at cs s (inr (periods, start, text, comment, joined, is, few, started, are, after)) = commands_read d level 0 _ cs text are
+body_reads d level at cs s (inr (periods, start, tail, joined, is, few, started, (read, text, comment, parts, are, after, names))) =
+    named_as ReadsLocals reads_kept _ read cs names (commands_read d level 0 _ read text are)
 
 line_reads : (d : Dialect) (n : ℕ) (head : HeadTree) (s : List ℕ) → IsLine d n head s → HeadReadsLocals head
 line_reads d n (LineHead number level end label formals commands) s (front, body, joined, counted, ended, at, level_is, is) = body_reads d level _ commands body is

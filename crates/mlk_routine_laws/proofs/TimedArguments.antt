@@ -12,6 +12,8 @@ use Rattle.mlk_syntax.specs.Trees.{CommandTree, Does, CommandTrees, finished, th
 use Rattle.mlk_routine_arguments.specs.declared.word.AddedWord.{AddedWord}
 use Rattle.mlk_routine_arguments.specs.declared.word.AddedWord.TheVariants as added
 use Rattle.mlk_routine_arguments.specs.CommandGrammar.{in_timeout, is_quiet, is_quiet_value, IsTimeout, ArePerhaps, IsLock, IsRead, AreArgumentsOf, AreAdded, IsCommand, AreCommands, DeviceTree, claim_of, naming, opening}
+use Rattle.mlk_naked.specs.Naked.{State, command, run}
+use Rattle.mlk_naked.proofs.Kept.{action_keeps, named_as}
 use Rattle.mlk_routine.specs.RoutineGrammar.{IsLine, IsBody, IsRoutine, heads_of}
 use Rattle.mlk_routine_laws.specs.Timeouts.{in_any_order, locks_in_any_order, reads_in_any_order, runs_in_any_order, RunInAnyOrder, LineInAnyOrder, TimeoutsInAnyOrder}
 use Rattle.mlk_routine_laws.proofs.ReadTrees.{each_line, list_holds, newing_as}
@@ -92,9 +94,20 @@ commands_timed d level loops at (then_command c rest) s (text, gap, following, j
 commands_timed d level loops at (then_for column index control rest) s (text, gap, following, joined, head, counted, few, gapped, more) =
     commands_timed d level (suc loops) _ rest following more
 
+-- and naming changes no argument of LOCK and READ
+timed_same : (d : Dialect) (s : State) (c : CommandTree) → runs_in_any_order d (command s c).0 ≡ runs_in_any_order d c
+timed_same d s (Does column None a) = action_keeps (λ a. runs_in_any_order d (Does column None a)) (λ ts us. refl) (λ ts us. refl) (λ ts us. refl) (λ t u. refl) (λ ts us. refl) (λ ts us. refl) s a
+timed_same d s (Does column (Some t) a) = action_keeps (λ a. runs_in_any_order d (Does column (Some t) a)) (λ ts us. refl) (λ ts us. refl) (λ ts us. refl) (λ t u. refl) (λ ts us. refl) (λ ts us. refl) _ a
+
+timed_kept : (d : Dialect) (s : State) (cs : CommandTrees) → RunInAnyOrder d cs → RunInAnyOrder d (run s cs).0
+timed_kept d s finished h = tt
+timed_kept d s (then_command c rest) h = (timed_same d s c ∙ h.0, timed_kept d (command s c).1 rest h.1)
+timed_kept d s (then_for column index control rest) h = timed_kept d (s.0, None) rest h
+
 body_timed : (d : Dialect) (level at : ℕ) (cs : CommandTrees) (s : List ℕ) → IsBody d level at cs s → RunInAnyOrder d cs
 body_timed d level at cs s (inl (first, none, comment)) = subst (RunInAnyOrder d) (sym none) tt
-body_timed d level at cs s (inr (periods, start, text, comment, joined, is, few, started, are, after)) = commands_timed d level 0 _ cs text are
+body_timed d level at cs s (inr (periods, start, tail, joined, is, few, started, (read, text, comment, parts, are, after, names))) =
+    named_as (RunInAnyOrder d) (timed_kept d) _ read cs names (commands_timed d level 0 _ read text are)
 
 line_timed : (d : Dialect) (n : ℕ) (head : HeadTree) (s : List ℕ) → IsLine d n head s → LineInAnyOrder d head
 line_timed d n (LineHead number level end label formals commands) s (front, body, joined, counted, ended, at, level_is, is) = body_timed d level _ commands body is

@@ -1,0 +1,56 @@
+-- The heads of expressions, from the code's values to trees.
+use Rattle.std.proofs.Common.{◌≡◌, refl, ap, ◌∙◌, ℕ, List, [], ◌∷◌, Vec, Box, Global}
+use Rattle.std.specs.Prelude.{◌&&◌}
+use Rattle.std.specs.List.{list_all}
+use Rattle.mlk_text.specs.declared.operator.Op.{Op}
+use Rattle.mlk_text.specs.declared.operator.UnaryOp.{UnaryOp}
+use Rattle.mlk_syntax.specs.declared.expr.Expr.{Expr}
+use Rattle.mlk_syntax.specs.declared.expr.Subscript.{Subscript}
+use Rattle.mlk_syntax.specs.declared.expr.Function.{Function}
+use Rattle.mlk_syntax.specs.declared.expr.Expr.TheVariants as rust
+use Rattle.mlk_syntax.specs.ExprTrees.{Func, no_trees, tree_of, trees, links, trees_from, links_from}
+use Rattle.mlk_syntax.proofs.Variants.{tree_func, tree_local, tree_global, tree_unary, tree_binary}
+use Rattle.mlk_expr.specs.declared.context.Allows.TheVariants.{NoTouches}
+use Rattle.mlk_expr.specs.Touches.{subs_stand, trees_may, links_may}
+use Rattle.mlk_expr.specs.Quiet.{quiet, quiet_link}
+use Rattle.mlk_naked.specs.Naked.{head, refers, is_alone}
+
+trees_all : (es : List Expr) → trees_may NoTouches (trees_from (trees es)) ≡ list_all quiet es
+trees_all [] = refl
+trees_all (e ∷ es) = ap (λ b. quiet e && b) (trees_all es)
+
+links_all : (ls : List (Op × Expr)) → links_may NoTouches (links_from (links ls)) ≡ list_all quiet_link ls
+links_all [] = refl
+links_all (l ∷ ls) = ap (λ b. quiet_link l && b) (links_all ls)
+
+pub alone_local : (name : List ℕ) (v : Vec Subscript Global) → is_alone (tree_of (rust.Local name v)) ≡ subs_stand NoTouches (tree_of (rust.Local name v))
+alone_local name v = rw (tree_local name v) refl
+
+pub alone_global : (column : ℕ) (name : List ℕ) (v : Vec Subscript Global) → is_alone (tree_of (rust.Global column name v)) ≡ subs_stand NoTouches (tree_of (rust.Global column name v))
+alone_global column name v = rw (tree_global column name v) refl
+
+pub alone_unary : (op : UnaryOp) (b : Box Expr Global) → is_alone (tree_of (rust.Unary op b)) ≡ is_alone (tree_of b.value)
+alone_unary op b = ap is_alone (tree_unary op b)
+
+pub alone_binary : (b : Box Expr Global) (v : Vec (Op × Expr) Global) → is_alone (tree_of (rust.Binary b v)) ≡ (is_alone (tree_of b.value) && list_all quiet_link v.items)
+alone_binary b v = ap is_alone (tree_binary b v) ∙ ap (λ rest. is_alone (tree_of b.value) && rest) (links_all v.items)
+
+pub alone_func : (f : Function) (v : Vec Expr Global) → is_alone (tree_of (rust.Func f v)) ≡ is_alone (Func f (trees_from (trees v.items)))
+alone_func f v = ap is_alone (tree_func f v)
+
+pub alone_first : (f : Function) (first : Expr) (more : List Expr) → is_alone (Func f (trees_from (trees (first ∷ more)))) ≡ (refers f && (is_alone (tree_of first) && list_all quiet more))
+alone_first f first more = ap (λ rest. refers f && (is_alone (tree_of first) && rest)) (trees_all more)
+
+pub head_unary : (op : UnaryOp) (b : Box Expr Global) → head (tree_of (rust.Unary op b)) ≡ head (tree_of b.value)
+head_unary op b = ap head (tree_unary op b)
+
+pub head_binary : (b : Box Expr Global) (v : Vec (Op × Expr) Global) → head (tree_of (rust.Binary b v)) ≡ head (tree_of b.value)
+head_binary b v = ap head (tree_binary b v)
+
+pub head_func : (f : Function) (v : Vec Expr Global) (first : Expr) (more : List Expr) → v.items ≡ first ∷ more → head (tree_of (rust.Func f v)) ≡ head (tree_of first)
+head_func f v first more is = ap head (tree_func f v) ∙ ap (λ es. head (Func f (trees_from (trees es)))) is
+
+pub head_none : (f : Function) (v : Vec Expr Global) → v.items ≡ [] → head (tree_of (rust.Func f v)) ≡ tree_of (rust.Func f v)
+head_none f v is =
+    let whole : tree_of (rust.Func f v) ≡ Func f no_trees = tree_func f v ∙ ap (λ es. Func f (trees_from (trees es))) is in
+    rw whole refl

@@ -1,0 +1,4 @@
+pub mod Each
+pub mod Heads
+pub mod Kept
+pub mod MarkedTexts
