@@ -21,6 +21,9 @@ const DEVICE: &str =
 const TRAP: &str =
     "`--dialect extended` reads SET of it to code such as \"HALT\" or \"L  N  D LABEL^ROUTINE H\"";
 
+const NAKED: &str =
+    "`--dialect extended` reads it, if another argument before it on the line says which global";
+
 const TAB: &str = "`--dialect extended` reads a TAB as a space";
 
 // The name of the function or the special variable at `column`, without its `$`.
@@ -98,6 +101,7 @@ pub fn extended_note(
             variable_note(name_at(line, column), rest)
         }
         Some(LeftOut::Command(word)) => command_note(word.as_bytes()),
+        Some(LeftOut::Naked) => Some(NAKED),
         Some(_) => None,
         None => {
             let (front, rest) = split_at_column(line, column);
