@@ -7,13 +7,13 @@ use Rattle.mlk_naked.specs.Naked.{State, action, command, run, all_named, named}
 
 -- what holds of each action and itself, and of actions of one kind, holds of an action and what becomes of it
 module _ (P : ActionTree → ActionTree → Type 0)
-  (same : (a : ActionTree) → P a a)
-  (hangs : (ts us : List Tree) → P (Hang ts) (Hang us))
-  (ifs : (ts us : List Tree) → P (If ts) (If us))
-  (kills : (ts us : List KillTree) → P (Kill ts) (Kill us))
-  (quits : (t u : Tree) → P (Quit (Some t)) (Quit (Some u)))
-  (sets : (ts us : List SetTree) → P (Set ts) (Set us))
-  (writes : (ts us : List WriteTree) → P (Write ts) (Write us)) where
+    (same : (a : ActionTree) → P a a)
+    (hangs : (ts us : List Tree) → P (Hang ts) (Hang us))
+    (ifs : (ts us : List Tree) → P (If ts) (If us))
+    (kills : (ts us : List KillTree) → P (Kill ts) (Kill us))
+    (quits : (t u : Tree) → P (Quit (Some t)) (Quit (Some u)))
+    (sets : (ts us : List SetTree) → P (Set ts) (Set us))
+    (writes : (ts us : List WriteTree) → P (Write ts) (Write us)) where
   action_as : (s : State) (a : ActionTree) → P a (action s a).0
   action_as s (Do calls) = same (Do calls)
   action_as s Else = same Else

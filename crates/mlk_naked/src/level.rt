@@ -25,10 +25,16 @@ impl Simple {
     {
         match e {
             Expr::Lit(value) => Ok(Some(Simple::Text(value.copy()?))),
-            Expr::Local(name, subscripts) if subscripts.is_empty() => {
+            Expr::Local(name, subscripts) => {
+                if !subscripts.is_empty() {
+                    return Ok(None);
+                }
                 Ok(Some(Simple::Local(name.copy()?)))
             }
-            Expr::Special(Special::Job) => Ok(Some(Simple::Job)),
+            Expr::Special(special) => match special {
+                Special::Job => Ok(Some(Simple::Job)),
+                _ => Ok(None),
+            },
             _ => Ok(None),
         }
     }
@@ -61,6 +67,7 @@ pub(crate) struct LastReference {
 }
 
 // The subscripts `subscripts`, if they keep their values until a local is changed.
+#[tactic(auto, using(crate::proofs::Levels::one_stable, crate::proofs::Levels::one_unstable))]
 fn simple_subscripts(
     alloc: Global,
     subscripts: &[Subscript],
@@ -79,6 +86,7 @@ fn simple_subscripts(
 
 impl LastReference {
     /// What a naked reference continues after the reference `e`.
+    #[tactic(auto, using(crate::proofs::Levels::level_global, crate::proofs::Levels::level_none))]
     pub(crate) fn of(alloc: Global, e: &Expr) -> Result<Option<LastReference>, AllocError>
         ensures { IfOk result (λ o. option_map level_in o ≡ level_of (tree_of e.now)) }
     {
@@ -97,12 +105,13 @@ impl LastReference {
 
     /// Whether one of the subscripts is the local `local`.
     pub(crate) fn mentions(&self, local: &Name) -> bool
-        ensures { result ≡ list_any (is_local_of local.now) (level_in self.now).1 }
+        ensures { result ≡ list_any (λ simple. is_local_of local.now (simple_tree simple)) self.now.front.items }
     {
         self.front.iter().any(|simple| simple.is_local(local))
     }
 
     /// The subscripts of the naked reference in column `column`, whose own are `own`.
+    #[tactic(auto, using(crate::proofs::Levels::subs_joined))]
     pub(crate) fn followed_by(
         &self,
         alloc: Global,

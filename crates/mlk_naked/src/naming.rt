@@ -25,6 +25,7 @@ pub(crate) struct Naming {
 }
 
 // Gives the head of `e`, the naked reference in column `column`, the name that continues `last`.
+#[tactic(auto, using(crate::proofs::Heads::named_unary, crate::proofs::Heads::named_binary, crate::proofs::Heads::named_func, crate::proofs::Heads::named_none, crate::proofs::Heads::named_local))]
 fn name_head(
     alloc: Global,
     last: &LastReference,
@@ -94,6 +95,7 @@ impl Naming {
     }
 
     // Changes the local `local`.
+    #[tactic(auto, using(crate::proofs::Levels::any_simple))]
     fn forget(&mut self, local: &Name)
         ensures { state_of self.new ≡ (self.old.left.items, forget local.now (state_of self.old).1) }
     {

@@ -132,12 +132,12 @@ tail_alone d level line at less a n s b u rest h (other, also, others) e =
     let two : drop at line ≡ u = h ∙ ap (λ l. u ++ l) e ∙ append-nil u in
     let m = take at line ++ marked d (drop at line) in
     let low : at ≤ length m =
-        let front = length-take-le at line less in
-        let size = length-append (take at line) (marked d (drop at line)) in
-        omega (arith, front, size)
+    let front = length-take-le at line less in
+    let size = length-append (take at line) (marked d (drop at line)) in
+    omega (arith, front, size)
     in
     let on_line : (t : List ℕ) → drop at line ≡ t → drop at m ≡ marked d t ++ [] =
-        λ t is. drop_marked d level line m at less refl ∙ ap (marked d) is ∙ sym (append-nil (marked d t))
+    λ t is. drop_marked d level line m at less refl ∙ ap (marked d) is ∙ sym (append-nil (marked d t))
     in
     let there = stands_at (IsReadTailOf d level) AtEnd m at s.spelled.0 (marked d s.text) [] low (on_line s.text one) s.spelled.1 refl in
     let same = read_tail_alone d level m at low s.spelled.0 _ there.0 other (marked d u) [] (on_line u two) also refl in
