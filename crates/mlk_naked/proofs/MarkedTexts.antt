@@ -14,7 +14,7 @@ marked_length quoted (b ∷ xs) = go (is_comment quoted b) (marked_length (quote
     go false ih = ap suc ih
 
 pub none_marked : (quoted : Bool) (at : ℕ) (s : List ℕ) → places_in at quoted s ≡ [] → marked_in quoted s ≡ s
-unfolding (marked_in, places_in)
+unfolding marked_in places_in
 none_marked quoted at [] h = refl
 none_marked quoted at (b ∷ xs) h = go (is_comment quoted b) h (none_marked (quoted_behind quoted b) (suc at) xs)
   where

@@ -23,14 +23,14 @@ use Rattle.mlk_routine.specs.Lines.{OpeningEnds, AtEnd, IsReadTailOf, IsTailOf, 
 
 -- a comment has no marks
 pub comment_kept : (d : Dialect) (k : ℕ) (s : List ℕ) → IsComment s → (marked d s ≡ s) × (naked_places d k s ≡ [])
-unfolding (marked_in, places_in)
+unfolding marked_in places_in
 comment_kept dialect.Standard k s is = (refl, refl)
 comment_kept dialect.Extended k s (inl none) = subst (λ l. (marked_in false l ≡ l) × (places_in k false l ≡ [])) (sym none) (refl, refl)
 comment_kept dialect.Extended k s (inr (text, is, good)) = subst (λ l. (marked_in false l ≡ l) × (places_in k false l ≡ [])) (sym is) (refl, refl)
 
 -- and no other text becomes one
 pub comment_before : (d : Dialect) (k : ℕ) (s : List ℕ) → IsComment (marked d s) → IsComment s × (naked_places d k s ≡ [])
-unfolding (marked_in, places_in)
+unfolding marked_in places_in
 comment_before dialect.Standard k s is = (is, refl)
 comment_before dialect.Extended k [] is = (inl refl, refl)
 comment_before dialect.Extended k (b ∷ xs) is = go (cases_Bool (b == 59)) is
@@ -98,12 +98,14 @@ module _ (d : Dialect) (level : Option ℕ) (line m : List ℕ) (at : ℕ) (less
   named_found read c f names =
       let whole : f.0.text ≡ marked d (drop at line) = sym (f.0.joined ∙ ap (λ l. f.0.text ++ l) f.0.ended ∙ append-nil f.0.text) ∙ drop_marked in
       let joined : drop at line ≡ drop at line ++ drop (length line) line = sym (append-nil (drop at line)) ∙ ap (λ l. drop at line ++ l) (sym (drop_all line)) in
-      let stands : Stands (IsTailOf d level) AtEnd line at c (length line) = record { text = drop at line; within = omega arith; joined = joined; spelled = (read, subst (IsReadTailOf d level (suc at) read) whole f.0.spelled, names); ended = drop_all line } in
-      (stands, λ b u rest h (other, is, others) e.
-          let same_read = (f.1 other (marked d u) [] (there u rest h e) is refl).0 in
-          let same_places = ap (naked_places d (suc at)) (tail_whole u rest h e) in
-          let two : named (naked_places d (suc at) (drop at line)) read ≡ Some b = ap (λ p. named p read) same_places ∙ ap (named (naked_places d (suc at) u)) (sym same_read) ∙ others in
-          (cc (sym two ∙ names), e ∙ sym (drop_all line)))
+      let stands : Stands (IsTailOf d level) AtEnd line at c (length line) = record { text = drop at line; within = omega arith; joined = joined; spelled = (read, subst (IsReadTailOf d level (suc at) read) whole f.0.spelled, names); ended = drop_all line } in (
+        stands,
+        λ b u rest h (other, is, others) e.
+            let same_read = (f.1 other (marked d u) [] (there u rest h e) is refl).0 in
+            let same_places = ap (naked_places d (suc at)) (tail_whole u rest h e) in
+            let two : named (naked_places d (suc at) (drop at line)) read ≡ Some b = ap (λ p. named p read) same_places ∙ ap (named (naked_places d (suc at) u)) (sym same_read) ∙ others in
+            (cc (sym two ∙ names), e ∙ sym (drop_all line)),
+      )
 
   pub unnamed_nowhere : (read : CommandTrees) → Found (IsReadTailOf d level) AtEnd m at read (length m) → named (naked_places d (suc at) (drop at line)) read ≡ None
       → Nowhere (IsTailOf d level) AtEnd line at
