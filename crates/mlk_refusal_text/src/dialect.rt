@@ -18,6 +18,10 @@ const SIGNS: &str = "`--dialect extended` reads `<=` and `>=`";
 const DEVICE: &str =
     "`--dialect extended` reads it, if no `^`, `$` or `@` is behind a device's colon";
 
+const SHOWN: &str = "`--dialect extended` reads it, of values that touch no global and call nothing";
+
+const READ: &str = "`--dialect extended` reads it";
+
 const TRAP: &str =
     "`--dialect extended` reads SET of it to code such as \"HALT\" or \"L  N  D LABEL^ROUTINE H\"";
 
@@ -67,6 +71,8 @@ fn variable_note(name: &[u8], rest: &[u8]) -> Option<&'static str> {
 fn command_note(word: &[u8]) -> Option<&'static str> {
     match word {
         b"OPEN" | b"USE" | b"CLOSE" => Some(DEVICE),
+        b"ZW" | b"ZWR" | b"ZWRITE" | b"ZSH" | b"ZSHOW" => Some(SHOWN),
+        b"ZHALT" => Some(READ),
         _ => None,
     }
 }

@@ -91,6 +91,9 @@ added_space : (w : AddedWord) (k : ℕ) (a : ActionTree) (s : List ℕ) → AreA
 added_space added.Close k a s is = devices_space naming k a s is
 added_space added.Open k a s is = devices_space opening k a s is
 added_space added.Use k a s is = devices_space naming k a s is
+added_space added.ZHalt k a s (same, is) = inl is
+added_space added.ZShow k a s (values, same, (r, is, list)) = inr (r, is)
+added_space added.ZWrite k a s (values, same, (r, is, list)) = inr (r, is)
 
 action_space : (w : Word) (d : Dialect) (returns : Bool) (k : ℕ) (a : ActionTree) (s : List ℕ) → IsActionOf w d returns k a s → (s ≡ []) ⊎ ((r : List ℕ) × (s ≡ 32 ∷ r))
 action_space w d returns k a s (inl (means, is)) = arguments_space d returns k a s is
@@ -158,6 +161,9 @@ added_condition : (w : AddedWord) (k : ℕ) (a : ActionTree) (s : List ℕ) → 
 added_condition added.Close k a s (devices, same, list) = ap may_have_condition same
 added_condition added.Open k a s (devices, same, list) = ap may_have_condition same ∙ opening_as (λ a. may_have_condition a ≡ true) (λ devices. refl) (λ l more. refl) devices
 added_condition added.Use k a s (devices, same, list) = ap may_have_condition same
+added_condition added.ZHalt k a s (same, is) = ap may_have_condition same
+added_condition added.ZShow k a s (values, same, list) = ap may_have_condition same
+added_condition added.ZWrite k a s (values, same, list) = ap may_have_condition same
 
 trap_condition : (k : ℕ) (a : ActionTree) (s : List ℕ) → IsTrap k a s → may_have_condition a ≡ true
 trap_condition k a s (name, code, is, trap, plain, inl (same, ends)) = ap may_have_condition same

@@ -20,17 +20,18 @@ use Rattle.mlk_syntax.specs.Trees.{DoTree, CallTree, KillTree, LockTree, LockNam
 use Rattle.mlk_syntax.specs.Trees.{ActionTree, Do, Else, Halt, Hang, If, Job, Kill, Lock, Merge, New, Quit, Read, Set, Write}
 use Rattle.mlk_routine_arguments.specs.PartsRead.{Found, Nowhere, Denied}
 use Rattle.mlk_routine_arguments.specs.Faults.{IsFaulty}
-use Rattle.mlk_expr.specs.Grammar.{AreNext}
+use Rattle.mlk_expr.specs.Grammar.{AreNext, IsExprWhere}
 use Rattle.mlk_routine_arguments.specs.Ends.{is_stop, is_bare_end, StopEnds, TrapEnds}
 use Rattle.mlk_routine_arguments.specs.Traps.{nothing, IsTrap}
 use Rattle.mlk_routine_arguments.specs.TrapParts.{trap_value, sets_trap}
 use Rattle.mlk_routine_arguments.proofs.Traps.{trap_sets, sets_no_trap}
 use Rattle.mlk_routine_arguments.specs.CommandWords.{has_any, has_arguments}
-use Rattle.mlk_routine_arguments.specs.CommandGrammar.{IsValue, IsNew, IsSet, AreSome, ArePerhaps, IsQuit, AreArgumentsOf, DeviceTree, IsDevice, claim_of, naming, opening, AreDevices, IsNewed, locals_of, new_or_nothing, newing, AreAdded}
+use Rattle.mlk_routine_arguments.specs.CommandGrammar.{IsValue, IsNew, IsSet, AreSome, ArePerhaps, IsQuit, AreArgumentsOf, DeviceTree, IsDevice, claim_of, naming, opening, AreDevices, AreShown, IsHalt, IsNewed, locals_of, new_or_nothing, newing, AreAdded}
 use Rattle.mlk_routine_arguments.specs.Begins.{front_begins, expr_begins}
-use Rattle.mlk_expr.specs.declared.context.Allows.TheVariants.{Everything}
+use Rattle.mlk_expr.specs.declared.context.Allows.TheVariants.{Everything, NoTouches}
 use Rattle.mlk_routine_arguments.specs.declared.details.Device.{Device}
 use Rattle.mlk_routine_arguments.specs.declared.newed.NewItem.{NewItem}
+use Rattle.mlk_routine_arguments.specs.declared.shown.Shown.{Shown}
 use Rattle.mlk_routine_arguments.specs.Kinds.{device_of, newed_of, kind, halts_or_hangs, Means, IsActionOf, ActionEnds, halting}
 use Rattle.mlk_routine_arguments.proofs.Bytes.{AfterByte}
 use Rattle.mlk_routine_arguments.proofs.Sequences.{Turned}
@@ -160,6 +161,22 @@ module _ (line : List ℕ) (at : ℕ) where
 
   pub naming_turned : Turned line at (AreSome IsDevice) (λ devices. StopEnds true) (AreDevices naming) ActionEnds naming
   naming_turned = devices_turned naming (λ devices. refl)
+
+-- commands that show values, and ZHALT
+module _ (line : List ℕ) (at : ℕ) where
+  pub showing_turned : Turned line at (AreSome (IsExprWhere NoTouches)) (λ values. StopEnds true) AreShown ActionEnds Hang
+  showing_turned = record {
+    into = λ values s is. (values, refl, is);
+    ends = λ values rest e. e;
+    apart = λ a u rest h (values, same, list) e. (values, same, list, subst (λ b. StopEnds b rest) (ap has_arguments same) e);
+  }
+
+  pub halt_turned : Turned {A = Unit {0}} line at (λ k c s. s ≡ []) (λ c. StopEnds false) IsHalt ActionEnds (λ c. Halt)
+  halt_turned = record {
+    into = λ c s is. (refl, is);
+    ends = λ c rest e. e;
+    apart = λ a u rest h (same, is) e. (tt, same, is, subst (λ b. StopEnds b rest) (ap has_arguments same) e);
+  }
 
 -- what the extended dialect adds
 pub added_turned : (w : AddedWord) (d : Dialect) (returns : Bool) (line : List ℕ) (at : ℕ) → Turned line at (AreAdded w) ActionEnds (IsActionOf (word.Added w) d returns) ActionEnds (λ a. a)
@@ -300,6 +317,10 @@ some_locals items [] some same h = cc h
 some_locals items (one ∷ news) some same h = ap new_or_nothing same ∙ newing_as items some
 
 -- the action from what the code has
+pub values_shown : (items : List Shown) → trees (map (λ item. item.value) items) ≡ map (λ item. tree_of item.value) items
+values_shown [] = refl
+values_shown (item ∷ items) = ap (λ l. tree_of item.value ∷ l) (values_shown items)
+
 pub names_named : (devices : List Device) → trees (map (λ device. device.name) devices) ≡ map (λ device. device.0) (map device_of devices)
 names_named [] = refl
 names_named (device ∷ devices) = ap (λ l. tree_of device.name ∷ l) (names_named devices)

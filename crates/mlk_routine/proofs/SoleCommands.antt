@@ -7,9 +7,9 @@ use Rattle.std.proofs.lemmas.Option.{same_Some}
 use Rattle.mlk_dialect.specs.declared.dialect.Dialect.{Dialect}
 use Rattle.mlk_dialect.specs.declared.dialect.Dialect.TheVariants as dialect
 use Rattle.mlk_text.specs.Lexemes.{is_letter, word_at}
-use Rattle.mlk_expr.specs.declared.context.Allows.TheVariants.{Everything}
+use Rattle.mlk_expr.specs.declared.context.Allows.TheVariants.{Everything, NoTouches}
 use Rattle.mlk_syntax.specs.ExprTrees.{Tree}
-use Rattle.mlk_expr.specs.Grammar.{Spelled, IsList}
+use Rattle.mlk_expr.specs.Grammar.{Spelled, IsList, IsExprWhere}
 use Rattle.mlk_expr.specs.Theorem.{ExprEnds}
 use Rattle.mlk_routine_arguments.specs.declared.word.Word.{Word}
 use Rattle.mlk_routine_arguments.specs.declared.word.Word.TheVariants as word
@@ -28,7 +28,7 @@ use Rattle.mlk_routine_arguments.proofs.Bytes.{AfterByte}
 use Rattle.mlk_routine_arguments.proofs.Stretches.{one_run}
 use Rattle.mlk_routine_arguments.proofs.Stopping.{bare_found, list_end, value_end}
 use Rattle.mlk_routine_arguments.proofs.Words.{either_for}
-use Rattle.mlk_routine.proofs.Doing.{opened, opening_turned, naming_turned, added_turned, set_turned, trap_turned, new_turned, news_turned, halting_turned, no_value_found}
+use Rattle.mlk_routine.proofs.Doing.{opened, opening_turned, naming_turned, showing_turned, halt_turned, added_turned, set_turned, trap_turned, new_turned, news_turned, halting_turned, no_value_found}
 use Rattle.mlk_routine.proofs.Commanding.{IsTail, TailEnds, tail_parts, command_parts}
 use Rattle.mlk_routine.proofs.Looping.{command_letter, head_letter, spaced_parts, GapThen, forget, has_own, Returns, then_parts, ended_found, no_control_found, control_turned, control_end, IsForWord, ForWordEnds, head_parts, loop_parts}
 use Rattle.mlk_routine_arguments.proofs.Sole.{Sole, Alone, sole_only, sole_found, sole_within, alone_after, sole_both, sole_as, sole_turned}
@@ -81,10 +81,16 @@ nothing_alone line at less = sole_only tt at (λ c u rest h is e. (refl, sym (h 
 devices_alone : Alone (AreSome IsDevice) (λ devices. StopEnds true)
 devices_alone = some_alone IsDevice DeviceEnds device_stop device_begins device_alone
 
+shown_alone : Alone (AreSome (IsExprWhere NoTouches)) (λ values. StopEnds true)
+shown_alone = some_alone (IsExprWhere NoTouches) ExprEnds expr_stop (expr_begins NoTouches) (expr_alone NoTouches)
+
 added_alone : (w : AddedWord) → Alone (AreAdded w) ActionEnds
 added_alone added.Close line at less = sole_turned (naming_turned line at) (devices_alone line at less)
 added_alone added.Open line at less = sole_turned (opening_turned line at) (devices_alone line at less)
 added_alone added.Use line at less = sole_turned (naming_turned line at) (devices_alone line at less)
+added_alone added.ZHalt line at less = sole_turned (halt_turned line at) (nothing_alone line at less)
+added_alone added.ZShow line at less = sole_turned (showing_turned line at) (shown_alone line at less)
+added_alone added.ZWrite line at less = sole_turned (showing_turned line at) (shown_alone line at less)
 
 -- what a command does, by its word
 action_alone : (w : Word) (d : Dialect) (returns : Bool) → Alone (IsActionOf w d returns) ActionEnds

@@ -1,10 +1,10 @@
 -- The commands and the comment of a line.
 use Rattle.std.proofs.Common.{◌≡◌, ◌<◌, ◌≤◌, ℕ, suc, List, [], ◌∷◌, ◌++◌, length, drop, Some, None, Bool, true, false, inl, inr, refl, sym, ap, ◌∙◌, arith, subst, append-nil, bytes_eq, leb-true}
-use Rattle.std.specs.Prelude.{Option, ◌&&◌, ◌==◌, ◌⊎◌, nat_le, codes}
+use Rattle.std.specs.Prelude.{◌||◌, Option, ◌&&◌, ◌==◌, ◌⊎◌, nat_le, codes}
 use Rattle.std.specs.List.{list_all, prefix_len}
 use Rattle.std.specs.Str.{str_to_ascii_lowercase}
 use Rattle.std.specs.Char.{to_ascii_lowercase}
-use Rattle.std.proofs.lemmas.Bool.{cases_Bool, and_parts}
+use Rattle.std.proofs.lemmas.Bool.{cases_Bool, and_parts, or_cases}
 use Rattle.std.proofs.lemmas.Bool.Decides.{nat_tests}
 use Rattle.std.proofs.lemmas.Slice.Eq.{bytes_eq-Decides}
 use Rattle.std.proofs.lemmas.Str.Ascii.{lowercase_is}
@@ -68,6 +68,12 @@ unfolding is_added
 added_lettered added.Close w h = either_lettered (codes "C") (codes "CLOSE") w 99 _ _ refl refl (omega arith) h
 added_lettered added.Open w h = either_lettered (codes "O") (codes "OPEN") w 111 _ _ refl refl (omega arith) h
 added_lettered added.Use w h = either_lettered (codes "U") (codes "USE") w 117 _ _ refl refl (omega arith) h
+added_lettered added.ZHalt w h = either_lettered (codes "ZHALT") (codes "ZHALT") w 122 _ _ refl refl (omega arith) h
+added_lettered added.ZShow w h = either_lettered (codes "ZSH") (codes "ZSHOW") w 122 _ _ refl refl (omega arith) h
+added_lettered added.ZWrite w h = elim (or_cases (is_either (codes "ZW") (codes "ZWR") w) (is_either (codes "ZWRITE") (codes "ZWRITE") w) h) [
+  | inl e ↦ either_lettered (codes "ZW") (codes "ZWR") w 122 _ _ refl refl (omega arith) e
+  | inr e ↦ either_lettered (codes "ZWRITE") (codes "ZWRITE") w 122 _ _ refl refl (omega arith) e
+]
 
 for_lettered : (w : List ℕ) → is_for w ≡ true → Lettered w
 unfolding is_for

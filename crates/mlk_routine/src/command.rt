@@ -9,14 +9,14 @@ ghost use Rattle.mlk_routine_arguments.specs.Ends.{StopEnds, CommandEnd};
 ghost use Rattle.mlk_syntax.specs.declared.command.Sign.TheVariants as sign;
 ghost use Rattle.mlk_routine_arguments.specs.declared.word.Word.TheVariants as words;
 ghost use Rattle.mlk_syntax.specs.Views.{action_of, command_of, lock_of, new_of};
-ghost use Rattle.mlk_routine_arguments.specs.CommandGrammar.{After, IsValue, IsQuit, IsCommand, naming, opening, newing, locals_of, AreDevices, AreAdded};
+ghost use Rattle.mlk_routine_arguments.specs.CommandGrammar.{After, IsValue, IsQuit, IsCommand, naming, opening, newing, locals_of, AreDevices, AreShown, AreAdded};
 ghost use Rattle.mlk_routine_arguments.specs.Kinds.{IsConditionOf, ConditionEnds, IsActionOf, ActionEnds, IsNothing, halting, device_of, newed_of};
 ghost use Rattle.mlk_syntax.specs.Trees.{Quit, LockNames};
 
 use mlk_dialect::Dialect;
 use mlk_expr::Allows;
 use mlk_routine_arguments::{
-    AddedWord, Device, NewItem, Word, command_word, expr_after, expression, first_argument,
+    AddedWord, Device, NewItem, Shown, Word, command_word, expr_after, expression, first_argument,
     has_byte, is_bare, is_command_end, leaves_out, nothing, optional_arguments, refusal_at,
     required_arguments, sets_trap, trap_action,
 };
@@ -256,6 +256,27 @@ fn use_action(
     Ok((naming(alloc, devices)?, next))
 }
 
+// The values of `items`, as the tree has them.
+fn values(alloc: Global, items: Vec<Shown>) -> Result<Vec<Expr>, AllocError>
+    ensures { IfOk result (λ v. v.items ≡ map (λ item. item.value) items.items) }
+{
+    items.into_iter().map(|item| item.value).collect(alloc)
+}
+
+/// Reads the values of ZWRITE and ZSHOW: the action, which is that of HANG, and the byte after it.
+fn show_action(
+    alloc: Global,
+    dialect: Dialect,
+    line: &[u8],
+    at: usize,
+) -> Result<(Action, usize), Failure<Fault>>
+    requires { at ≤ length line.now }
+    ensures { ReadsPart action_of AreShown ActionEnds line.now at result }
+{
+    let (items, next) = required_arguments(alloc, dialect, line, at)?;
+    Ok((Action::Hang(values(alloc, items)?), next))
+}
+
 /// Reads the arguments of a command that only the extended dialect has: its action, and the byte after it.
 fn added_action(
     alloc: Global,
@@ -271,6 +292,9 @@ fn added_action(
         AddedWord::Close => use_action(alloc, dialect, line, at),
         AddedWord::Open => open_action(alloc, dialect, line, at),
         AddedWord::Use => use_action(alloc, dialect, line, at),
+        AddedWord::ZHalt => Ok((Action::Halt, no_arguments(alloc, line, at)?)),
+        AddedWord::ZShow => show_action(alloc, dialect, line, at),
+        AddedWord::ZWrite => show_action(alloc, dialect, line, at),
     }
 }
 

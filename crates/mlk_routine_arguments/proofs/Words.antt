@@ -224,6 +224,12 @@ unfolding is_added word_of added_word_of is_written
 added_named added.Close s h = either_in dialect.Extended (codes "C") (codes "CLOSE") s (word.Added added.Close) h (refl, refl) (refl, refl)
 added_named added.Open s h = either_in dialect.Extended (codes "O") (codes "OPEN") s (word.Added added.Open) h (refl, refl) (refl, refl)
 added_named added.Use s h = either_in dialect.Extended (codes "U") (codes "USE") s (word.Added added.Use) h (refl, refl) (refl, refl)
+added_named added.ZHalt s h = either_in dialect.Extended (codes "ZHALT") (codes "ZHALT") s (word.Added added.ZHalt) h (refl, refl) (refl, refl)
+added_named added.ZShow s h = either_in dialect.Extended (codes "ZSH") (codes "ZSHOW") s (word.Added added.ZShow) h (refl, refl) (refl, refl)
+added_named added.ZWrite s h = elim (or_cases (is_either (codes "ZW") (codes "ZWR") s) (is_either (codes "ZWRITE") (codes "ZWRITE") s) h) [
+  | inl e ↦ either_in dialect.Extended (codes "ZW") (codes "ZWR") s (word.Added added.ZWrite) e (refl, refl) (refl, refl)
+  | inr e ↦ either_in dialect.Extended (codes "ZWRITE") (codes "ZWRITE") s (word.Added added.ZWrite) e (refl, refl) (refl, refl)
+]
 
 -- FOR's word is a word, and that of no other command
 pub either_for : (s : List ℕ) → is_for s ≡ true → IsWord s × (word_of s ≡ None)

@@ -279,6 +279,16 @@ opening devices = if list_any (λ device. device.1) devices then Lock (map claim
 abbrev pub AreDevices : (List DeviceTree → ActionTree) → ℕ → ActionTree → List ℕ → Type 0
 AreDevices does at action s = (devices : List DeviceTree) × (action ≡ does devices) × AreSome IsDevice at devices s
 
+-- What ZWRITE and ZSHOW show: values in which there are neither globals nor calls. They are evaluated as HANG evaluates its
+-- arguments; that nothing else happens is a premise about the system. Not read: ZWRITE and ZSHOW without arguments, ZWRITE of a
+-- global or of a pattern, ZSHOW into a variable.
+abbrev pub AreShown : ℕ → ActionTree → List ℕ → Type 0
+AreShown at action s = (values : List Tree) × (action ≡ Hang values) × AreSome (IsExprWhere NoTouches) at values s
+
+-- ZHALT, as HALT. Not read: its argument.
+abbrev pub IsHalt : ℕ → ActionTree → List ℕ → Type 0
+IsHalt at action s = (action ≡ Halt) × (s ≡ [])
+
 -- NEW in the extended dialect, which may name traps too. If it names nothing else, it does nothing.
 abbrev pub IsNewed : ℕ → Option NewTree → List ℕ → Type 0
 IsNewed at None s = is_new_trap s ≡ true
@@ -305,6 +315,9 @@ abbrev pub AreAdded : AddedWord → ℕ → ActionTree → List ℕ → Type 0
 AreAdded added.Close = AreDevices naming
 AreAdded added.Open = AreDevices opening
 AreAdded added.Use = AreDevices naming
+AreAdded added.ZHalt = IsHalt
+AreAdded added.ZShow = AreShown
+AreAdded added.ZWrite = AreShown
 
 -- a word, an optional postconditional, arguments
 abbrev pub IsWordWith : (List ℕ → Bool) → Option Tree → (ℕ → List ℕ → Type 0) → ℕ → List ℕ → Type 0

@@ -1,7 +1,7 @@
 -- The words of commands and what may follow them. Standard: commands; which of them are read is this project's own choice.
 -- Refused by name: BREAK, GOTO, VIEW, XECUTE, TSTART, TCOMMIT, TROLLBACK, TRESTART, the commands of events, all words that begin
--- with Z and, in the standard dialect, CLOSE, OPEN and USE.
-use Rattle.std.specs.Prelude.{ℕ, Bool, true, false, List, [], ◌∷◌, None, codes}
+-- with Z but for those that the extended dialect has and, in the standard dialect, CLOSE, OPEN and USE.
+use Rattle.std.specs.Prelude.{ℕ, Bool, true, false, ◌||◌, List, [], ◌∷◌, None, codes}
 use Rattle.mlk_expr_tokens.specs.Words.{is_either}
 use Rattle.mlk_routine_arguments.specs.declared.word.AddedWord.{AddedWord}
 use Rattle.mlk_routine_arguments.specs.declared.word.AddedWord.TheVariants as added
@@ -28,11 +28,14 @@ is_word_of (Write writes) = is_either (codes "W") (codes "WRITE")
 unfoldable pub is_for : List ℕ → Bool
 is_for = is_either (codes "F") (codes "FOR")
 
--- The words of the commands that only the extended dialect has. Standard: commands.
+-- The words of the commands that only the extended dialect has. Standard: commands; those with Z are of GT.M and YottaDB.
 unfoldable pub is_added : AddedWord → List ℕ → Bool
 is_added added.Close = is_either (codes "C") (codes "CLOSE")
 is_added added.Open = is_either (codes "O") (codes "OPEN")
 is_added added.Use = is_either (codes "U") (codes "USE")
+is_added added.ZHalt = is_either (codes "ZHALT") (codes "ZHALT")
+is_added added.ZShow = is_either (codes "ZSH") (codes "ZSHOW")
+is_added added.ZWrite = λ s. is_either (codes "ZW") (codes "ZWR") s || is_either (codes "ZWRITE") (codes "ZWRITE") s
 
 -- Whether a postconditional may follow the word. Standard: IF, ELSE, FOR.
 abbrev pub may_have_condition : ActionTree → Bool

@@ -87,7 +87,8 @@ word_of s = first_word all_words s
 
 -- the words that only the extended dialect has
 abbrev pub added_words : List Word
-added_words = word.Added added.Close ∷ word.Added added.Open ∷ word.Added added.Use ∷ []
+added_words = word.Added added.Close ∷ word.Added added.Open ∷ word.Added added.Use ∷ word.Added added.ZHalt ∷ word.Added added.ZShow
+    ∷ word.Added added.ZWrite ∷ []
 
 unfoldable pub added_word_of : List ℕ → Option Word
 added_word_of s = first_word added_words s

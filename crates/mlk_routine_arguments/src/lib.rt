@@ -15,6 +15,7 @@ mod part;
 mod quiet;
 mod run;
 mod set;
+mod shown;
 mod spacing;
 mod trap;
 mod word;
@@ -26,6 +27,7 @@ pub use newed::NewItem;
 pub use parameter::control;
 pub use part::{expr_after, expression, has_byte};
 pub use run::{past_spaces, text_bytes};
+pub use shown::Shown;
 pub use spacing::{
     first_argument, is_bare, is_command_end, is_commands_end, optional_arguments,
     required_arguments,

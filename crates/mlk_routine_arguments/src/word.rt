@@ -22,6 +22,9 @@ pub enum AddedWord {
     Close,
     Open,
     Use,
+    ZHalt,
+    ZShow,
+    ZWrite,
 }
 
 /// A command other than FOR, by its word.
@@ -112,15 +115,22 @@ fn word_of(word: &[u8]) -> Option<Word>
 fn added_word_of(word: &[u8]) -> Option<Word>
     ensures { result ≡ added_word_of word.now }
 {
-    if is_either(b"C", b"CLOSE", word) {
-        Some(Word::Added(AddedWord::Close))
+    let added = if is_either(b"C", b"CLOSE", word) {
+        AddedWord::Close
     } else if is_either(b"O", b"OPEN", word) {
-        Some(Word::Added(AddedWord::Open))
+        AddedWord::Open
     } else if is_either(b"U", b"USE", word) {
-        Some(Word::Added(AddedWord::Use))
+        AddedWord::Use
+    } else if is_either(b"ZHALT", b"ZHALT", word) {
+        AddedWord::ZHalt
+    } else if is_either(b"ZSH", b"ZSHOW", word) {
+        AddedWord::ZShow
+    } else if is_either(b"ZW", b"ZWR", word) || is_either(b"ZWRITE", b"ZWRITE", word) {
+        AddedWord::ZWrite
     } else {
-        None
-    }
+        return None;
+    };
+    Some(Word::Added(added))
 }
 
 // The command that `word` names in a dialect, or `None`.

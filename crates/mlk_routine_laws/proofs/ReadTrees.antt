@@ -70,7 +70,7 @@ routines-spelled d stem text (Named_routine name lines) (texts, stemmed, named, 
 no : {A : Type 0} → false ≡ true → A
 no h = absurd (cc h)
 
--- What only the extended dialect reads is HANG, LOCK, JOB or NEW.
+-- What only the extended dialect reads is HANG, LOCK, HALT, JOB or NEW.
 opening_as : (P : ActionTree → Type 0) → ((times : List Tree) → P (Hang times)) → ((locks : List LockTree) → P (Lock locks)) → (devices : List DeviceTree) → P (opening devices)
 opening_as P hangs locks devices = go (list_any (λ device. device.1) devices)
   where
@@ -78,10 +78,13 @@ opening_as P hangs locks devices = go (list_any (λ device. device.1) devices)
     go true = locks (map claim_of devices)
     go false = hangs (map (λ device. device.0) devices)
 
-added_as : (P : ActionTree → Type 0) → ((times : List Tree) → P (Hang times)) → ((locks : List LockTree) → P (Lock locks)) → (w : AddedWord) (at : ℕ) (a : ActionTree) (s : List ℕ) → AreAdded w at a s → P a
-added_as P hangs locks added.Close at a s (devices, same, list) = subst P (sym same) (hangs (map (λ device. device.0) devices))
-added_as P hangs locks added.Open at a s (devices, same, list) = subst P (sym same) (opening_as P hangs locks devices)
-added_as P hangs locks added.Use at a s (devices, same, list) = subst P (sym same) (hangs (map (λ device. device.0) devices))
+added_as : (P : ActionTree → Type 0) → ((times : List Tree) → P (Hang times)) → ((locks : List LockTree) → P (Lock locks)) → P Halt → (w : AddedWord) (at : ℕ) (a : ActionTree) (s : List ℕ) → AreAdded w at a s → P a
+added_as P hangs locks halts added.Close at a s (devices, same, list) = subst P (sym same) (hangs (map (λ device. device.0) devices))
+added_as P hangs locks halts added.Open at a s (devices, same, list) = subst P (sym same) (opening_as P hangs locks devices)
+added_as P hangs locks halts added.Use at a s (devices, same, list) = subst P (sym same) (hangs (map (λ device. device.0) devices))
+added_as P hangs locks halts added.ZHalt at a s (same, is) = subst P (sym same) halts
+added_as P hangs locks halts added.ZShow at a s (values, same, list) = subst P (sym same) (hangs values)
+added_as P hangs locks halts added.ZWrite at a s (values, same, list) = subst P (sym same) (hangs values)
 
 pub newing_as : (P : ActionTree → Type 0) → ((times : List Tree) → P (Hang times)) → ((news : List NewTree) → P (New news)) → (items : List (Option NewTree)) → P (newing items)
 newing_as P hangs news [] = news []
@@ -91,12 +94,12 @@ newing_as P hangs news (item ∷ items) = go (locals_of (item ∷ items))
     go [] = hangs (Lit [] ∷ [])
     go (x ∷ locals) = news (x ∷ locals)
 
-extended_as : (P : ActionTree → Type 0) → ((times : List Tree) → P (Hang times)) → ((locks : List LockTree) → P (Lock locks)) → ((calls : List CallTree) → P (Job calls)) → ((news : List NewTree) → P (New news))
+extended_as : (P : ActionTree → Type 0) → ((times : List Tree) → P (Hang times)) → ((locks : List LockTree) → P (Lock locks)) → P Halt → ((calls : List CallTree) → P (Job calls)) → ((news : List NewTree) → P (New news))
     → (condition : Option Tree) (a : ActionTree) (at : ℕ) (s : List ℕ) → IsExtended condition a at s → P a
-extended_as P hangs locks jobs news condition a at s (inl (w, (front, rest, joined, word, (front', rest', joined', cond, more)))) = added_as P hangs locks w _ a rest' more
-extended_as P hangs locks jobs news condition a at s (inr (inl (front, rest, joined, word, (front', rest', joined', cond, (name, code, is, trap, plain, inl (same, ends)))))) = subst P (sym same) (hangs (Lit [] ∷ []))
-extended_as P hangs locks jobs news condition a at s (inr (inl (front, rest, joined, word, (front', rest', joined', cond, (name, code, is, trap, plain, inr (call, same, restarts)))))) = subst P (sym same) (jobs (call ∷ []))
-extended_as P hangs locks jobs news condition a at s (inr (inr (front, rest, joined, word, (front', rest', joined', cond, (items, same, more))))) = subst P (sym same) (newing_as P hangs news items)
+extended_as P hangs locks halts jobs news condition a at s (inl (w, (front, rest, joined, word, (front', rest', joined', cond, more)))) = added_as P hangs locks halts w _ a rest' more
+extended_as P hangs locks halts jobs news condition a at s (inr (inl (front, rest, joined, word, (front', rest', joined', cond, (name, code, is, trap, plain, inl (same, ends)))))) = subst P (sym same) (hangs (Lit [] ∷ []))
+extended_as P hangs locks halts jobs news condition a at s (inr (inl (front, rest, joined, word, (front', rest', joined', cond, (name, code, is, trap, plain, inr (call, same, restarts)))))) = subst P (sym same) (jobs (call ∷ []))
+extended_as P hangs locks halts jobs news condition a at s (inr (inr (front, rest, joined, word, (front', rest', joined', cond, (items, same, more))))) = subst P (sym same) (newing_as P hangs news items)
 
 quits_by : (d : Dialect) (may : Bool) (column at : ℕ) (condition : Option Tree) (a : ActionTree) (s : List ℕ) → AreArgumentsOf d may at a s → answers (Does column condition a) ≡ true → may ≡ true
 quits_by d may column at condition (Quit (Some t)) s (returns, more) h = returns
@@ -118,7 +121,7 @@ quits_by d may column at condition (Write writes) s is h = no h
 quits : (d : Dialect) (may : Bool) (at : ℕ) (c : CommandTree) (s : List ℕ) → IsCommand d may at c s → answers c ≡ true → may ≡ true
 quits d may at (Does column condition a) s (is, conditioned, inl (front, rest, joined, word, (front', rest', joined', cond, more))) h = quits_by d may column _ condition a rest' more h
 quits d may at (Does column condition a) s (is, conditioned, inr (extended, also)) h =
-    extended_as (λ a. answers (Does column condition a) ≡ true → may ≡ true) (λ times h. no h) (λ locks h. no h) (λ calls h. no h) (λ news h. no h) condition a at s also h
+    extended_as (λ a. answers (Does column condition a) ≡ true → may ≡ true) (λ times h. no h) (λ locks h. no h) (λ h. no h) (λ calls h. no h) (λ news h. no h) condition a at s also h
 
 -- and none behind a FOR
 answer_at_end : (d : Dialect) (level loops at : ℕ) (cs : CommandTrees) (s : List ℕ) → AreCommands d level loops at cs s → AnswersAtEnd ((level == 1) && (loops == 0)) cs
@@ -220,7 +223,7 @@ reads_by d may column at condition (Write writes) s is = refl
 command_reads : (d : Dialect) (may : Bool) (at : ℕ) (c : CommandTree) (s : List ℕ) → IsCommand d may at c s → reads_locals c ≡ true
 command_reads d may at (Does column condition a) s (is, conditioned, inl (front, rest, joined, word, (front', rest', joined', cond, more))) = reads_by d may column _ condition a rest' more
 command_reads d may at (Does column condition a) s (is, conditioned, inr (extended, also)) =
-    extended_as (λ a. reads_locals (Does column condition a) ≡ true) (λ times. refl) (λ locks. refl) (λ calls. refl) (λ news. refl) condition a at s also
+    extended_as (λ a. reads_locals (Does column condition a) ≡ true) (λ times. refl) (λ locks. refl) refl (λ calls. refl) (λ news. refl) condition a at s also
 
 commands_read : (d : Dialect) (level loops at : ℕ) (cs : CommandTrees) (s : List ℕ) → AreCommands d level loops at cs s → ReadsLocals cs
 commands_read d level loops at finished s h = tt

@@ -57,6 +57,9 @@ added_timed : (w : AddedWord) (column at : ℕ) (condition : Option Tree) (a : A
 added_timed added.Close column at condition a s (devices, same, list) = ap (λ x. runs_in_any_order dialect.Extended (Does column condition x)) same
 added_timed added.Open column at condition a s (devices, same, list) = ap (λ x. runs_in_any_order dialect.Extended (Does column condition x)) same ∙ opening_timed column condition devices
 added_timed added.Use column at condition a s (devices, same, list) = ap (λ x. runs_in_any_order dialect.Extended (Does column condition x)) same
+added_timed added.ZHalt column at condition a s (same, is) = ap (λ x. runs_in_any_order dialect.Extended (Does column condition x)) same
+added_timed added.ZShow column at condition a s (values, same, list) = ap (λ x. runs_in_any_order dialect.Extended (Does column condition x)) same
+added_timed added.ZWrite column at condition a s (values, same, list) = ap (λ x. runs_in_any_order dialect.Extended (Does column condition x)) same
 
 timed_by : (d : Dialect) (may : Bool) (column at : ℕ) (condition : Option Tree) (a : ActionTree) (s : List ℕ) → AreArgumentsOf d may at a s → runs_in_any_order d (Does column condition a) ≡ true
 timed_by d may column at condition (Lock locks) s is = locks_timed d _ locks s is

@@ -1,0 +1,27 @@
+BKTRF ; transfers
+ Q
+MOVE(FROM,TO,AMT,TEXT) ; from one account to another: 1 if it is booked
+ N OK,TRIES
+ S OK=0,TRIES=0
+ I FROM=TO!(AMT'>0) G MOVEX
+MOVE1 L +(^BACC(FROM),^BACC(TO)):5 I '$T S TRIES=TRIES+1 H TRIES G MOVE1:TRIES<4,MOVEX
+ G MOVEU:'$$ISOPEN^BKACC(FROM),MOVEU:'$$ISOPEN^BKACC(TO)
+ I '$$HAS^BKACC(FROM,AMT) G MOVEU
+ D BOOK^BKACC(FROM,-AMT,TEXT),BOOK^BKACC(TO,AMT,TEXT)
+ S OK=1
+MOVEU L -(^BACC(FROM),^BACC(TO))
+ I OK D PUT^BKLOG("move "_FROM_" "_TO_" "_AMT)
+MOVEX Q OK
+ ;
+FILE(DEV) ; the transfers of a file, one a line: from^to^amount^text
+ N LINE,DONE,LEFT
+ S DONE=0,LEFT=0
+ O DEV:(READONLY):10 E  W !,"no file" G FILEX
+FILE1 U DEV R LINE:5 G FILEC:'$T,FILEC:$ZEOF
+ I $$MOVE($P(LINE,"^"),$P(LINE,"^",2),$P(LINE,"^",3),$P(LINE,"^",4)) S DONE=DONE+1 G FILE1
+ S LEFT=LEFT+1
+ D PUT^BKQUE("BACK",LINE)
+ G FILE1
+FILEC C DEV
+ U 0 W !,DONE," booked, ",LEFT," sent back"
+FILEX Q
