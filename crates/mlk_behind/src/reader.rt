@@ -192,7 +192,8 @@ impl<'a> Reader<'a> {
             .private
             .as_slice()
             .iter()
-            .chain(lists.readonly.as_slice().iter());
+            .chain(lists.readonly.as_slice().iter())
+            .chain(lists.atomic.as_slice().iter());
         covers.any(|cover| is_named(cover.pattern.global.as_bytes()))
             || others.any(|pattern| is_named(pattern.global.as_bytes()))
     }
@@ -277,7 +278,9 @@ impl<'a> Reader<'a> {
         match fault.code {
             Code::Uncovered => Some(Remedy::TouchesOfLock),
             Code::Unruled if subject.unruled.is_some() => Some(Remedy::TouchesOfGlobal),
-            Code::Unruled | Code::ReadOnly | Code::NotPrivate => Some(Remedy::Touch),
+            Code::Unruled | Code::ReadOnly | Code::NotPrivate | Code::NotAtomic => {
+                Some(Remedy::Touch)
+            }
             Code::NotHeld => Some(Remedy::Lock),
             Code::NoCertificate if self.begins_job(fault) => Some(Remedy::Call),
             Code::Unranked | Code::RankOrder | Code::SharedName | Code::UnknownSubscript

@@ -55,7 +55,7 @@ scope mods low drops = record {
   routines = [];
   own = 0;
   line = 0;
-  rules = record { families = family x 10 ∷ family (codes "LOG") 20 ∷ []; covers = []; private = []; readonly = []; entries = [] };
+  rules = record { families = family x 10 ∷ family (codes "LOG") 20 ∷ []; covers = []; private = []; readonly = []; atomic = []; entries = [] };
   blocks = [];
   declared_entries = [];
   summary = summary [] [] mods low drops;

@@ -260,3 +260,18 @@ pub(crate) static DROPS_FRAME: Page = Page {
     before: " LOCK +^WARD(W) SET ^WARD(W,\"in\")=$GET(^WARD(W,\"in\"))+1 LOCK  QUIT",
     after: " LOCK +^WARD(W) SET ^WARD(W,\"in\")=$GET(^WARD(W,\"in\"))+1 LOCK -^WARD(W) QUIT",
 };
+
+pub(crate) static NOT_ATOMIC: Page = Page {
+    code: Code::NotAtomic,
+    meaning: "a touch that may meet an atomic rule and is no `$INCREMENT`",
+    hint: "touch the counter by $INCREMENT alone, or protect it by a cover rule",
+    why: "The reference may meet an atomic rule: a counter that `$INCREMENT` alone \
+        touches, without a lock. Any other touch may come between two increments, so a \
+        SET or a KILL may lose one, and a value that is read may be out of date.",
+    mend: "Read the counter by `$INCREMENT(^SEQ(C),0)`, and change it by `$INCREMENT` \
+        with an amount. A KILL, MERGE, `$ORDER` or `$DATA` of a node above it meets it \
+        too. If it has to be reset, put a cover rule in place of the atomic one, and \
+        claim its lock for each touch, `$INCREMENT` too.",
+    before: " SET N=$GET(^SEQ(C))+1,^SEQ(C)=N",
+    after: " SET N=$INCREMENT(^SEQ(C))",
+};

@@ -22,8 +22,8 @@ pub(crate) static KEY: Page = Page {
     why: "A key of the file or of an element is unknown, is missing, or has a value of \
         another type.",
     mend: "Use only the keys of the section: `name` and `rank` in `lock`; `global`, \
-        `lock` and perhaps `also` in `cover`; `global` in `private` and `readonly`; \
-        `label` in `entry`. A section is an array of tables, such as `[[lock]]`, and \
+        `lock` and perhaps `also` in `cover`; `global` in `private`, `readonly` and \
+        `atomic`; `label` in `entry`. A section is an array of tables, such as `[[lock]]`, and \
         all values except ranks are texts.",
     before: "[[lock]]\nname = \"^ACCT\"\nrank = \"10\"",
     after: "[[lock]]\nname = \"^ACCT\"\nrank = 10",
@@ -38,7 +38,8 @@ pub(crate) static PATTERN: Page = Page {
     mend: "Write a pattern as `^ACCT(id,...)`: `^` and a name, then one to eight \
         elements in parentheses, with commas and no blanks. The name of a family has \
         only literals; `$J` is only in private patterns, once; a variable is in a \
-        pattern once; a cover's lock has no `...`; an entry is `LABEL^ROUTINE`.",
+        pattern once; a cover's lock and an atomic pattern have no `...`; an entry is \
+        `LABEL^ROUTINE`.",
     before: "[[cover]]\nglobal = \"^ACCT(id, ...)\"\nlock = \"^ACCT(id)\"",
     after: "[[cover]]\nglobal = \"^ACCT(id,...)\"\nlock = \"^ACCT(id)\"",
 };

@@ -10,6 +10,7 @@ abbrev pub kind_word : RuleKind → List ℕ
 kind_word kind.Cover = codes "cover"
 kind_word kind.Private = codes "private"
 kind_word kind.Readonly = codes "readonly"
+kind_word kind.Atomic = codes "atomic"
 
 abbrev pub gap_word : GapKind → List ℕ
 gap_word gap.NoEntry = codes "NoEntry"

@@ -30,7 +30,7 @@ pub struct Coverage<'a> {
     pub labels: Share,
     /// the lines of level 1 that these reach, of all
     pub lines: Share,
-    /// how often each rule is met in these lines: covers, private patterns, readonly ones
+    /// how often each rule is met in these lines: covers, private patterns, readonly ones, atomic ones
     pub rules: Vec<RuleUse>,
     /// the numbers, from 1, of the covers that have a lock which no reached line claims
     pub unclaimed: Vec<usize>,

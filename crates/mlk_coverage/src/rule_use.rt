@@ -15,6 +15,7 @@ pub enum RuleKind {
     Cover,
     Private,
     Readonly,
+    Atomic,
 }
 
 impl RuleKind {
@@ -26,6 +27,7 @@ impl RuleKind {
             RuleKind::Cover => "cover",
             RuleKind::Private => "private",
             RuleKind::Readonly => "readonly",
+            RuleKind::Atomic => "atomic",
         }
     }
 }
@@ -55,7 +57,7 @@ impl RuleUse {
     fn add(&mut self, access: Access) {
         match access {
             Access::Reads => self.reads = self.reads.saturating_add(1),
-            Access::Writes => self.writes = self.writes.saturating_add(1),
+            Access::Writes | Access::Increments => self.writes = self.writes.saturating_add(1),
         }
     }
 }
@@ -69,7 +71,7 @@ pub(crate) struct RuleUses<'r> {
 }
 
 impl<'r> RuleUses<'r> {
-    /// The rules of `lists`, none of which is met yet: covers, then private patterns, then readonly ones.
+    /// The rules of `lists`, none of which is met yet: covers, then private patterns, readonly ones and atomic ones.
     pub(crate) fn of(alloc: Global, lists: &'r RuleLists) -> Result<RuleUses<'r>, AllocError> {
         let mut uses = RuleUses {
             patterns: Vec::new(alloc),
@@ -84,6 +86,9 @@ impl<'r> RuleUses<'r> {
         }
         for (index, pattern) in lists.readonly.as_slice().iter().enumerate() {
             uses.add_rule(alloc, RuleKind::Readonly, index, pattern)?;
+        }
+        for (index, pattern) in lists.atomic.as_slice().iter().enumerate() {
+            uses.add_rule(alloc, RuleKind::Atomic, index, pattern)?;
         }
         Ok(uses)
     }

@@ -23,6 +23,7 @@ enum Section {
     Cover,
     Private,
     Readonly,
+    Atomic,
 }
 
 impl Section {
@@ -32,6 +33,7 @@ impl Section {
             Section::Cover => "cover",
             Section::Private => "private",
             Section::Readonly => "readonly",
+            Section::Atomic => "atomic",
         }
     }
 
@@ -45,7 +47,7 @@ impl Section {
                 (" and ", "also"),
                 (", reads ", "reads"),
             ],
-            Section::Private | Section::Readonly => &[(": ", "global")],
+            Section::Private | Section::Readonly | Section::Atomic => &[(": ", "global")],
         }
     }
 
@@ -56,6 +58,7 @@ impl Section {
             Section::Cover => matches!(code, Code::Unruled | Code::Uncovered),
             Section::Private => matches!(code, Code::Unruled | Code::NotPrivate),
             Section::Readonly => matches!(code, Code::Unruled | Code::ReadOnly),
+            Section::Atomic => matches!(code, Code::Unruled | Code::NotAtomic),
         }
     }
 }
@@ -100,6 +103,7 @@ impl RuleFile {
             RuleKind::Cover => Section::Cover,
             RuleKind::Private => Section::Private,
             RuleKind::Readonly => Section::Readonly,
+            RuleKind::Atomic => Section::Atomic,
         };
         let number = rule.number.checked_sub(1)?;
         self.text(RuleAt { section, number }, "global")
@@ -199,6 +203,7 @@ fn rules_for(alloc: Global, place: &FaultPlace<'_>) -> Result<Vec<RuleAt>, Alloc
     add_covers(&mut found, &lists.covers, place)?;
     add_patterns(&mut found, Section::Private, &lists.private, place)?;
     add_patterns(&mut found, Section::Readonly, &lists.readonly, place)?;
+    add_patterns(&mut found, Section::Atomic, &lists.atomic, place)?;
     add_families(&mut found, rules.families(), place)?;
     Ok(found)
 }

@@ -7,7 +7,7 @@ use Rattle.mlk_text.specs.declared.operator.Op.{Op}
 use Rattle.mlk_text.specs.declared.operator.UnaryOp.{UnaryOp}
 use Rattle.mlk_names.specs.declared.lock_name.LockName.{LockName}
 use Rattle.mlk_names.specs.declared.reference.Access.{Access}
-use Rattle.mlk_names.specs.declared.reference.Access.TheVariants.{Reads, Writes}
+use Rattle.mlk_names.specs.declared.reference.Access.TheVariants.{Reads, Writes, Increments}
 use Rattle.mlk_syntax.specs.declared.expr.Callee.{Callee}
 use Rattle.mlk_syntax.specs.ExprTrees.{Tree, Choices, no_choices, choice as one_choice, ActualTree}
 use Rattle.mlk_syntax.specs.Trees.{RoutineTree, LineHead}
@@ -152,6 +152,7 @@ by_truth_takes j f b = last_truth_takes j.values (λ t. f t (dropped 1 j)) b
 touch_takes : (a : Access) (j : Job) (ts : List Task) → Takes (λ free c. touched c a j ts) (asked_at a)
 touch_takes Reads j ts = value_takes (λ v. Ok (doing ts (pushed v j))) (λ v. refl)
 touch_takes Writes j ts = nothing_takes (λ free. Ok (doing ts j)) (λ free. refl)
+touch_takes Increments j ts = nothing_takes (λ free. Ok (doing ts j)) (λ free. refl)
 
 frame_takes : (frame : Frame) (j : Job) → Takes (λ free c. frame_end c frame j) (asked_if Value (asks (frame_end choice.None frame j)))
 frame_takes NoValue j = silent Value (Ok j) refl
@@ -313,6 +314,7 @@ ended_plain false = refl
 touch_plain : (a : Access) → is_of_time (asked_at a) ≡ false
 touch_plain Reads = refl
 touch_plain Writes = refl
+touch_plain Increments = refl
 
 module _ (routines : List RoutineTree) (j : Job) where
   claim_time : (names : List LockName) (timed : Bool) (ts : List Task)

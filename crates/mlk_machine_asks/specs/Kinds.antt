@@ -1,7 +1,7 @@
 -- What each kind of task asks for, if it asks for anything. For private clauses only. This project's own.
 use Rattle.std.specs.Prelude.{Bool, true, false, List, [], ◌∷◌}
 use Rattle.mlk_names.specs.declared.reference.Access.{Access}
-use Rattle.mlk_names.specs.declared.reference.Access.TheVariants.{Reads, Writes}
+use Rattle.mlk_names.specs.declared.reference.Access.TheVariants.{Reads, Writes, Increments}
 use Rattle.mlk_machine_jobs.specs.Seen.{State, Ready, Claims, AsksChoice}
 use Rattle.mlk_machine_jobs.specs.Tasks as task
 use Rattle.mlk_machine_jobs.specs.Tasks.{Task, FirstRound, LaterRound, EndFrame}
@@ -34,6 +34,7 @@ asked_in (t ∷ ts) = asked_by t
 abbrev pub asked_at : Access → Question
 asked_at Reads = Value
 asked_at Writes = Nothing
+asked_at Increments = Nothing
 
 -- what a job in a given state asks for
 abbrev pub asked_if : Question → State → Question

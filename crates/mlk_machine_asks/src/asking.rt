@@ -149,7 +149,7 @@ fn asked_at(access: Access) -> Question
 {
     match access {
         Access::Reads => Question::Value,
-        Access::Writes => Question::Nothing,
+        Access::Writes | Access::Increments => Question::Nothing,
     }
 }
 

@@ -4,7 +4,7 @@ ghost use Rattle.std.specs.Prelude.{◌≡◌, ◌++◌, OnOk, length, option_ma
 ghost use Rattle.mlk_syntax.specs.ExprTrees.{count_subs};
 ghost use Rattle.mlk_syntax.specs.declared.expr.Function.TheVariants as function;
 ghost use Rattle.mlk_machine_jobs.specs.Expressions.{each_sub, each_tree, count_trees, read_global};
-ghost use Rattle.mlk_machine_jobs.specs.Expressions.{read_local, special_parts, unused, write_node, any_after, of_global};
+ghost use Rattle.mlk_machine_jobs.specs.Expressions.{read_local, special_parts, unused, increment_node, any_after, of_global};
 ghost use Rattle.mlk_machine_jobs.specs.TaskViews.{Adds};
 ghost use Rattle.mlk_machine_expressions.specs.PartViews.{subs_of, args_of, asked, naming_of, named_function};
 
@@ -211,20 +211,20 @@ fn read_parts<'a>(
     Ok(())
 }
 
-// Writes a node.
-fn write_node<'a>(
+// Increments a node.
+fn increment_node<'a>(
     parts: &mut Vec<Task<'a>>,
     name: &'a Name,
     subscripts: &'a [Subscript],
 ) -> Result<(), AllocError>
-    ensures { OnOk result (Adds (write_node name.now (subs_of subscripts.now)) parts.old.items parts.new.items) }
+    ensures { OnOk result (Adds (increment_node name.now (subs_of subscripts.now)) parts.old.items parts.new.items) }
 {
     each_subscript(parts, subscripts)?;
     let form = Task::Value(ValueTask::FormReference(
         name,
         count_subscripts(subscripts),
         Extent::Node,
-        Access::Writes,
+        Access::Increments,
     ));
     add(parts, form)?;
     Ok(())
@@ -242,7 +242,7 @@ fn ask_after<'a>(parts: &mut Vec<Task<'a>>, arguments: &'a [Expr]) -> Result<(),
     Ok(())
 }
 
-// `$INCREMENT` writes the node that it names, and gives any value.
+// `$INCREMENT` increments the node that it names, and gives any value.
 fn increment_parts<'a>(
     parts: &mut Vec<Task<'a>>,
     name: &'a Name,
@@ -252,7 +252,7 @@ fn increment_parts<'a>(
     ensures { OnOk result (Adds (of_global function.Increment name.now (subs_of subscripts.now) (args_of more.now))
         parts.old.items parts.new.items) }
 {
-    write_node(parts, name, subscripts)?;
+    increment_node(parts, name, subscripts)?;
     ask_after(parts, more)?;
     Ok(())
 }

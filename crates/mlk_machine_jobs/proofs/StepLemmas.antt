@@ -5,7 +5,7 @@ use Rattle.std.specs.List.{list_all}
 use Rattle.std.proofs.lemmas.Bool.{and_parts}
 use Rattle.mlk_names.specs.declared.lock_name.LockName.{LockName}
 use Rattle.mlk_names.specs.declared.reference.Access.{Access}
-use Rattle.mlk_names.specs.declared.reference.Access.TheVariants.{Reads, Writes}
+use Rattle.mlk_names.specs.declared.reference.Access.TheVariants.{Reads, Writes, Increments}
 use Rattle.mlk_machine_locks.specs.declared.refusal.Refusal.{Refusal}
 use Rattle.mlk_machine_locks.specs.declared.refusal.Refusal.TheVariants.{NotEnabled}
 use Rattle.mlk_machine_locks.specs.Counts.{Counts, count_of, all_raised, all_lowered, has_room}
@@ -84,6 +84,7 @@ module _ (free : LockName → Bool) (j : Job) where
   pub of_touch : (c : Choice) (a : Access) (ts : List Task) → Keeps (touched c a j ts)
   of_touch c Reads ts = of_value c _ (λ v. same _ refl refl)
   of_touch c Writes ts = unasked c _ (same _ refl refl)
+  of_touch c Increments ts = unasked c _ (same _ refl refl)
 
   pub of_select : (choices : Choices) (ts : List Task) → Keeps (selected choices ts j)
   of_select no_choices ts = refused NotEnabled

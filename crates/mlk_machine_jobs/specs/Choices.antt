@@ -7,7 +7,7 @@ use Rattle.mlk_machine_locks.specs.declared.refusal.Refusal.TheVariants.{NotEnab
 use Rattle.mlk_names.specs.References.{Touch}
 use Rattle.mlk_names.specs.declared.reference.Extent.{Extent}
 use Rattle.mlk_names.specs.declared.reference.Access.{Access}
-use Rattle.mlk_names.specs.declared.reference.Access.TheVariants.{Reads, Writes}
+use Rattle.mlk_names.specs.declared.reference.Access.TheVariants.{Reads, Writes, Increments}
 use Rattle.mlk_machine_jobs.specs.declared.choice.Choice.{Choice}
 use Rattle.mlk_machine_jobs.specs.declared.choice.Choice.TheVariants as choice
 use Rattle.mlk_numbers.specs.Operators.{truth_of_text}
@@ -93,3 +93,4 @@ touch_at name subs e a =
 abbrev pub touched : Choice → Access → Job → List Task → Stepped
 touched c Reads j ts = with_value c (λ v. Ok (doing ts (pushed v j)))
 touched c Writes j ts = without_choice c (Ok (doing ts j))
+touched c Increments j ts = without_choice c (Ok (doing ts j))

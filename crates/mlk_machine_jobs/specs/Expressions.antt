@@ -12,7 +12,7 @@ use Rattle.mlk_syntax.specs.ExprTrees.{Trees, no_trees, tree, Subs, no_subs, sub
 use Rattle.mlk_syntax.specs.ExprTrees.{Given, ByRef, Missing, Actuals, no_actuals, actual, count_subs, as_list}
 use Rattle.mlk_names.specs.declared.reference.Extent.{Extent}
 use Rattle.mlk_names.specs.declared.reference.Extent.TheVariants as extent
-use Rattle.mlk_names.specs.declared.reference.Access.TheVariants.{Reads, Writes}
+use Rattle.mlk_names.specs.declared.reference.Access.TheVariants.{Reads, Increments}
 use Rattle.mlk_machine_jobs.specs.Tasks.{Task, Evaluate, Push, Fetch, PushJob, PushTest, ApplyUnary}
 use Rattle.mlk_machine_jobs.specs.Tasks.{ApplyBinary, AskValue, Drop, Select, FormReference, Call}
 
@@ -53,9 +53,9 @@ special_parts _ = AskValue 0 ∷ []
 abbrev pub unused : Trees → List Task
 unused ts = each_tree ts ++ Drop (count_trees ts) ∷ []
 
--- a global's node is written
-abbrev pub write_node : List ℕ → Subs → List Task
-write_node name subs = each_sub subs ++ FormReference name (count_subs subs) extent.Node Writes ∷ []
+-- a global's node is incremented
+abbrev pub increment_node : List ℕ → Subs → List Task
+increment_node name subs = each_sub subs ++ FormReference name (count_subs subs) extent.Node Increments ∷ []
 
 -- further arguments, in place of whose values any value is pushed
 abbrev pub any_after : Trees → List Task
@@ -67,11 +67,11 @@ above subs = count_subs subs - 1
 
 -- Functions of a global: `$DATA` reads the tree at it, `$GET` the node, `$ORDER` the tree above its last subscript,
 -- `$QUERY` the tree of the whole global, `$NAME` nothing. The value is what was read. `$INCREMENT`, which the standard does not
--- have, writes the node in one step; the value may be any. Of a local, which it would change, it is never read.
+-- have, increments the node in one step; the value may be any. Of a local, which it would change, it is never read.
 abbrev pub of_global : Function → List ℕ → Subs → Trees → List Task
 of_global function.Data name subs more = read_global name subs extent.Tree ++ unused more
 of_global function.Get name subs more = read_global name subs extent.Node ++ unused more
-of_global function.Increment name subs more = write_node name subs ++ any_after more
+of_global function.Increment name subs more = increment_node name subs ++ any_after more
 of_global function.Order name subs more =
     each_sub subs ++ Drop (count_subs subs - above subs) ∷ FormReference name (above subs) extent.Tree Reads ∷ unused more
 of_global function.Query name subs more =

@@ -1,9 +1,8 @@
 -- What is visible of jobs: what each does next, which two clash, and how far a job runs by itself. This project's own.
-use Rattle.std.specs.Prelude.{◌≡◌, ◌≢◌, ◌⊎◌, ℕ, zero, suc, ◌==◌, Bool, true, false}
+use Rattle.std.specs.Prelude.{◌≡◌, ◌≢◌, ℕ, zero, suc, ◌==◌, Bool, true, false}
 use Rattle.std.specs.Prelude.{if◌then◌else◌, List, [], ◌∷◌, Option, Some, None, Result, Ok, Err}
 use Rattle.mlk_names.specs.declared.lock_name.LockName.{LockName}
-use Rattle.mlk_names.specs.declared.reference.Access.TheVariants.{Writes}
-use Rattle.mlk_names.specs.References.{Touch, Overlap}
+use Rattle.mlk_names.specs.References.{Touch, Overlap, are_compatible}
 use Rattle.mlk_machine_locks.specs.declared.refusal.Refusal.{Refusal}
 use Rattle.mlk_machine_locks.specs.declared.refusal.Refusal.TheVariants.{UnknownJob, NotEnabled, BadChoice}
 use Rattle.mlk_syntax.specs.Trees.{RoutineTree}
@@ -21,7 +20,8 @@ ready_in ts = None
 abbrev pub ready : Job → Option Touch
 ready j = ready_in j.tasks
 
--- Two different jobs clash if both stand ready at references that overlap, one of which is a write.
+-- Two different jobs clash if both stand ready at references that overlap and are not compatible: one of them writes, or one reads
+-- and the other increments.
 pub record Clash (i j : Job) : Type 0 where
   pub different : i.number ≢ j.number
   pub one : Touch
@@ -29,7 +29,7 @@ pub record Clash (i j : Job) : Type 0 where
   pub is_one : ready i ≡ Some one
   pub is_other : ready j ≡ Some other
   pub overlap : Overlap one.region other.region
-  pub writes : (one.access ≡ Writes) ⊎ (other.access ≡ Writes)
+  pub incompatible : are_compatible one.access other.access ≡ false
 
 -- A job has ended by itself if no task is left and it was not aborted.
 abbrev pub HasEnded : Job → Type 0

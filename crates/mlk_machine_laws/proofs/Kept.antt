@@ -3,7 +3,7 @@ use Rattle.std.proofs.Common.{◌≡◌, ℕ, suc, Bool, true, false, List, [], 
 use Rattle.std.specs.Prelude.{◌&&◌, ◌==◌, if◌then◌else◌, Ok, Err}
 use Rattle.mlk_names.specs.declared.lock_name.LockName.{LockName}
 use Rattle.mlk_names.specs.declared.reference.Access.{Access}
-use Rattle.mlk_names.specs.declared.reference.Access.TheVariants.{Reads, Writes}
+use Rattle.mlk_names.specs.declared.reference.Access.TheVariants.{Reads, Writes, Increments}
 use Rattle.mlk_machine_locks.specs.declared.refusal.Refusal.{Refusal}
 use Rattle.mlk_machine_locks.specs.declared.refusal.Refusal.TheVariants.{NotEnabled}
 use Rattle.mlk_machine_locks.specs.Counts.{has_room}
@@ -125,6 +125,7 @@ module _ (routines : List RoutineTree) (j : Job) where
   pub of_touch : (c : Choice) (a : Access) (ts : List Task) → marks ts ≡ marks j.tasks → Moves (touched c a j ts)
   of_touch c Reads ts e = of_value c _ (λ v. same _ e refl refl refl)
   of_touch c Writes ts e = unasked c _ (same _ e refl refl refl)
+  of_touch c Increments ts e = unasked c _ (same _ e refl refl refl)
 
   pub of_select : (cs : Choices) (ts : List Task) → marks ts ≡ marks j.tasks → Moves (selected cs ts j)
   of_select no_choices ts e = refused NotEnabled

@@ -68,7 +68,7 @@ abbrev family : Family
 family = record { name = a; rank = 10 }
 
 abbrev rules : RuleLists
-rules = record { families = family ∷ []; covers = cover ∷ []; private = []; readonly = []; entries = codes "A^R" ∷ [] }
+rules = record { families = family ∷ []; covers = cover ∷ []; private = []; readonly = []; atomic = []; entries = codes "A^R" ∷ [] }
 
 -- what the laws require of a job at a moment
 record Keeps (j : Job) : Type 0 where
@@ -143,6 +143,7 @@ covers : IsCovered rules (term ∷ []) reference
 covers = record {
   ruled = (cover.pattern, OfCover cover (0, omega arith, refl) refl, inl (record { root = refl; front = []; rest = []; subs = refl; suits = tt; stays = tt }));
   readonly = λ p c. let l = c.1 in absurd (omega (arith, l));
+  atomic = λ p c. let l = c.1 in absurd (omega (arith, l));
   private = λ p c. let l = c.1 in absurd (omega (arith, l));
   covers = λ c there m. subst (λ (d : Cover). Satisfies (term ∷ []) reference d) (sym (only cover c there)) its_lock;
 }

@@ -15,7 +15,7 @@ use Rattle.mlk_syntax.specs.Trees.{ReadTree, ReadText, ReadFormat, ReadLine, Rea
 use Rattle.mlk_syntax.specs.Trees.{ActionTree, Do, Else, Halt, Hang, If, Job, Kill, Lock, Merge, New, Quit, Read, Set, Write, LineTrees, no_lines, line}
 use Rattle.mlk_syntax.specs.Trees.{ParameterTree, Once, Endless, Limited, CommandTree, Does, CommandTrees, Runs, finished, then_command, then_for}
 use Rattle.mlk_machine_jobs.specs.Tasks.{Task, LineTree, Evaluate, AskValue, RunCommands, NextArgument, marks}
-use Rattle.mlk_machine_jobs.specs.Expressions.{each_sub, each_tree, unused, write_node, read_global, read_local, operation, special_parts, of_global, function_parts, takes_name, each_actual, parts_of}
+use Rattle.mlk_machine_jobs.specs.Expressions.{each_sub, each_tree, unused, increment_node, read_global, read_local, operation, special_parts, of_global, function_parts, takes_name, each_actual, parts_of}
 use Rattle.mlk_machine_jobs.specs.Commands.{evaluated, evaluated_if, subs_in, in_variable, count_in, given_in, do_parts, block_parts, job_parts, if_parts, kill_variable, kill_parts, new_parts, lock_parts, merge_parts, store_last, in_time, read_into, read_parts, target_parts, set_parts, write_parts, in_turn, action_parts}
 use Rattle.mlk_machine_jobs.specs.Assigning.{assigned, assignments, subs_of_target, parts_in, merge_source, merge_target}
 use Rattle.mlk_machine_jobs.specs.Locking.{by_sign}
@@ -98,7 +98,7 @@ subs_first ss more n = three (each_sub ss) (each_tree more) _ (subs ss) (trees m
 globals : (f : Function) (name : List ℕ) (ss : Subs) (more : Trees) → Plain (of_global f name ss more)
 globals function.Data name ss more = both (read_global name ss extent.Tree) _ (of_read name ss extent.Tree) (of_unused more)
 globals function.Get name ss more = both (read_global name ss extent.Node) _ (of_read name ss extent.Node) (of_unused more)
-globals function.Increment name ss more = both (write_node name ss) _ (both (each_sub ss) _ (subs ss) (λ ts. refl)) (of_values more _)
+globals function.Increment name ss more = both (increment_node name ss) _ (both (each_sub ss) _ (subs ss) (λ ts. refl)) (of_values more _)
 globals function.Order name ss more = both (each_sub ss) _ (subs ss) (λ ts. of_unused more ts)
 globals function.Query name ss more = both (each_sub ss) _ (subs ss) (λ ts. of_unused more ts)
 globals function.Name name ss more = subs_first ss more _

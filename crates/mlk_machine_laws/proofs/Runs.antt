@@ -53,7 +53,7 @@ clashes_are_free routines declared rules sound each events jobs h i j a b clash 
     let n = its_number routines declared events jobs h j b in
     let p = in_run routines declared (StandsCovered rules) each events jobs h i a clash.one clash.is_one in
     let q = in_run routines declared (StandsCovered rules) each events jobs h j b clash.other clash.is_other in
-    covered_apart rules p.values q.values p.held q.held p.reference q.reference clash.one clash.other (by_job rules sound) p.covered q.covered p.touches q.touches clash.overlap clash.writes
+    covered_apart rules p.values q.values p.held q.held p.reference q.reference clash.one clash.other (by_job rules sound) p.covered q.covered p.touches q.touches clash.overlap clash.incompatible
     (λ e. clash.different (decimal_injective i.number j.number m n (sym p.own ∙ e ∙ q.own)))
     (λ c.
     let x = p.each_held c.first c.is_held in

@@ -5,7 +5,7 @@ use Rattle.std.specs.List.{list_all}
 use Rattle.std.proofs.lemmas.List.{take-append-drop}
 use Rattle.mlk_names.specs.declared.lock_name.LockName.{LockName}
 use Rattle.mlk_names.specs.declared.reference.Access.{Access}
-use Rattle.mlk_names.specs.declared.reference.Access.TheVariants.{Reads, Writes}
+use Rattle.mlk_names.specs.declared.reference.Access.TheVariants.{Reads, Writes, Increments}
 use Rattle.mlk_machine_locks.specs.declared.refusal.Refusal.TheVariants.{NotEnabled}
 use Rattle.mlk_machine_locks.specs.Counts.{has_room}
 use Rattle.mlk_syntax.specs.ExprTrees.{Tree, Choices, no_choices, choice as condition, ActualTree}
@@ -65,6 +65,7 @@ module _ (n : ℕ) (vs : List (List ℕ)) where
   of_touch : (c : Choice) (a : Access) (j : Job) (ts : List Task) → j.values ≡ drop n vs → Leaves (touched c a j ts)
   of_touch c Reads j ts e = of_value (Below n vs) c _ (λ v. now _ (v ∷ []) (ap (λ w. v ∷ w) e))
   of_touch c Writes j ts e = unasked (Below n vs) c _ (none _ e)
+  of_touch c Increments j ts e = unasked (Below n vs) c _ (none _ e)
 
   of_line : (lines : List LineTree) (ts : List Task) (j : Job) → j.values ≡ drop n vs → Leaves (next_line lines ts j)
   of_line [] ts j e = none _ e

@@ -5,7 +5,7 @@ use Rattle.std.proofs.lemmas.Bool.{eqb-true}
 use Rattle.std.specs.List.{list_all}
 use Rattle.mlk_names.specs.declared.lock_name.LockName.{LockName}
 use Rattle.mlk_names.specs.declared.reference.Access.{Access}
-use Rattle.mlk_names.specs.declared.reference.Access.TheVariants.{Reads, Writes}
+use Rattle.mlk_names.specs.declared.reference.Access.TheVariants.{Reads, Writes, Increments}
 use Rattle.mlk_machine_locks.specs.declared.refusal.Refusal.TheVariants.{NotEnabled, BadChoice}
 use Rattle.mlk_machine_locks.specs.Counts.{has_room}
 use Rattle.mlk_machine_laws.specs.Moments.{AtEachMoment}
@@ -58,6 +58,7 @@ module _ (routines : List RoutineTree) (p : IsProgram routines) where
   of_touch : (c : Choice) (a : Access) (j : Job) (ts : List Task) → AllFind routines j.routine ts → Each FindsAll (touched c a j ts)
   of_touch c Reads j ts f = of_value FindsAll c _ (λ v. now _ f)
   of_touch c Writes j ts f = unasked FindsAll c _ (now _ f)
+  of_touch c Increments j ts f = unasked FindsAll c _ (now _ f)
 
   of_line : (lines : List LineTree) (ts : List Task) (j : Job) → AreFoundAt routines j.routine lines → AllFind routines j.routine ts → Each FindsAll (next_line lines ts j)
   of_line [] ts j h f = now _ f

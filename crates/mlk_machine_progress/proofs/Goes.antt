@@ -4,7 +4,7 @@ use Rattle.std.specs.Prelude.{if◌then◌else◌, is_some, Ok}
 use Rattle.std.proofs.lemmas.List.{length-drop}
 use Rattle.mlk_names.specs.declared.lock_name.LockName.{LockName}
 use Rattle.mlk_names.specs.declared.reference.Access.{Access}
-use Rattle.mlk_names.specs.declared.reference.Access.TheVariants.{Reads, Writes}
+use Rattle.mlk_names.specs.declared.reference.Access.TheVariants.{Reads, Writes, Increments}
 use Rattle.mlk_machine_locks.specs.declared.refusal.Refusal.TheVariants.{NotEnabled}
 use Rattle.mlk_syntax.specs.declared.expr.Callee.{Callee}
 use Rattle.mlk_syntax.specs.ExprTrees.{Tree, Choices, no_choices, choice as condition, ActualTree}
@@ -74,6 +74,7 @@ makes k = (choice.None, (k, refl))
 touches : (a : Access) (j : Job) (ts : List Task) → MakesBySome (λ c. touched c a j ts)
 touches Reads j ts = (choice.Value [], (_, refl))
 touches Writes j ts = (choice.None, (_, refl))
+touches Increments j ts = (choice.None, (_, refl))
 
 frame_ends : (frame : Frame) (k : Job) → MakesBySome (λ c. frame_end c frame k)
 frame_ends NoValue k = (choice.None, (_, refl))

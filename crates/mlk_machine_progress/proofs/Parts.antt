@@ -9,7 +9,7 @@ use Rattle.mlk_syntax.specs.ExprTrees.{Tree, Lit, Free, LocalName, GlobalName, S
 use Rattle.mlk_syntax.specs.ExprTrees.{Trees, no_trees, tree, Subs, no_subs, sub, Links, no_links, link, ActualTree, Given, ByRef, Missing, count_subs, as_list}
 use Rattle.mlk_names.specs.declared.reference.Extent.{Extent}
 use Rattle.mlk_names.specs.declared.reference.Extent.TheVariants as extent
-use Rattle.mlk_names.specs.declared.reference.Access.TheVariants.{Reads, Writes}
+use Rattle.mlk_names.specs.declared.reference.Access.TheVariants.{Reads, Writes, Increments}
 use Rattle.mlk_names.specs.declared.lock_name.LockName.{LockName}
 use Rattle.mlk_syntax.specs.declared.command.Sign.{Sign}
 use Rattle.mlk_syntax.specs.declared.command.Sign.TheVariants as sign
@@ -95,7 +95,7 @@ globals : (f : Function) (name : List ℕ) (ss : Subs) (more : Trees) → HasEff
 globals function.Data name ss more = both (of_read name ss extent.Tree) (of_unused more)
 globals function.Get name ss more = both (of_read name ss extent.Node) (of_unused more)
 globals function.Increment name ss more =
-    both (both (subs ss 0) (one (task.FormReference name (count_subs ss) extent.Node Writes) 0 refl (omega arith) refl)) (of_values more)
+    both (both (subs ss 0) (one (task.FormReference name (count_subs ss) extent.Node Increments) 0 refl (omega arith) refl)) (of_values more)
 globals function.Order name ss more =
     both (subs ss 0) (both (one (task.Drop (count_subs ss - all_but_last ss)) (all_but_last ss) {b = all_but_last ss} refl (omega arith) (omega arith))
     (both (one (task.FormReference name (all_but_last ss) extent.Tree Reads) 0 refl (omega arith) refl) (of_unused more)))

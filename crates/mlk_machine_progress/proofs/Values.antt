@@ -5,7 +5,7 @@ use Rattle.std.specs.List.{list_all}
 use Rattle.std.proofs.lemmas.List.{length-drop, length-reverse}
 use Rattle.mlk_names.specs.declared.lock_name.LockName.{LockName}
 use Rattle.mlk_names.specs.declared.reference.Access.{Access}
-use Rattle.mlk_names.specs.declared.reference.Access.TheVariants.{Reads, Writes}
+use Rattle.mlk_names.specs.declared.reference.Access.TheVariants.{Reads, Writes, Increments}
 use Rattle.mlk_machine_locks.specs.declared.refusal.Refusal.TheVariants.{NotEnabled, BadChoice}
 use Rattle.mlk_machine_locks.specs.Counts.{has_room}
 use Rattle.mlk_machine_laws.specs.Moments.{AtEachMoment}
@@ -62,6 +62,7 @@ of_choice v rest ts false j f b e = now _ ((b, (λ z. cc), f), omega (arith, b, 
 of_touch : (c : Choice) (a : Access) (j : Job) (ts : List Task) → Fits ts → needs ts ≡ length j.values + given_by a → Each Suited (touched c a j ts)
 of_touch c Reads j ts f e = of_value Suited c _ (λ v. now _ (f, omega (arith, e)))
 of_touch c Writes j ts f e = unasked Suited c _ (now _ (f, omega (arith, e)))
+of_touch c Increments j ts f e = unasked Suited c _ (now _ (f, omega (arith, e)))
 
 of_line : (lines : List LineTree) (ts : List Task) (j : Job) → IsRest ts → Suits (length j.values) ts → Each Suited (next_line lines ts j)
 of_line [] ts j r s = now _ s

@@ -4,7 +4,7 @@ use Rattle.std.specs.Prelude.{Option, Some, None, is_some, Ok}
 use Rattle.std.specs.List.{list_all}
 use Rattle.mlk_names.specs.declared.lock_name.LockName.{LockName}
 use Rattle.mlk_names.specs.declared.reference.Access.{Access}
-use Rattle.mlk_names.specs.declared.reference.Access.TheVariants.{Reads, Writes}
+use Rattle.mlk_names.specs.declared.reference.Access.TheVariants.{Reads, Writes, Increments}
 use Rattle.mlk_machine_locks.specs.Counts.{has_room}
 use Rattle.mlk_syntax.specs.ExprTrees.{no_choices}
 use Rattle.mlk_syntax.specs.Trees.{RoutineTree}
@@ -47,6 +47,7 @@ uses t = 0
 abbrev pub given_by : Access → ℕ
 given_by Reads = 1
 given_by Writes = 0
+given_by Increments = 0
 
 -- a frame of an extrinsic call, and the call that begins it, yield one value
 abbrev pub value_of : Bool → ℕ

@@ -2,7 +2,7 @@
 use Rattle.std.proofs.Common.{◌≡◌, ◌∙◌, ℕ, Bool, true, false, List, [], ◌∷◌, Option, Some, None, Ok, refl, ap}
 use Rattle.mlk_names.specs.declared.lock_name.LockName.{LockName}
 use Rattle.mlk_names.specs.declared.reference.Access.{Access}
-use Rattle.mlk_names.specs.declared.reference.Access.TheVariants.{Reads, Writes}
+use Rattle.mlk_names.specs.declared.reference.Access.TheVariants.{Reads, Writes, Increments}
 use Rattle.mlk_syntax.specs.ExprTrees.{Tree, Choices, no_choices, choice, ActualTree}
 use Rattle.mlk_syntax.specs.Trees.{RoutineTree, LineHead}
 use Rattle.mlk_program.specs.declared.entry.EntryId.{EntryId}
@@ -48,6 +48,7 @@ chosen_again value others us ts false j = refl
 touched_again : (c : Choice) (a : Access) (j : Job) (us ts : List Task) → touched c a (doing us j) ts ≡ touched c a j ts
 touched_again c Reads j us ts = refl
 touched_again c Writes j us ts = refl
+touched_again c Increments j us ts = refl
 
 entered_again : (frame : Frame) (r : ℕ) (given : List ActualTree) (lines : List LineTree) (us ts : List Task) (j : Job)
     → entered frame r given lines ts (doing us j) ≡ entered frame r given lines ts j

@@ -69,6 +69,6 @@ pub fn touch(job: &mut Job, choice: Choice, access: Access) -> Result<(), Failur
             job.push(value)?;
             Ok(())
         }
-        Access::Writes => nothing_asked(&choice),
+        Access::Writes | Access::Increments => nothing_asked(&choice),
     }
 }

@@ -1,25 +1,16 @@
 -- Which jobs clash, and which wait for which, as tests; a law says that the first decides `Clash` of `mlk_machine_jobs`. This
 -- project's own.
-use Rattle.std.specs.Prelude.{◌≡◌, ◌↔◌, ℕ, ◌==◌, Bool, true, false, ◌&&◌, ◌||◌, not, List, [], ◌∷◌, ◌++◌, map, filter, flat_map}
+use Rattle.std.specs.Prelude.{◌≡◌, ◌↔◌, ℕ, ◌==◌, Bool, true, false, ◌&&◌, not, List, [], ◌∷◌, ◌++◌, map, filter, flat_map}
 use Rattle.std.specs.Prelude.{Option, Some, None}
-use Rattle.mlk_names.specs.declared.reference.Access.{Access}
-use Rattle.mlk_names.specs.declared.reference.Access.TheVariants.{Reads, Writes}
-use Rattle.mlk_names.specs.References.{Touch}
+use Rattle.mlk_names.specs.References.{Touch, are_compatible}
 use Rattle.mlk_machine_locks.specs.Waiting.{waits}
 use Rattle.mlk_machine_jobs.specs.Tasks.{Job}
 use Rattle.mlk_machine_jobs.specs.Runs.{seen}
 use Rattle.mlk_machine_jobs.specs.Seen.{ready, Clash}
 use Rattle.mlk_machine_view.specs.Regions.{overlap}
 
-abbrev pub writes_by : Access → Bool
-writes_by Reads = false
-writes_by Writes = true
-
-abbrev pub writes : Touch → Bool
-writes t = writes_by t.access
-
 abbrev pub touches_clash : Touch → Touch → Bool
-touches_clash t u = (writes t || writes u) && overlap t.region u.region
+touches_clash t u = not (are_compatible t.access u.access) && overlap t.region u.region
 
 abbrev pub both_clash : Option Touch → Option Touch → Bool
 both_clash (Some t) (Some u) = touches_clash t u

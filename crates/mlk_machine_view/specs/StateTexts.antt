@@ -6,7 +6,7 @@ use Rattle.mlk_text.specs.declared.root.Root.TheVariants.{Global}
 use Rattle.mlk_names.specs.declared.known_symbol.KnownSym.TheVariants.{Const}
 use Rattle.mlk_names.specs.declared.lock_name.LockName.{LockName}
 use Rattle.mlk_names.specs.declared.reference.Access.{Access}
-use Rattle.mlk_names.specs.declared.reference.Access.TheVariants.{Reads, Writes}
+use Rattle.mlk_names.specs.declared.reference.Access.TheVariants.{Reads, Writes, Increments}
 use Rattle.mlk_names.specs.declared.reference.Extent.{Extent}
 use Rattle.mlk_names.specs.declared.reference.Extent.TheVariants.{Node, Tree}
 use Rattle.mlk_names.specs.References.{GlobalNode, Touch}
@@ -25,7 +25,8 @@ name_text n = constants_text n.root n.subs
 abbrev pub node_text : GlobalNode → List ℕ
 node_text n = constants_text (Global n.root) n.subs
 
--- the reference that a job is ready to touch: the node, alone or with everything below it, to read or to write
+-- the reference that a job is ready to touch: the node, alone or with everything below it, to read or to write; what increments it
+-- writes it
 abbrev pub extent_text : Extent → List ℕ
 extent_text Node = codes " node"
 extent_text Tree = codes " tree"
@@ -33,6 +34,7 @@ extent_text Tree = codes " tree"
 abbrev pub access_text : Access → List ℕ
 access_text Reads = codes " reads"
 access_text Writes = codes " writes"
+access_text Increments = codes " writes"
 
 abbrev pub touch_text : Touch → List ℕ
 touch_text t = node_text t.region.node ++ (extent_text t.region.extent ++ access_text t.access)

@@ -3,20 +3,11 @@
 ghost use Rattle.std.specs.Prelude.{◌≡◌, ◌↔◌, ◌∷◌, ◌++◌, [], IsTrue, IfOk, OnOk, map};
 ghost use Rattle.mlk_machine_jobs.specs.JobViews.{job_of};
 ghost use Rattle.mlk_machine_jobs.specs.Seen.{Clash};
-ghost use Rattle.mlk_machine_jobs.specs.TaskViews.{touch_of};
 ghost use Rattle.mlk_machine_view.specs.Clashes as tests;
 
 use crate::region::have_common_node;
-use mlk_machine_jobs::{Job, Touch};
-use mlk_names::Access;
+use mlk_machine_jobs::Job;
 use std::alloc::{AllocError, Global};
-
-// Whether `touch` is a write.
-fn is_write(touch: &Touch) -> bool
-    ensures { result ≡ tests.writes (touch_of touch.now) }
-{
-    matches!(touch.access, Access::Writes)
-}
 
 // Whether two jobs clash, as a test.
 #[tactic(auto, unfolding(crate::specs::Clashes::clash))]
@@ -26,14 +17,14 @@ fn is_tested_clash(job: &Job, other: &Job) -> bool
     match (job.ready_touch(), other.ready_touch()) {
         (Some(first), Some(second)) => {
             job.number != other.number
-                && (is_write(first) || is_write(second))
+                && !first.access.is_compatible_with(second.access)
                 && have_common_node(first, second)
         }
         _ => false,
     }
 }
 
-/// Whether two jobs clash: both are ready to touch references that overlap, one of which is a write. Allocates nothing.
+/// Whether two jobs clash: both are ready to touch references that overlap and are not compatible. Allocates nothing.
 pub fn is_clash(job: &Job, other: &Job) -> bool
     ensures test { result ≡ tests.clash (job_of job.now) (job_of other.now) }
     ensures exact { IsTrue result ↔ Clash (job_of job.now) (job_of other.now) }

@@ -47,7 +47,7 @@ fn push_access(text: &mut WrittenText, access: Access) -> Result<(), AllocError>
 {
     match access {
         Access::Reads => text.push(b" reads"),
-        Access::Writes => text.push(b" writes"),
+        Access::Writes | Access::Increments => text.push(b" writes"),
     }
 }
 

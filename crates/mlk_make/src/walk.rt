@@ -148,6 +148,7 @@ fn declaring_rules(alloc: Global, entries: List<Value>) -> Result<Option<Rules>,
         covers: List::new(alloc),
         private: List::new(alloc),
         readonly: List::new(alloc),
+        atomic: List::new(alloc),
         entries,
     };
     Rules::new(alloc, lists)

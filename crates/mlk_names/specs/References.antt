@@ -1,10 +1,11 @@
 -- What references reach, and which of them may overlap. A reference to a node reaches that node; KILL, MERGE and others reach its
 -- descendants too (ISO/IEC 11756, global variables: descendants).
-use Rattle.std.specs.Prelude.{◌≡◌, ℕ, List}
+use Rattle.std.specs.Prelude.{◌≡◌, ℕ, Bool, true, false, List}
 use Rattle.std.specs.List.{AllZip}
 use Rattle.mlk_names.specs.declared.symbol.Sym.{Sym}
 use Rattle.mlk_names.specs.declared.symbol.Sym.TheVariants.{Const, Local, Job, Unknown}
 use Rattle.mlk_names.specs.declared.reference.Access.{Access}
+use Rattle.mlk_names.specs.declared.reference.Access.TheVariants.{Reads, Writes, Increments}
 use Rattle.mlk_names.specs.declared.reference.Extent.{Extent}
 use Rattle.mlk_names.specs.declared.reference.Extent.TheVariants.{Node, Tree}
 use Rattle.mlk_names.specs.declared.reference.Reference.{Reference}
@@ -21,10 +22,21 @@ pub record Region : Type 0 where
   pub node : GlobalNode
   pub extent : Extent
 
--- what a reference touches at a moment, and whether it reads or writes there
+-- what a reference touches at a moment, and whether it reads, writes or increments there
 pub record Touch : Type 0 where
   pub region : Region
   pub access : Access
+
+-- Which accesses of two jobs need no lock between them: two reads, and two increments, since each is one step and leaves the sum
+-- of both. These are the compatible modes of read, write and increment locks.
+abbrev pub are_compatible : Access → Access → Bool
+are_compatible Reads Reads = true
+are_compatible Reads Writes = false
+are_compatible Reads Increments = false
+are_compatible Writes other = false
+are_compatible Increments Reads = false
+are_compatible Increments Writes = false
+are_compatible Increments Increments = true
 
 -- the subscripts that are reached from given ones: only these, or these followed by any tail
 abbrev pub Reaches : Extent → List (List ℕ) → List (List ℕ) → Type 0

@@ -1,5 +1,8 @@
 // References to nodes of globals.
 
+ghost use Rattle.std.specs.Prelude.{◌≡◌};
+ghost use Rattle.mlk_names.specs.References.{are_compatible};
+
 use crate::symbol::Sym;
 use mlk_text::{Name, Subscripts};
 
@@ -17,6 +20,20 @@ pub enum Extent {
 pub enum Access {
     Reads,
     Writes,
+    /// `$INCREMENT`: it reads a node, adds to it and writes it, in one step
+    Increments,
+}
+
+impl Access {
+    /// Whether two jobs may do both to one node without a lock between them.
+    pub fn is_compatible_with(self, other: Access) -> bool
+        ensures { result ≡ are_compatible self other }
+    {
+        matches!(
+            (self, other),
+            (Access::Reads, Access::Reads) | (Access::Increments, Access::Increments)
+        )
+    }
 }
 
 /// The subscripts of a reference, usually up to four.

@@ -24,7 +24,7 @@ given_of routines rules blocks workers = record { routines = routines; rules = r
 abbrev pub nothing : Given
 nothing = record {
   routines = [];
-  rules = record { families = []; covers = []; private = []; readonly = []; entries = [] };
+  rules = record { families = []; covers = []; private = []; readonly = []; atomic = []; entries = [] };
   blocks = [];
   workers = 0;
 }

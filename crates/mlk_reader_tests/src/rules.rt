@@ -65,6 +65,7 @@ fn rules(
         covers,
         private,
         readonly: List::new(alloc),
+        atomic: List::new(alloc),
         entries: List::new(alloc),
     };
     Rules::new(alloc, lists)

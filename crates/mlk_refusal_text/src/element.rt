@@ -56,6 +56,12 @@ const READONLY_KEYS: [Key; 1] = [Key {
     is_optional: false,
 }];
 
+const ATOMIC_KEYS: [Key; 1] = [Key {
+    name: "global",
+    form: Some(Form::Atomic),
+    is_optional: false,
+}];
+
 const ENTRY_KEYS: [Key; 1] = [Key {
     name: "label",
     form: Some(Form::Entry),
@@ -70,6 +76,7 @@ pub(crate) fn keys_of(section: Section) -> &'static [Key] {
         Section::Cover => &COVER_KEYS,
         Section::Private => &PRIVATE_KEYS,
         Section::Readonly => &READONLY_KEYS,
+        Section::Atomic => &ATOMIC_KEYS,
         Section::Entry => &ENTRY_KEYS,
     }
 }
@@ -82,13 +89,17 @@ pub(crate) fn section_key(section: Section) -> &'static str {
         Section::Cover => "cover",
         Section::Private => "private",
         Section::Readonly => "readonly",
+        Section::Atomic => "atomic",
         Section::Entry => "entry",
     }
 }
 
 /// Whether `key` is that of a section.
 pub(crate) fn is_section_key(key: &str) -> bool {
-    matches!(key, "lock" | "cover" | "private" | "readonly" | "entry")
+    matches!(
+        key,
+        "lock" | "cover" | "private" | "readonly" | "atomic" | "entry"
+    )
 }
 
 /// Element number `index` of a section, counted from 1; `None` if there is none.

@@ -102,7 +102,7 @@ impl<'t, 'a> RefusedElement<'t, 'a> {
                 let line = section_line(self.lines, key.as_str());
                 let name = Words(key.as_str());
                 let others = Words(
-                    " is no section; the sections are lock, cover, private, readonly and entry",
+                    " is no section; the sections are lock, cover, private, readonly, atomic and entry",
                 );
                 return finding(alloc, line, &[name, others]);
             }

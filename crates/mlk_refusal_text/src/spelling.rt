@@ -12,6 +12,8 @@ pub(crate) enum Form {
     Pattern,
     /// the pattern of a private rule
     Private,
+    /// the pattern of an atomic rule
+    Atomic,
     /// a lock of a cover
     Lock,
     /// the name of a family
@@ -118,6 +120,7 @@ fn variable_slip(form: Form, text: &[u8]) -> Option<Slip> {
 fn tree_slip(form: Form, is_last: bool) -> Option<Slip> {
     match form {
         Form::Lock | Form::Family => wrong_at(0, "... is only for patterns"),
+        Form::Atomic => wrong_at(0, "an atomic pattern has no ...: a counter is one node"),
         _ if !is_last => wrong_at(0, "... comes last"),
         _ => None,
     }
@@ -222,7 +225,7 @@ impl<'a> Parts<'a> {
     // What is wrong around the elements: the name, the parentheses, and the rest after them.
     fn frame_slip(&self, form: Form, length: usize) -> Option<Slip> {
         let carets = usize::from(self.name.starts_with(b"^"));
-        if carets == 0 && matches!(form, Form::Pattern | Form::Private) {
+        if carets == 0 && matches!(form, Form::Pattern | Form::Private | Form::Atomic) {
             return wrong_at(0, "a pattern begins with ^");
         }
         let (_, name) = split_at_most(self.name, carets);

@@ -6,14 +6,14 @@ use Rattle.std.proofs.Math.Seq.{drop-cons}
 use Rattle.std.proofs.lemmas.List.{get_or_default, append-nil}
 use Rattle.mlk_names.specs.declared.term.LockTerm.{LockTerm}
 use Rattle.mlk_names.specs.declared.reference.Access.{Access}
-use Rattle.mlk_names.specs.declared.reference.Access.TheVariants.{Reads, Writes}
+use Rattle.mlk_names.specs.declared.reference.Access.TheVariants.{Reads, Writes, Increments}
 use Rattle.mlk_names.specs.declared.reference.Reference.{Reference}
 use Rattle.mlk_rules.specs.declared.pattern.Pattern.{Pattern}
 use Rattle.mlk_rules.specs.declared.template.Template.{Template}
 use Rattle.mlk_rules.specs.declared.cover.Cover.{Cover}
 use Rattle.mlk_rules.specs.declared.rules.RuleLists.{RuleLists}
 use Rattle.mlk_rules.specs.Patterns.{MayMeet, SurelyLies, SurelyAbove}
-use Rattle.mlk_rules.specs.Coverage.{OfCover, OfPrivate, IsRuled, KeepsReadonly, cut_template, HoldsLock, second_of, locks_of, HoldLocks, Lacks, asked, AreMissing, AreLackingOf, AreLacking}
+use Rattle.mlk_rules.specs.Coverage.{OfCover, OfPrivate, IsRuled, cut_template, HoldsLock, second_of, locks_of, HoldLocks, Lacks, asked, AreMissing, AreLackingOf, AreLacking}
 use Rattle.mlk_rules.specs.Fronts.{Gained}
 use Rattle.mlk_rules.proofs.Computing.{in_front, in_rest, in_list}
 
@@ -50,14 +50,32 @@ module _ (rules : RuleLists) (r : Reference) where
   pub ruled_by_private : (p : Pattern) × Contains rules.private p × IsFor p → IsRuled rules r
   ruled_by_private (p, is, h) = (p, OfPrivate is, h)
 
-  pub keeps_readonly : (b : Bool) → r.access ≡ Writes → IsTrue b ↔ ((p : Pattern) × Contains rules.readonly p × MayMeet p r) → IsTrue (not b) ↔ KeepsReadonly rules r
-  keeps_readonly true w h = (
-    λ e. absurd (cc),
-    λ k.
-        let m = h.0 refl in
-        absurd (let e : Reads ≡ Writes = sym (k m.0 m.1 m.2) ∙ w in cc),
-  )
-  keeps_readonly false w h = (λ e p is m. absurd (let e : false ≡ true = h.1 (p, is, m) in cc), λ k. refl)
+-- an access that is not the one that patterns allow keeps them if it meets none
+pub keeps_only : (r : Reference) (a : Access) (patterns : List Pattern) (b : Bool) → (r.access ≡ a → ⊥)
+    → IsTrue b ↔ ((p : Pattern) × Contains patterns p × MayMeet p r)
+    → IsTrue (not b) ↔ ((p : Pattern) → Contains patterns p → MayMeet p r → r.access ≡ a)
+keeps_only r a patterns true other h = (
+  λ e. absurd (cc),
+  λ k.
+      let m = h.0 refl in
+      absurd (other (k m.0 m.1 m.2)),
+)
+keeps_only r a patterns false other h = (λ e p is m. absurd (let e : false ≡ true = h.1 (p, is, m) in cc), λ k. refl)
+
+-- of two equal accesses, what one changes the other changes
+pub as_written : (a b : Access) → a ≡ b → (a ≡ Writes) ⊎ (a ≡ Increments) → (b ≡ Writes) ⊎ (b ≡ Increments)
+as_written a b e (inl w) = inl (sym e ∙ w)
+as_written a b e (inr w) = inr (sym e ∙ w)
+
+-- it changes a node, so it is no read
+pub is_no_read : (a : Access) → (a ≡ Writes) ⊎ (a ≡ Increments) → a ≡ Reads → ⊥
+is_no_read a (inl e) r = let d : Writes ≡ Reads = sym e ∙ r in cc
+is_no_read a (inr e) r = let d : Increments ≡ Reads = sym e ∙ r in cc
+
+-- it reads or writes, so it is no increment
+pub is_no_increment : (a : Access) → (a ≡ Reads) ⊎ (a ≡ Writes) → a ≡ Increments → ⊥
+is_no_increment a (inl e) r = let d : Reads ≡ Increments = sym e ∙ r in cc
+is_no_increment a (inr e) r = let d : Writes ≡ Increments = sym e ∙ r in cc
 
 -- locks in a list of one and of two
 module _ (held : List LockTerm) (r : Reference) where
@@ -66,6 +84,7 @@ module _ (held : List LockTerm) (r : Reference) where
 
   one_lock : (a : Access) (lock : Template) → HoldsLock held lock r ↔ HoldLocks a held r (lock ∷ [])
   one_lock Writes lock = (λ h k is. subst (λ l. HoldsLock held l r) (at_one lock k is) h, λ f. f lock (in_front lock []))
+  one_lock Increments lock = (λ h k is. subst (λ l. HoldsLock held l r) (at_one lock k is) h, λ f. f lock (in_front lock []))
   one_lock Reads lock = (
     λ h. (lock, in_front lock [], h),
     λ w. subst (λ l. HoldsLock held l r) (sym (at_one lock w.0 w.1)) w.2,
@@ -98,11 +117,11 @@ module _ (held : List LockTerm) (r : Reference) where
     by_one e =
         subst (λ o. HoldsLock held c.lock r ↔ HoldLocks r.access held r (c.lock ∷ second_of o)) (sym e) (one_lock r.access c.lock)
 
-    pub by_two_written : (also : Template) → c.also ≡ Some also → r.access ≡ Writes → (HoldsLock held c.lock r × HoldsLock held also r) ↔ HoldLocks r.access held r (locks_of c)
+    pub by_two_written : (also : Template) → c.also ≡ Some also → (r.access ≡ Writes) ⊎ (r.access ≡ Increments) → (HoldsLock held c.lock r × HoldsLock held also r) ↔ HoldLocks r.access held r (locks_of c)
     by_two_written also e w =
         let P : Access → Type 0 = λ a. (HoldsLock held c.lock r × HoldsLock held also r) ↔ HoldLocks a held r (c.lock ∷ also ∷ []) in
         subst (λ o. (HoldsLock held c.lock r × HoldsLock held also r) ↔ HoldLocks r.access held r (c.lock ∷ second_of o)) (sym e)
-        (subst P (sym w) (two_written c.lock also))
+        (elim w [ inl i ↦ subst P (sym i) (two_written c.lock also) | inr i ↦ subst P (sym i) (two_written c.lock also) ])
 
     pub by_two_read : (also : Template) → c.also ≡ Some also → r.access ≡ Reads → (HoldsLock held c.lock r ⊎ HoldsLock held also r) ↔ HoldLocks r.access held r (locks_of c)
     by_two_read also e w =
@@ -116,10 +135,12 @@ module _ (held : List LockTerm) (r : Reference) where
       where
         by : (a : Access) → asked a c ≡ c.lock ∷ []
         by Writes = ap (λ o. c.lock ∷ second_of o) e
+        by Increments = ap (λ o. c.lock ∷ second_of o) e
         by Reads = refl
 
-    pub asks_two : (also : Template) → c.also ≡ Some also → r.access ≡ Writes → asked r.access c ≡ c.lock ∷ also ∷ []
-    asks_two also e w = ap (λ a. asked a c) w ∙ ap (λ o. c.lock ∷ second_of o) e
+    pub asks_two : (also : Template) → c.also ≡ Some also → (r.access ≡ Writes) ⊎ (r.access ≡ Increments) → asked r.access c ≡ c.lock ∷ also ∷ []
+    asks_two also e (inl w) = ap (λ a. asked a c) w ∙ ap (λ o. c.lock ∷ second_of o) e
+    asks_two also e (inr w) = ap (λ a. asked a c) w ∙ ap (λ o. c.lock ∷ second_of o) e
 
     pub asks_first : r.access ≡ Reads → asked r.access c ≡ c.lock ∷ []
     asks_first w = ap (λ a. asked a c) w

@@ -16,7 +16,7 @@ use Rattle.mlk_names.specs.declared.term.LockTerm.{LockTerm}
 use Rattle.mlk_names.specs.declared.reference.Extent.{Extent}
 use Rattle.mlk_names.specs.declared.reference.Extent.TheVariants.{Node, Tree}
 use Rattle.mlk_names.specs.declared.reference.Access.{Access}
-use Rattle.mlk_names.specs.declared.reference.Access.TheVariants.{Reads, Writes}
+use Rattle.mlk_names.specs.declared.reference.Access.TheVariants.{Reads, Writes, Increments}
 use Rattle.mlk_names.specs.declared.reference.Reference.{Reference}
 use Rattle.mlk_names.specs.Lists.{Begins}
 use Rattle.mlk_names.specs.Terms.{IsPrefix}
@@ -32,9 +32,9 @@ use Rattle.mlk_rules.specs.declared.cover.ReadPolicy.{ReadPolicy}
 use Rattle.mlk_rules.specs.declared.cover.ReadPolicy.TheVariants.{Locked, Free}
 use Rattle.mlk_rules.specs.declared.rules.RuleLists.{RuleLists}
 use Rattle.mlk_rules.specs.Patterns.{MayMeet, Suits, StaysIn, SurelyLies, SurelyAbove}
-use Rattle.mlk_rules.specs.Coverage.{cut_template, HoldsLock, HoldLocks, locks_of, Satisfies, IsOwn, OfCover, OfPrivate, OfReadonly, IsRuled, KeepsReadonly, KeepsPrivate, KeepsCovers, IsAnswer}
+use Rattle.mlk_rules.specs.Coverage.{cut_template, HoldsLock, HoldLocks, locks_of, Satisfies, IsOwn, OfCover, OfPrivate, OfReadonly, OfAtomic, IsRuled, KeepsReadonly, KeepsAtomic, KeepsPrivate, KeepsCovers, IsAnswer}
 use Rattle.mlk_rules.specs.Fronts.{symbol_of, SubsLie, SubsAbove, OwnSubs}
-use Rattle.mlk_rules.specs.Computed.{goes_on, may_be_same, subs_may_meet, may_meet, suits, stays_in, subs_lie, subs_above, surely_lies, surely_above, is_ruled_by, is_ruled, only_reads, keeps_readonly, is_job, first_of, after_first, own_subs, keeps_private, same_root, same_symbol, begins, is_prefix, holds_lock, hold_locks, is_free, satisfies, keeps_covers, answer}
+use Rattle.mlk_rules.specs.Computed.{goes_on, may_be_same, subs_may_meet, may_meet, suits, stays_in, subs_lie, subs_above, surely_lies, surely_above, is_ruled_by, is_ruled, only_reads, keeps_readonly, only_increments, keeps_atomic, is_job, first_of, after_first, own_subs, keeps_private, same_root, same_symbol, begins, is_prefix, holds_lock, hold_locks, is_free, satisfies, keeps_covers, answer}
 use Rattle.mlk_rules.specs.Laws.{ComputedAnswers}
 use Rattle.mlk_rules.proofs.FrontLemmas.{element_meets, lie_none, lie_no_subs, lie_suits, lie_cons, above_none, above_no_elements, above_suits, above_cons}
 use Rattle.mlk_rules.proofs.MeetLemmas.{meet_from, meet_root, meet_fronts}
@@ -180,35 +180,53 @@ module _ (rules : RuleLists) (r : Reference) where
   abbrev InCovers : Type 0
   InCovers = (c : Cover) × Contains rules.covers c × IsFor r c.pattern
 
-  ruled_from : InCovers ⊎ (InPatterns rules.private ⊎ InPatterns rules.readonly) → IsRuled rules r
+  abbrev InSome : Type 0
+  InSome = InCovers ⊎ (InPatterns rules.private ⊎ (InPatterns rules.readonly ⊎ InPatterns rules.atomic))
+
+  ruled_from : InSome → IsRuled rules r
   ruled_from (inl (c, is, h)) = (c.pattern, OfCover c is refl, h)
   ruled_from (inr (inl (p, is, h))) = (p, OfPrivate is, h)
-  ruled_from (inr (inr (p, is, h))) = (p, OfReadonly is, h)
+  ruled_from (inr (inr (inl (p, is, h)))) = (p, OfReadonly is, h)
+  ruled_from (inr (inr (inr (p, is, h)))) = (p, OfAtomic is, h)
 
-  ruled_to : IsRuled rules r → InCovers ⊎ (InPatterns rules.private ⊎ InPatterns rules.readonly)
+  ruled_to : IsRuled rules r → InSome
   ruled_to (p, OfCover c is e, h) =
       let P : Pattern → Type 0 = λ q. IsFor r q in inl (c, is, subst P (sym e) h)
   ruled_to (p, OfPrivate is, h) = inr (inl (p, is, h))
-  ruled_to (p, OfReadonly is, h) = inr (inr (p, is, h))
+  ruled_to (p, OfReadonly is, h) = inr (inr (inl (p, is, h)))
+  ruled_to (p, OfAtomic is, h) = inr (inr (inr (p, is, h)))
 
   ruled_decides : Decides (is_ruled rules r) (IsRuled rules r)
   ruled_decides =
       let covers = list_any (λ (c : Cover). is_ruled_by r c.pattern) rules.covers in
       let private = list_any (is_ruled_by r) rules.private in
       let readonly = list_any (is_ruled_by r) rules.readonly in
-      Decides-like (covers || (private || readonly)) ruled_from ruled_to
-      (Decides-or covers (private || readonly)
+      let atomic = list_any (is_ruled_by r) rules.atomic in
+      Decides-like (covers || (private || (readonly || atomic))) ruled_from ruled_to
+      (Decides-or covers (private || (readonly || atomic))
       (any_decides (λ (c : Cover). is_ruled_by r c.pattern) (λ (c : Cover). IsFor r c.pattern) (λ (c : Cover). for_decides r c.pattern) rules.covers)
-      (Decides-or private readonly (any_decides (is_ruled_by r) (IsFor r) (for_decides r) rules.private) (any_decides (is_ruled_by r) (IsFor r) (for_decides r) rules.readonly)))
+      (Decides-or private (readonly || atomic) (any_decides (is_ruled_by r) (IsFor r) (for_decides r) rules.private)
+      (Decides-or readonly atomic (any_decides (is_ruled_by r) (IsFor r) (for_decides r) rules.readonly) (any_decides (is_ruled_by r) (IsFor r) (for_decides r) rules.atomic))))
 
 reads_decides : (a : Access) → Decides (only_reads a) (a ≡ Reads)
 reads_decides Reads = yes refl
 reads_decides Writes = no (λ e. cc)
+reads_decides Increments = no (λ e. cc)
 
 readonly_decides : (rules : RuleLists) (r : Reference) → Decides (keeps_readonly rules r) (KeepsReadonly rules r)
 readonly_decides rules r =
     all_decides (λ p. not (may_meet p r) || only_reads r.access) (λ p. MayMeet p r → r.access ≡ Reads)
     (λ p. if_decides (may_meet p r) (only_reads r.access) (meet_decides r p) (reads_decides r.access)) rules.readonly
+
+increments_decide : (a : Access) → Decides (only_increments a) (a ≡ Increments)
+increments_decide Reads = no (λ e. cc)
+increments_decide Writes = no (λ e. cc)
+increments_decide Increments = yes refl
+
+atomic_decides : (rules : RuleLists) (r : Reference) → Decides (keeps_atomic rules r) (KeepsAtomic rules r)
+atomic_decides rules r =
+    all_decides (λ p. not (may_meet p r) || only_increments r.access) (λ p. MayMeet p r → r.access ≡ Increments)
+    (λ p. if_decides (may_meet p r) (only_increments r.access) (meet_decides r p) (increments_decide r.access)) rules.atomic
 
 -- whether `$JOB` is at each index of `$J`
 job_decides : (o : Option Sym) → Decides (is_job o) (o ≡ Some Job)
@@ -286,11 +304,13 @@ holds_decides held r lock =
 
 locks_decide : (a : Access) (held : List LockTerm) (r : Reference) (locks : List Template) → Decides (hold_locks a held r locks) (HoldLocks a held r locks)
 locks_decide Writes held r locks = all_decides (holds_lock held r) (λ lock. HoldsLock held lock r) (holds_decides held r) locks
+locks_decide Increments held r locks = all_decides (holds_lock held r) (λ lock. HoldsLock held lock r) (holds_decides held r) locks
 locks_decide Reads held r locks = any_decides (holds_lock held r) (λ lock. HoldsLock held lock r) (holds_decides held r) locks
 
 free_decides : (policy : ReadPolicy) (a : Access) → Decides (is_free policy a) ((policy ≡ Free) × (a ≡ Reads))
 free_decides Free Reads = yes (refl, refl)
 free_decides Free Writes = no (λ h. let e : Writes ≡ Reads = h.1 in cc)
+free_decides Free Increments = no (λ h. let e : Increments ≡ Reads = h.1 in cc)
 free_decides Locked a = no (λ h. let e : Locked ≡ Free = h.0 in cc)
 
 satisfied_decides : (held : List LockTerm) (r : Reference) (c : Cover) → Decides (satisfies held r c) (Satisfies held r c)
@@ -302,40 +322,47 @@ covers_decide rules held r =
     all_decides (λ (c : Cover). not (may_meet c.pattern r) || satisfies held r c) (λ (c : Cover). MayMeet c.pattern r → Satisfies held r c)
     (λ (c : Cover). if_decides (may_meet c.pattern r) (satisfies held r c) (meet_decides r c.pattern) (satisfied_decides held r c)) rules.covers
 
--- the answer of four tests
-abbrev pub by_tests : Bool → Bool → Bool → Bool → Option Code
-by_tests a b c d =
-    if a then (if b then (if c then (if d then None else Some code.Uncovered) else Some code.NotPrivate) else Some code.ReadOnly) else Some code.Unruled
+-- the answer of five tests
+abbrev pub by_tests : Bool → Bool → Bool → Bool → Bool → Option Code
+by_tests a b c d e =
+    if a then
+    (if b then (if c then (if d then (if e then None else Some code.Uncovered) else Some code.NotPrivate) else Some code.NotAtomic) else Some code.ReadOnly)
+    else Some code.Unruled
 
 module _ (rules : RuleLists) (held : List LockTerm) (r : Reference) where
-  is_by_tests : (a b c d : Bool) → Decides a (IsRuled rules r) → Decides b (KeepsReadonly rules r) → Decides c (KeepsPrivate rules r) → Decides d (KeepsCovers rules held r) → IsAnswer rules held r (by_tests a b c d)
-  is_by_tests false b c d i j k l = not_from_Decides false i refl
-  is_by_tests true false c d i j k l = (i.0 refl, not_from_Decides false j refl)
-  is_by_tests true true false d i j k l = (i.0 refl, j.0 refl, not_from_Decides false k refl)
-  is_by_tests true true true false i j k l = (i.0 refl, j.0 refl, k.0 refl, not_from_Decides false l refl)
-  is_by_tests true true true true i j k l =
-      record { ruled = i.0 refl; readonly = j.0 refl; private = k.0 refl; covers = l.0 refl }
+  is_by_tests : (a b c d e : Bool) → Decides a (IsRuled rules r) → Decides b (KeepsReadonly rules r) → Decides c (KeepsAtomic rules r) → Decides d (KeepsPrivate rules r) → Decides e (KeepsCovers rules held r)
+      → IsAnswer rules held r (by_tests a b c d e)
+  is_by_tests false b c d e i j k l m = not_from_Decides false i refl
+  is_by_tests true false c d e i j k l m = (i.0 refl, not_from_Decides false j refl)
+  is_by_tests true true false d e i j k l m = (i.0 refl, j.0 refl, not_from_Decides false k refl)
+  is_by_tests true true true false e i j k l m = (i.0 refl, j.0 refl, k.0 refl, not_from_Decides false l refl)
+  is_by_tests true true true true false i j k l m = (i.0 refl, j.0 refl, k.0 refl, l.0 refl, not_from_Decides false m refl)
+  is_by_tests true true true true true i j k l m =
+      record { ruled = i.0 refl; readonly = j.0 refl; atomic = k.0 refl; private = l.0 refl; covers = m.0 refl }
 
   is_false : {P : Type 0} (b : Bool) → Decides b P → (P → ⊥) → b ≡ false
   is_false true d f = absurd (f (d.0 refl))
   is_false false d f = refl
 
-  only_by_tests : (a b c d : Bool) → Decides a (IsRuled rules r) → Decides b (KeepsReadonly rules r) → Decides c (KeepsPrivate rules r) → Decides d (KeepsCovers rules held r) → (found : Option Code) → IsAnswer rules held r found → found ≡ by_tests a b c d
-  only_by_tests a b c d i j k l None h = rw (i.1 h.ruled, j.1 h.readonly, k.1 h.private, l.1 h.covers) refl
-  only_by_tests a b c d i j k l (Some code.Unruled) h = rw (is_false a i h) refl
-  only_by_tests a b c d i j k l (Some code.ReadOnly) h = rw (i.1 h.0, is_false b j h.1) refl
-  only_by_tests a b c d i j k l (Some code.NotPrivate) h = rw (i.1 h.0, j.1 h.1, is_false c k h.2) refl
-  only_by_tests a b c d i j k l (Some code.Uncovered) h = rw (i.1 h.0, j.1 h.1, k.1 h.2, is_false d l h.3) refl
-  only_by_tests a b c d i j k l (Some other) h = absurd h
+  only_by_tests : (a b c d e : Bool) → Decides a (IsRuled rules r) → Decides b (KeepsReadonly rules r) → Decides c (KeepsAtomic rules r) → Decides d (KeepsPrivate rules r) → Decides e (KeepsCovers rules held r)
+      → (found : Option Code) → IsAnswer rules held r found → found ≡ by_tests a b c d e
+  only_by_tests a b c d e i j k l m None h = rw (i.1 h.ruled, j.1 h.readonly, k.1 h.atomic, l.1 h.private, m.1 h.covers) refl
+  only_by_tests a b c d e i j k l m (Some code.Unruled) h = rw (is_false a i h) refl
+  only_by_tests a b c d e i j k l m (Some code.ReadOnly) h = rw (i.1 h.0, is_false b j h.1) refl
+  only_by_tests a b c d e i j k l m (Some code.NotAtomic) h = rw (i.1 h.0, j.1 h.1, is_false c k h.2) refl
+  only_by_tests a b c d e i j k l m (Some code.NotPrivate) h = rw (i.1 h.0, j.1 h.1, k.1 h.2, is_false d l h.3) refl
+  only_by_tests a b c d e i j k l m (Some code.Uncovered) h = rw (i.1 h.0, j.1 h.1, k.1 h.2, l.1 h.3, is_false e m h.4) refl
+  only_by_tests a b c d e i j k l m (Some other) h = absurd h
 
 pub computed_answers : ComputedAnswers
 unfolding answer
 computed_answers rules held r =
     let i = ruled_decides rules r in
     let j = readonly_decides rules r in
-    let k = private_decides rules r in
-    let l = covers_decide rules held r in
+    let k = atomic_decides rules r in
+    let l = private_decides rules r in
+    let m = covers_decide rules held r in
     record {
-      is = is_by_tests rules held r (is_ruled rules r) (keeps_readonly rules r) (keeps_private rules r) (keeps_covers rules held r) i j k l;
-      only = only_by_tests rules held r (is_ruled rules r) (keeps_readonly rules r) (keeps_private rules r) (keeps_covers rules held r) i j k l;
+      is = is_by_tests rules held r (is_ruled rules r) (keeps_readonly rules r) (keeps_atomic rules r) (keeps_private rules r) (keeps_covers rules held r) i j k l m;
+      only = only_by_tests rules held r (is_ruled rules r) (keeps_readonly rules r) (keeps_atomic rules r) (keeps_private rules r) (keeps_covers rules held r) i j k l m;
     }

@@ -90,6 +90,7 @@ is_group rules groups name kept None is = record {
   covers = λ c in' e. lacks c.pattern.global e (kept.complete.covers c in');
   private = λ p in' e. lacks p.global e (kept.complete.private p in');
   readonly = λ p in' e. lacks p.global e (kept.complete.readonly p in');
+  atomic = λ p in' e. lacks p.global e (kept.complete.atomic p in');
 }
   where
     lacks : (n : List ℕ) → n ≡ name → HasGroup groups n → ⊥

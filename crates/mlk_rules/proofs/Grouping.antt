@@ -12,7 +12,7 @@ use Rattle.mlk_rules.specs.declared.pattern.Pattern.{Pattern}
 use Rattle.mlk_rules.specs.declared.cover.Cover.{Cover}
 use Rattle.mlk_rules.specs.declared.rules.RuleLists.{RuleLists}
 use Rattle.mlk_rules.specs.Patterns.{MayMeet, SurelyLies, SurelyAbove}
-use Rattle.mlk_rules.specs.Coverage.{OfCover, OfPrivate, OfReadonly, IsRuled, KeepsReadonly, KeepsPrivate, KeepsCovers, IsAnswer, AreLacking}
+use Rattle.mlk_rules.specs.Coverage.{OfCover, OfPrivate, OfReadonly, OfAtomic, IsRuled, KeepsReadonly, KeepsAtomic, KeepsPrivate, KeepsCovers, IsAnswer, AreLacking}
 use Rattle.mlk_rules.specs.Groups.{covers_of, of_global, HasNoRule}
 use Rattle.mlk_rules.proofs.MeetLemmas.{meet_root}
 use Rattle.mlk_rules.proofs.Computing.{in_front, in_rest, in_list}
@@ -68,6 +68,7 @@ module _ (rules : RuleLists) (r : Reference) where
   ruled_out (p, OfCover c is e, h) = (p, OfCover c (left cover_test rules.covers c is) e, h)
   ruled_out (p, OfPrivate is, h) = (p, OfPrivate (left pattern_test rules.private p is), h)
   ruled_out (p, OfReadonly is, h) = (p, OfReadonly (left pattern_test rules.readonly p is), h)
+  ruled_out (p, OfAtomic is, h) = (p, OfAtomic (left pattern_test rules.atomic p is), h)
 
   ruled_in : IsRuled rules r → IsRuled Group r
   ruled_in (p, OfCover c is e, h) =
@@ -75,12 +76,19 @@ module _ (rules : RuleLists) (r : Reference) where
       (p, OfCover c (kept cover_test rules.covers c is (for_named c.pattern r (subst P (sym e) h))) e, h)
   ruled_in (p, OfPrivate is, h) = (p, OfPrivate (kept pattern_test rules.private p is (for_named p r h)), h)
   ruled_in (p, OfReadonly is, h) = (p, OfReadonly (kept pattern_test rules.readonly p is (for_named p r h)), h)
+  ruled_in (p, OfAtomic is, h) = (p, OfAtomic (kept pattern_test rules.atomic p is (for_named p r h)), h)
 
   readonly_out : KeepsReadonly Group r → KeepsReadonly rules r
   readonly_out f p is m = f p (kept pattern_test rules.readonly p is (meet_named p r m)) m
 
   readonly_in : KeepsReadonly rules r → KeepsReadonly Group r
   readonly_in f p is m = f p (left pattern_test rules.readonly p is) m
+
+  atomic_out : KeepsAtomic Group r → KeepsAtomic rules r
+  atomic_out f p is m = f p (kept pattern_test rules.atomic p is (meet_named p r m)) m
+
+  atomic_in : KeepsAtomic rules r → KeepsAtomic Group r
+  atomic_in f p is m = f p (left pattern_test rules.atomic p is) m
 
   private_out : KeepsPrivate Group r → KeepsPrivate rules r
   private_out f p is m = f p (kept pattern_test rules.private p is (meet_named p r m)) m
@@ -99,13 +107,16 @@ module _ (rules : RuleLists) (r : Reference) where
   answer_out held None h = record {
     ruled = ruled_out h.ruled;
     readonly = readonly_out h.readonly;
+    atomic = atomic_out h.atomic;
     private = private_out h.private;
     covers = covers_out held h.covers;
   }
   answer_out held (Some code.Unruled) h = λ i. h (ruled_in i)
   answer_out held (Some code.ReadOnly) h = (ruled_out h.0, λ k. h.1 (readonly_in k))
-  answer_out held (Some code.NotPrivate) h = (ruled_out h.0, readonly_out h.1, λ k. h.2 (private_in k))
-  answer_out held (Some code.Uncovered) h = (ruled_out h.0, readonly_out h.1, private_out h.2, λ k. h.3 (covers_in held k))
+  answer_out held (Some code.NotAtomic) h = (ruled_out h.0, readonly_out h.1, λ k. h.2 (atomic_in k))
+  answer_out held (Some code.NotPrivate) h = (ruled_out h.0, readonly_out h.1, atomic_out h.2, λ k. h.3 (private_in k))
+  answer_out held (Some code.Uncovered) h =
+      (ruled_out h.0, readonly_out h.1, atomic_out h.2, private_out h.3, λ k. h.4 (covers_in held k))
   answer_out held (Some other) h = absurd h
 
   -- without a rule of its global the reference is in no rule
@@ -115,6 +126,7 @@ module _ (rules : RuleLists) (r : Reference) where
       none.covers c is (sym ((bytes_eq-Decides r.root c.pattern.global).0 (for_named c.pattern r (subst P (sym e) h))))
   unruled none (p, OfPrivate is, h) = none.private p is (sym ((bytes_eq-Decides r.root p.global).0 (for_named p r h)))
   unruled none (p, OfReadonly is, h) = none.readonly p is (sym ((bytes_eq-Decides r.root p.global).0 (for_named p r h)))
+  unruled none (p, OfAtomic is, h) = none.atomic p is (sym ((bytes_eq-Decides r.root p.global).0 (for_named p r h)))
 
   -- what is missing by the group's covers is all that is missing
   pub lacking_out : (held : List LockTerm) (covers : List Cover) (ts : List LockTerm) → AreLacking held r (covers_of r.root covers) ts → AreLacking held r covers ts

@@ -11,7 +11,7 @@ use Rattle.mlk_names.specs.declared.known_symbol.KnownSym.{KnownSym}
 use Rattle.mlk_names.specs.declared.known_symbol.KnownSym.TheVariants as known
 use Rattle.mlk_names.specs.declared.term.LockTerm.{LockTerm}
 use Rattle.mlk_names.specs.declared.reference.Access.{Access}
-use Rattle.mlk_names.specs.declared.reference.Access.TheVariants.{Reads, Writes}
+use Rattle.mlk_names.specs.declared.reference.Access.TheVariants.{Reads, Writes, Increments}
 use Rattle.mlk_names.specs.declared.reference.Extent.{Extent}
 use Rattle.mlk_names.specs.declared.reference.Extent.TheVariants.{Node, Tree}
 use Rattle.mlk_names.specs.declared.reference.Reference.{Reference}
@@ -26,7 +26,7 @@ use Rattle.mlk_rules.specs.declared.template.Template.{Template}
 use Rattle.mlk_rules.specs.declared.cover.Cover.{Cover}
 use Rattle.mlk_rules.specs.declared.rules.RuleLists.{RuleLists}
 use Rattle.mlk_rules.specs.Coverage.{before_missing, symbol_at, cut_template, locks_of, IsAnswer}
-use Rattle.mlk_rules.specs.Computed.{may_be_same, subs_may_meet, may_meet, suits, stays_in, subs_lie, subs_above, goes_on, is_ruled_by, is_ruled, only_reads, keeps_readonly, is_job, first_of, after_first, own_subs, keeps_private, same_root, same_symbol, begins, is_prefix, holds_lock, hold_locks, is_free, satisfies, keeps_covers, answer}
+use Rattle.mlk_rules.specs.Computed.{may_be_same, subs_may_meet, may_meet, suits, stays_in, subs_lie, subs_above, goes_on, is_ruled_by, is_ruled, only_reads, keeps_readonly, only_increments, keeps_atomic, is_job, first_of, after_first, own_subs, keeps_private, same_root, same_symbol, begins, is_prefix, holds_lock, hold_locks, is_free, satisfies, keeps_covers, answer}
 use Rattle.mlk_rules.specs.Laws.{mark, marked, MarkedAlike}
 use Rattle.mlk_rules.proofs.Computing.{in_front, in_rest, computed_answers}
 
@@ -160,10 +160,14 @@ module _ (n : List ℕ) where
         let covers = any_same (λ (c : Cover). is_ruled_by (marked n r) c.pattern) (λ (c : Cover). is_ruled_by r c.pattern) rules.covers (λ c is. pattern_rules c.pattern) in
         let private = any_same (is_ruled_by (marked n r)) (is_ruled_by r) rules.private (λ p is. pattern_rules p) in
         let readonly = any_same (is_ruled_by (marked n r)) (is_ruled_by r) rules.readonly (λ p is. pattern_rules p) in
-        rw (covers, private, readonly) refl
+        let atomic = any_same (is_ruled_by (marked n r)) (is_ruled_by r) rules.atomic (λ p is. pattern_rules p) in
+        rw (covers, private, readonly, atomic) refl
 
     readonly_same : keeps_readonly rules (marked n r) ≡ keeps_readonly rules r
     readonly_same = all_same _ _ rules.readonly (λ p. ap (λ b. not b || only_reads r.access) (pattern_meets p))
+
+    atomic_same : keeps_atomic rules (marked n r) ≡ keeps_atomic rules r
+    atomic_same = all_same _ _ rules.atomic (λ p. ap (λ b. not b || only_increments r.access) (pattern_meets p))
 
     private_same : keeps_private rules (marked n r) ≡ keeps_private rules r
     private_same =
@@ -177,6 +181,7 @@ module _ (n : List ℕ) where
 
     locks_same : (a : Access) (locks : List Template) → hold_locks a held (marked n r) locks ≡ hold_locks a held r locks
     locks_same Writes locks = all_same (holds_lock held (marked n r)) (holds_lock held r) locks lock_same
+    locks_same Increments locks = all_same (holds_lock held (marked n r)) (holds_lock held r) locks lock_same
     locks_same Reads locks = any_same (holds_lock held (marked n r)) (holds_lock held r) locks (λ lock is. lock_same lock)
 
     covers_same : keeps_covers rules held (marked n r) ≡ keeps_covers rules held r
@@ -186,7 +191,7 @@ module _ (n : List ℕ) where
 
     answer_same : answer rules held (marked n r) ≡ answer rules held r
     unfolding answer
-    answer_same = rw (ruled_same, readonly_same, private_same, covers_same) refl
+    answer_same = rw (ruled_same, readonly_same, atomic_same, private_same, covers_same) refl
 
 pub marked_alike : MarkedAlike
 marked_alike rules held r n free found =

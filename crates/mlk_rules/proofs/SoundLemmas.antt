@@ -62,7 +62,8 @@ by_job rules sound p is =
     let covers = list_all is_cover rules.covers in
     let private = list_all (is_sound_pattern 1) rules.private in
     let readonly = list_all (is_sound_pattern 0) rules.readonly in
-    let others = (and_parts families (covers && (private && readonly)) sound.formed).1 in
-    let last = (and_parts covers (private && readonly) others).1 in
-    let each = (and_parts private readonly last).0 in
+    let atomic = list_all (is_sound_pattern 0) rules.atomic in
+    let others = (and_parts families (covers && (private && (readonly && atomic))) sound.formed).1 in
+    let last = (and_parts covers (private && (readonly && atomic)) others).1 in
+    let each = (and_parts private (readonly && atomic) last).0 in
     job_once p ((all_decides (is_sound_pattern 1) (λ q. is_sound_pattern 1 q ≡ true) (λ q. (λ e. e, λ e. e)) rules.private).0 each p is)

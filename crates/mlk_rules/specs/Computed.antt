@@ -3,7 +3,7 @@
 use Rattle.std.specs.Prelude.{Bool, true, false, not, ◌&&◌, ◌||◌, if◌then◌else◌, List, [], ◌∷◌, Option, Some, None, bytes_eq}
 use Rattle.std.specs.List.{list_any, list_all}
 use Rattle.mlk_text.specs.declared.code.Code.{Code}
-use Rattle.mlk_text.specs.declared.code.Code.TheVariants.{Unruled, Uncovered, ReadOnly, NotPrivate}
+use Rattle.mlk_text.specs.declared.code.Code.TheVariants.{Unruled, Uncovered, ReadOnly, NotPrivate, NotAtomic}
 use Rattle.mlk_text.specs.declared.root.Root.{Root}
 use Rattle.mlk_text.specs.declared.root.Root.TheVariants as root
 use Rattle.mlk_names.specs.declared.symbol.Sym.{Sym}
@@ -14,7 +14,7 @@ use Rattle.mlk_names.specs.declared.term.LockTerm.{LockTerm}
 use Rattle.mlk_names.specs.declared.reference.Extent.{Extent}
 use Rattle.mlk_names.specs.declared.reference.Extent.TheVariants.{Node, Tree}
 use Rattle.mlk_names.specs.declared.reference.Access.{Access}
-use Rattle.mlk_names.specs.declared.reference.Access.TheVariants.{Reads, Writes}
+use Rattle.mlk_names.specs.declared.reference.Access.TheVariants.{Reads, Writes, Increments}
 use Rattle.mlk_names.specs.declared.reference.Reference.{Reference}
 use Rattle.mlk_rules.specs.declared.pattern.Element.{Element}
 use Rattle.mlk_rules.specs.declared.pattern.Element.TheVariants as element
@@ -89,14 +89,24 @@ is_ruled_by r p = surely_lies p r || surely_above p r
 abbrev pub is_ruled : RuleLists → Reference → Bool
 is_ruled rules r =
     list_any (λ (c : Cover). is_ruled_by r c.pattern) rules.covers
-    || (list_any (is_ruled_by r) rules.private || list_any (is_ruled_by r) rules.readonly)
+    || (list_any (is_ruled_by r) rules.private
+    || (list_any (is_ruled_by r) rules.readonly || list_any (is_ruled_by r) rules.atomic))
 
 abbrev pub only_reads : Access → Bool
 only_reads Reads = true
 only_reads Writes = false
+only_reads Increments = false
 
 abbrev pub keeps_readonly : RuleLists → Reference → Bool
 keeps_readonly rules r = list_all (λ p. not (may_meet p r) || only_reads r.access) rules.readonly
+
+abbrev pub only_increments : Access → Bool
+only_increments Reads = false
+only_increments Writes = false
+only_increments Increments = true
+
+abbrev pub keeps_atomic : RuleLists → Reference → Bool
+keeps_atomic rules r = list_all (λ p. not (may_meet p r) || only_increments r.access) rules.atomic
 
 -- `$JOB` is wherever `$J` is
 abbrev pub is_job : Option Sym → Bool
@@ -151,15 +161,17 @@ is_prefix t u = same_root t.root u.root && begins t.subs u.subs
 abbrev pub holds_lock : List LockTerm → Reference → Template → Bool
 holds_lock held r lock = list_any (λ h. is_prefix h (cut_template lock r)) held
 
--- a write holds each of these locks, a read one of them
+-- a write holds each of these locks, as does an increment, and a read one of them
 abbrev pub hold_locks : Access → List LockTerm → Reference → List Template → Bool
 hold_locks Writes held r locks = list_all (holds_lock held r) locks
+hold_locks Increments held r locks = list_all (holds_lock held r) locks
 hold_locks Reads held r locks = list_any (holds_lock held r) locks
 
 -- a rule that makes reads free requires nothing of a read
 abbrev pub is_free : ReadPolicy → Access → Bool
 is_free Free Reads = true
 is_free Free Writes = false
+is_free Free Increments = false
 is_free Locked access = false
 
 abbrev pub satisfies : List LockTerm → Reference → Cover → Bool
@@ -174,6 +186,8 @@ unfoldable pub answer : RuleLists → List LockTerm → Reference → Option Cod
 answer rules held r =
     if is_ruled rules r then
     (if keeps_readonly rules r then
+    (if keeps_atomic rules r then
     (if keeps_private rules r then (if keeps_covers rules held r then None else Some Uncovered) else Some NotPrivate)
+    else Some NotAtomic)
     else Some ReadOnly)
     else Some Unruled

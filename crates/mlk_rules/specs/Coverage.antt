@@ -2,7 +2,7 @@
 use Rattle.std.specs.Prelude.{◌≡◌, ◌⊎◌, ℕ, List, [], ◌∷◌, ◌++◌, Option, Some, None, map, Contains, slice_get}
 use Rattle.std.specs.Option.{option_and_then}
 use Rattle.mlk_text.specs.declared.code.Code.{Code}
-use Rattle.mlk_text.specs.declared.code.Code.TheVariants.{Unruled, Uncovered, ReadOnly, NotPrivate}
+use Rattle.mlk_text.specs.declared.code.Code.TheVariants.{Unruled, Uncovered, ReadOnly, NotPrivate, NotAtomic}
 use Rattle.mlk_names.specs.declared.lock_name.LockName.{LockName}
 use Rattle.mlk_names.specs.declared.symbol.Sym.{Sym}
 use Rattle.mlk_names.specs.declared.symbol.Sym.TheVariants.{Job}
@@ -10,7 +10,7 @@ use Rattle.mlk_names.specs.declared.known_symbol.KnownSym.{KnownSym}
 use Rattle.mlk_names.specs.declared.known_symbol.KnownSym.TheVariants as known
 use Rattle.mlk_names.specs.declared.term.LockTerm.{LockTerm}
 use Rattle.mlk_names.specs.declared.reference.Access.{Access}
-use Rattle.mlk_names.specs.declared.reference.Access.TheVariants.{Reads, Writes}
+use Rattle.mlk_names.specs.declared.reference.Access.TheVariants.{Reads, Writes, Increments}
 use Rattle.mlk_names.specs.declared.reference.Reference.{Reference}
 use Rattle.mlk_names.specs.Symbols.{known_of}
 use Rattle.mlk_names.specs.Terms.{IsPrefix}
@@ -62,9 +62,10 @@ second_of (Some lock) = lock ∷ []
 abbrev pub locks_of : Cover → List Template
 locks_of c = c.lock ∷ second_of c.also
 
--- a write holds each of these locks, a read one of them
+-- a write holds each of these locks, as does an increment, and a read one of them
 abbrev pub HoldLocks : Access → List LockTerm → Reference → List Template → Type 0
 HoldLocks Writes held r locks = (lock : Template) → Contains locks lock → HoldsLock held lock r
+HoldLocks Increments held r locks = (lock : Template) → Contains locks lock → HoldsLock held lock r
 HoldLocks Reads held r locks = (lock : Template) × Contains locks lock × HoldsLock held lock r
 
 -- the rule makes reads free, and the reference is a read
@@ -84,6 +85,7 @@ pub data IsPattern (rules : RuleLists) (p : Pattern) : Type 0 where
   OfCover : (c : Cover) → Contains rules.covers c → c.pattern ≡ p → IsPattern rules p
   OfPrivate : Contains rules.private p → IsPattern rules p
   OfReadonly : Contains rules.readonly p → IsPattern rules p
+  OfAtomic : Contains rules.atomic p → IsPattern rules p
 
 -- the pattern is a rule for all of the reference: it surely lies in it, or is a tree that surely lies above it
 abbrev pub IsFor : Reference → Pattern → Type 0
@@ -96,6 +98,10 @@ IsRuled rules r = (p : Pattern) × IsPattern rules p × IsFor r p
 -- it does not write what is never written
 abbrev pub KeepsReadonly : RuleLists → Reference → Type 0
 KeepsReadonly rules r = (p : Pattern) → Contains rules.readonly p → MayMeet p r → r.access ≡ Reads
+
+-- it meets a counter only by `$INCREMENT`
+abbrev pub KeepsAtomic : RuleLists → Reference → Type 0
+KeepsAtomic rules r = (p : Pattern) → Contains rules.atomic p → MayMeet p r → r.access ≡ Increments
 
 -- each of the patterns that it may meet is met by the job's own number
 abbrev pub EachIsOwn : List Pattern → Reference → Type 0
@@ -117,27 +123,30 @@ KeepsCovers rules held r = EachIsSatisfied rules.covers held r
 pub record IsCovered (rules : RuleLists) (held : List LockTerm) (r : Reference) : Type 0 where
   pub ruled : IsRuled rules r
   pub readonly : KeepsReadonly rules r
+  pub atomic : KeepsAtomic rules r
   pub private : KeepsPrivate rules r
   pub covers : KeepsCovers rules held r
 
--- What is wrong with a reference, the first of these: it is in no rule, it writes what is never written, it is not surely the
--- job's own, or a lock is missing.
+-- What is wrong with a reference, the first of these: it is in no rule, it writes what is never written, it may meet a counter and
+-- is no `$INCREMENT`, it is not surely the job's own, or a lock is missing.
 abbrev pub IsAnswer : RuleLists → List LockTerm → Reference → Option Code → Type 0
 IsAnswer rules held r None = IsCovered rules held r
 IsAnswer rules held r (Some Unruled) = ¬ IsRuled rules r
 IsAnswer rules held r (Some ReadOnly) = IsRuled rules r × ¬ KeepsReadonly rules r
-IsAnswer rules held r (Some NotPrivate) = IsRuled rules r × KeepsReadonly rules r × ¬ KeepsPrivate rules r
+IsAnswer rules held r (Some NotAtomic) = IsRuled rules r × KeepsReadonly rules r × ¬ KeepsAtomic rules r
+IsAnswer rules held r (Some NotPrivate) = IsRuled rules r × KeepsReadonly rules r × KeepsAtomic rules r × ¬ KeepsPrivate rules r
 IsAnswer rules held r (Some Uncovered) =
-    IsRuled rules r × KeepsReadonly rules r × KeepsPrivate rules r × ¬ KeepsCovers rules held r
+    IsRuled rules r × KeepsReadonly rules r × KeepsAtomic rules r × KeepsPrivate rules r × ¬ KeepsCovers rules held r
 IsAnswer rules held r (Some _) = ⊥
 
 -- the rule may be met, and is not satisfied
 abbrev pub Lacks : List LockTerm → Reference → Cover → Type 0
 Lacks held r c = MayMeet c.pattern r × ¬ Satisfies held r c
 
--- the locks that would satisfy a rule: all of them for a write, the first for a read
+-- the locks that would satisfy a rule: all of them for a write or an increment, the first for a read
 abbrev pub asked : Access → Cover → List Template
 asked Writes c = locks_of c
+asked Increments c = locks_of c
 asked Reads c = c.lock ∷ []
 
 -- the cut template of each of these locks that is not held

@@ -21,6 +21,7 @@ of_global rules name =
       covers = covers_of name rules.covers;
       private = patterns_of name rules.private;
       readonly = patterns_of name rules.readonly;
+      atomic = patterns_of name rules.atomic;
       entries = [];
     }
 
@@ -45,6 +46,7 @@ pub record AreComplete (rules : RuleLists) (groups : Table) : Type 0 where
   pub covers : (c : Cover) → Contains rules.covers c → HasGroup groups c.pattern.global
   pub private : (p : Pattern) → Contains rules.private p → HasGroup groups p.global
   pub readonly : (p : Pattern) → Contains rules.readonly p → HasGroup groups p.global
+  pub atomic : (p : Pattern) → Contains rules.atomic p → HasGroup groups p.global
 
 -- the group of one more global was added, unless it was there
 pub record Gains (rules : RuleLists) (name : List ℕ) (old new : Table) : Type 0 where
@@ -76,6 +78,7 @@ pub record HasNoRule (rules : RuleLists) (name : List ℕ) : Type 0 where
   pub covers : (c : Cover) → Contains rules.covers c → c.pattern.global ≢ name
   pub private : (p : Pattern) → Contains rules.private p → p.global ≢ name
   pub readonly : (p : Pattern) → Contains rules.readonly p → p.global ≢ name
+  pub atomic : (p : Pattern) → Contains rules.atomic p → p.global ≢ name
 
 -- the rules of a global, if a pattern is of it
 abbrev pub IsGroup : RuleLists → List ℕ → Option RuleLists → Type 0

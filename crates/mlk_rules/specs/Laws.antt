@@ -1,17 +1,17 @@
--- The purpose of rules: two jobs never touch the same node, one of them writing, unless the other is a free read; and claims have
--- an order.
-use Rattle.std.specs.Prelude.{◌≡◌, ◌≢◌, ◌⊎◌, ◌↔◌, if◌then◌else◌, ℕ, List, Option, Contains, bytes_eq, map}
+-- The purpose of rules: two jobs never touch the same node by accesses that are not compatible, unless one is a free read; and
+-- claims have an order.
+use Rattle.std.specs.Prelude.{◌≡◌, ◌≢◌, ◌⊎◌, ◌↔◌, if◌then◌else◌, ℕ, false, List, Option, Contains, bytes_eq, map}
 use Rattle.mlk_text.specs.declared.code.Code.{Code}
 use Rattle.mlk_names.specs.declared.lock_name.LockName.{LockName}
 use Rattle.mlk_names.specs.declared.symbol.Sym.{Sym}
 use Rattle.mlk_names.specs.declared.symbol.Sym.TheVariants.{Const, Local, Job, Unknown}
 use Rattle.mlk_names.specs.declared.term.LockTerm.{LockTerm}
 use Rattle.mlk_names.specs.declared.reference.Reference.{Reference}
-use Rattle.mlk_names.specs.declared.reference.Access.TheVariants.{Reads, Writes}
+use Rattle.mlk_names.specs.declared.reference.Access.TheVariants.{Reads}
 use Rattle.mlk_names.specs.LockNames.{IsAbove, Conflict}
 use Rattle.mlk_names.specs.Symbols.{Assignment}
 use Rattle.mlk_names.specs.Terms.{Names, IsPrefix, Mentions}
-use Rattle.mlk_names.specs.References.{GlobalNode, Region, Touch, Touches, InRegion, MayReach, Overlap}
+use Rattle.mlk_names.specs.References.{GlobalNode, Region, Touch, Touches, InRegion, MayReach, Overlap, are_compatible}
 use Rattle.mlk_rules.specs.declared.pattern.Element.TheVariants as element
 use Rattle.mlk_rules.specs.declared.pattern.Pattern.{Pattern}
 use Rattle.mlk_rules.specs.declared.template.Template.{Template}
@@ -89,14 +89,14 @@ pub record OneReadsFreely (rules : RuleLists) (t u : Touch) : Type 0 where
 abbrev pub FreesNoReads : RuleLists → Type 0
 FreesNoReads rules = (c : Cover) → Contains rules.covers c → c.reads ≡ Locked
 
--- If two covered references of different jobs overlap, one of which is a write, then one is a free read, unless the jobs have the
+-- If two covered references of different jobs overlap and are not compatible, then one is a free read, unless the jobs have the
 -- same number, or hold conflicting names.
 abbrev pub CoveredApart : Type 0
 CoveredApart =
     (rules : RuleLists) (a b : Assignment) (held kept : List LockTerm) (r s : Reference) (t u : Touch)
     → PrivateByJob rules
     → IsCovered rules held r → IsCovered rules kept s → Touches a r t → Touches b s u → Overlap t.region u.region
-    → (t.access ≡ Writes) ⊎ (u.access ≡ Writes)
+    → are_compatible t.access u.access ≡ false
     → a.job ≢ b.job → ¬ HoldConflict a held b kept → OneReadsFreely rules t u
 
 -- If no two families meet: a term has at most one rank, the names that it denotes have the same rank, and conflicting names have

@@ -44,7 +44,8 @@ abbrev pub are_formed : RuleLists → Bool
 are_formed rules =
     list_all is_family rules.families
     && (list_all is_cover rules.covers
-    && (list_all (is_sound_pattern 1) rules.private && list_all (is_sound_pattern 0) rules.readonly))
+    && (list_all (is_sound_pattern 1) rules.private
+    && (list_all (is_sound_pattern 0) rules.readonly && list_all (is_sound_pattern 0) rules.atomic)))
 
 -- Each rule is well formed, and no two families meet.
 pub record IsSound (rules : RuleLists) : Type 0 where

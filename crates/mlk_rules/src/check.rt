@@ -4,7 +4,7 @@ ghost use Rattle.std.specs.Prelude.{◌≡◌, ◌↔◌, IsTrue, OnOk, IfErr, N
 ghost use Rattle.mlk_rules.specs.declared.cover.Cover.{Cover as cover_rule};
 ghost use Rattle.mlk_rules.specs.declared.pattern.Pattern.{Pattern as pattern};
 ghost use Rattle.mlk_rules.specs.Patterns.{MayMeet};
-ghost use Rattle.mlk_rules.specs.Coverage.{IsFor, IsRuled, KeepsReadonly, EachIsOwn, EachIsSatisfied, IsAnswer};
+ghost use Rattle.mlk_rules.specs.Coverage.{IsFor, IsRuled, KeepsReadonly, KeepsAtomic, EachIsOwn, EachIsSatisfied, IsAnswer};
 ghost use Rattle.mlk_rules.specs.Fronts.{OwnSubs};
 
 use crate::cover::Cover;
@@ -46,6 +46,7 @@ fn is_ruled(rules: &RuleLists, reference: &Lent<'_>) -> bool
     some_cover_rules(rules.covers.as_slice(), reference)
         || some_pattern_rules(rules.private.as_slice(), reference)
         || some_pattern_rules(rules.readonly.as_slice(), reference)
+        || some_pattern_rules(rules.atomic.as_slice(), reference)
 }
 
 fn some_may_be_met(patterns: &[Pattern], reference: &Lent<'_>) -> bool
@@ -64,7 +65,18 @@ fn keeps_readonly(rules: &RuleLists, reference: &Lent<'_>) -> bool
 {
     match reference.access() {
         Access::Reads => true,
-        Access::Writes => !some_may_be_met(rules.readonly.as_slice(), reference),
+        Access::Writes | Access::Increments => {
+            !some_may_be_met(rules.readonly.as_slice(), reference)
+        }
+    }
+}
+
+fn keeps_atomic(rules: &RuleLists, reference: &Lent<'_>) -> bool
+    ensures { IsTrue result ↔ KeepsAtomic rules.now reference.now }
+{
+    match reference.access() {
+        Access::Increments => true,
+        Access::Reads | Access::Writes => !some_may_be_met(rules.atomic.as_slice(), reference),
     }
 }
 
@@ -113,6 +125,9 @@ fn covered_by(rules: &RuleLists, reference: &Lent<'_>, held: &[LockTerm]) -> Res
     }
     if !keeps_readonly(rules, reference) {
         return Err(Code::ReadOnly);
+    }
+    if !keeps_atomic(rules, reference) {
+        return Err(Code::NotAtomic);
     }
     if !each_is_own(rules.private.as_slice(), reference) {
         return Err(Code::NotPrivate);

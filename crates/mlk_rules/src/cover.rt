@@ -12,8 +12,8 @@ pub enum ReadPolicy {
     Free,
 }
 
-/// A rule that protects the nodes of a pattern by one or two locks: a write needs each of them, and a read one of them, or
-/// none if reads are free.
+/// A rule that protects the nodes of a pattern by one or two locks: a write or an increment needs each of them, and a read one
+/// of them, or none if reads are free.
 #[derive(Clone, Drop)]
 pub struct Cover {
     pub pattern: Pattern,

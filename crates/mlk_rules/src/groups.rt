@@ -48,6 +48,7 @@ fn of_global(alloc: Global, rules: &RuleLists, name: &Name) -> Result<RuleLists,
         covers: covers_of(alloc, name, rules.covers.as_slice())?,
         private: patterns_of(alloc, name, rules.private.as_slice())?,
         readonly: patterns_of(alloc, name, rules.readonly.as_slice())?,
+        atomic: patterns_of(alloc, name, rules.atomic.as_slice())?,
         entries: List::new(alloc),
     })
 }
@@ -143,5 +144,6 @@ pub(crate) fn groups_of(alloc: Global, rules: &RuleLists) -> Result<Groups, Allo
     add_covers(alloc, &mut groups, rules, rules.covers.as_slice())?;
     add_patterns(alloc, &mut groups, rules, rules.private.as_slice())?;
     add_patterns(alloc, &mut groups, rules, rules.readonly.as_slice())?;
+    add_patterns(alloc, &mut groups, rules, rules.atomic.as_slice())?;
     Ok(groups)
 }

@@ -93,7 +93,7 @@ fn is_free_read(cover: &Cover, reference: &Lent<'_>) -> bool
     }
 }
 
-// Whether `held` has the locks of `cover` that `reference` needs: each for a write, one for a read.
+// Whether `held` has the locks of `cover` that `reference` needs: each for a write or an increment, one for a read.
 fn holds_locks(cover: &Cover, reference: &Lent<'_>, held: &[LockTerm]) -> bool
     ensures { IsTrue result ↔ HoldLocks reference.now.access held.now reference.now (locks_of cover.now) }
 {
@@ -102,12 +102,12 @@ fn holds_locks(cover: &Cover, reference: &Lent<'_>, held: &[LockTerm]) -> bool
         return first;
     };
     match reference.access() {
-        Access::Writes => first && holds_lock(held, also, reference),
+        Access::Writes | Access::Increments => first && holds_lock(held, also, reference),
         Access::Reads => first || holds_lock(held, also, reference),
     }
 }
 
-/// Whether `cover` is satisfied: a write needs each of its locks, a read one of them, or none if reads are free.
+/// Whether `cover` is satisfied: a write or an increment needs each of its locks, a read one of them, or none if reads are free.
 pub(crate) fn is_satisfied(cover: &Cover, reference: &Lent<'_>, held: &[LockTerm]) -> bool
     ensures { IsTrue result ↔ Satisfies held.now reference.now cover.now }
 {

@@ -93,7 +93,7 @@ fn add_asked(
         return Ok(());
     };
     match reference.access {
-        Access::Writes => add_missing(alloc, found, also, reference, held),
+        Access::Writes | Access::Increments => { add_missing(alloc, found, also, reference, held) }
         Access::Reads => Ok(()),
     }
 }
@@ -130,7 +130,8 @@ fn missing_locks(
 }
 
 /// The locks that `reference` needs and that are not held, in the order of the rules. For each cover rule that it may meet
-/// and that `held` does not satisfy: the cut template of each missing lock for a write, and that of the first lock for a read.
+/// and that `held` does not satisfy: the cut template of each missing lock for a write or an increment, and that of the first
+/// lock for a read.
 pub fn templates(
     alloc: Global,
     rules: &Rules,

@@ -17,8 +17,8 @@ pub fn lock_of_node()
     ensures { LocksOfNodes }
 {}
 
-/// If two covered references of different jobs overlap and one of them writes, then the jobs hold conflicting names, or the
-/// other one is a free read.
+/// If two covered references of different jobs overlap and are not compatible, then the jobs hold conflicting names, or one of
+/// the references is a free read.
 pub fn covered_apart()
     ensures { CoveredApart }
 {}

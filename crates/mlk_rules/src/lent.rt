@@ -74,7 +74,7 @@ impl<'a> Lent<'a> {
         self.extent
     }
 
-    /// Whether it reads or writes.
+    /// Whether it reads, writes or increments.
     #[inline(always)]
     pub fn access(&self) -> Access
         ensures { result ≡ self.now.access }

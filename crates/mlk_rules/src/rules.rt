@@ -23,6 +23,8 @@ pub struct RuleLists {
     pub private: List<Pattern>,
     /// Patterns that are never written.
     pub readonly: List<Pattern>,
+    /// Patterns of counters, which only `$INCREMENT` touches.
+    pub atomic: List<Pattern>,
     /// The entries at which jobs begin, as `LABEL^ROUTINE` or `^ROUTINE`.
     pub entries: List<Value>,
 }

@@ -88,7 +88,8 @@ fn are_formed(rules: &RuleLists) -> bool
     are_families(rules.families.as_slice())
         && (are_covers(rules.covers.as_slice())
             && (are_patterns(1, rules.private.as_slice())
-                && are_patterns(0, rules.readonly.as_slice())))
+                && (are_patterns(0, rules.readonly.as_slice())
+                    && are_patterns(0, rules.atomic.as_slice()))))
 }
 
 // Whether one of `families` conflicts with `name`.

@@ -10,7 +10,7 @@ use Rattle.mlk_names.specs.declared.reference.Extent.TheVariants.{Node, Tree}
 use Rattle.mlk_rules.specs.declared.cover.ReadPolicy.TheVariants.{Locked, Free}
 use Rattle.mlk_rules.specs.declared.pattern.Element.TheVariants as element
 use Rattle.mlk_rules.specs.declared.template.TemplatePart.TheVariants.{Place}
-use Rattle.mlk_rules_file.specs.declared.read.fault.Section.TheVariants.{File, Lock, Cover, Private, Readonly, Entry}
+use Rattle.mlk_rules_file.specs.declared.read.fault.Section.TheVariants.{File, Lock, Cover, Private, Readonly, Atomic, Entry}
 use Rattle.mlk_rules_file.specs.declared.read.kinds.SpelledItem.TheVariants.{Literal, Variable, Job}
 use Rattle.mlk_rules_file.specs.RuleAnswers.{refused}
 use Rattle.mlk_numbers.specs.Canonical.{canonical_text}
@@ -65,7 +65,7 @@ no_entry = refl
 section_with : List ℕ → List ℕ → List ℕ → Members
 section_with section key text = member section (array (item (table (member key (string text) no_members)) no_items)) no_members
 
-no_section : lists_of no_members ≡ Ok (record { families = []; covers = []; private = []; readonly = []; entries = [] })
+no_section : lists_of no_members ≡ Ok (record { families = []; covers = []; private = []; readonly = []; atomic = []; entries = [] })
 unfolding lists_of section_of
 no_section = refl
 
@@ -77,7 +77,7 @@ no_array : lists_of (member (codes "lock") (table no_members) no_members) ≡ re
 unfolding lists_of section_of
 no_array = refl
 
-one_entry : lists_of (section_with (codes "entry") (codes "label") (codes "^BANK")) ≡ Ok (record { families = []; covers = []; private = []; readonly = []; entries = codes "^BANK" ∷ [] })
+one_entry : lists_of (section_with (codes "entry") (codes "label") (codes "^BANK")) ≡ Ok (record { families = []; covers = []; private = []; readonly = []; atomic = []; entries = codes "^BANK" ∷ [] })
 unfolding lists_of section_of entry_of parts_of_entry label_at name_at digits_at section_with
 one_entry = refl
 
@@ -92,6 +92,21 @@ no_job_in_private = refl
 job_in_readonly : lists_of (section_with (codes "readonly") (codes "global") (codes "^CONF($J)")) ≡ refused code.Pattern Readonly 1
 unfolding lists_of section_of rule_pattern_of is_pattern spelling_of root_at parts_of list_of item_at many name_at section_with
 job_in_readonly = refl
+
+a_counter : lists_of (section_with (codes "atomic") (codes "global") (codes "^SEQ(c)")) ≡ Ok (record {
+  families = [];
+  covers = [];
+  private = [];
+  readonly = [];
+  atomic = record { global = codes "SEQ"; elements = element.Variable ∷ []; extent = Node } ∷ [];
+  entries = [];
+})
+unfolding lists_of section_of rule_pattern_of is_pattern spelling_of root_at parts_of list_of item_at many name_at section_with
+a_counter = refl
+
+no_tree_of_counters : lists_of (section_with (codes "atomic") (codes "global") (codes "^SEQ(...)")) ≡ refused code.Pattern Atomic 1
+unfolding lists_of section_of rule_pattern_of is_pattern spelling_of root_at parts_of list_of name_at section_with
+no_tree_of_counters = refl
 
 -- covers: a second lock, one with a variable that is not in the pattern, and one that is no text
 cover_with : Members → Data

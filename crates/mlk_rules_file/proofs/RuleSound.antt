@@ -25,13 +25,13 @@ use Rattle.mlk_rules.specs.Ranks.{FamiliesApart}
 use Rattle.mlk_rules.specs.Sound as sound
 use Rattle.mlk_rules.proofs.SoundLemmas.{all_each}
 use Rattle.mlk_rules_file.specs.declared.read.fault.Section.{Section}
-use Rattle.mlk_rules_file.specs.declared.read.fault.Section.TheVariants.{File, Lock, Cover as CoverSection, Private, Readonly, Entry}
+use Rattle.mlk_rules_file.specs.declared.read.fault.Section.TheVariants.{File, Lock, Cover as CoverSection, Private, Readonly, Atomic, Entry}
 use Rattle.mlk_rules_file.specs.declared.read.kinds.SpelledItem.{SpelledItem}
 use Rattle.mlk_rules_file.specs.declared.read.kinds.SpelledItem.TheVariants.{Literal, Variable, Job}
 use Rattle.mlk_rules_file.specs.declared.read.kinds.Spelling.{Spelling}
 use Rattle.mlk_rules_file.specs.RuleAnswers.{Answer, next}
 use Rattle.mlk_rules_file.specs.RuleTexts.{parts_of, spelling, spelling_of, pattern_of}
-use Rattle.mlk_rules_file.specs.RuleKinds.{is_long, is_long_second, is_own, is_jobless, has_one_job, is_distinct, has_its_job, is_family_name, is_pattern, is_template, is_second_template, elements_of, name_of, pattern, parts_of as places_of, template, template_of, second_template}
+use Rattle.mlk_rules_file.specs.RuleKinds.{is_long, is_long_second, is_own, is_jobless, has_one_job, is_distinct, has_its_job, has_its_extent, is_family_name, is_pattern, is_template, is_second_template, elements_of, name_of, pattern, parts_of as places_of, template, template_of, second_template}
 use Rattle.mlk_rules_file.specs.RuleSections.{has_only, text_key, rank_of, family_keys, family_with, family_ranked, family_at, cover_keys, cover_of_locks, cover_kinds, cover_with, cover_at, pattern_with, pattern_at, family_of, cover_of, rule_pattern_of, entry_of, section_of, each, all_of, lists_of, lists}
 use Rattle.mlk_rules_file.proofs.RuleEach.{next_read, same_Ok, each_have}
 
@@ -163,7 +163,7 @@ cover_formed k d c h = at (cover_keys (as_table d)) h
       | inr e ↦ cc (rw e at i)
       | inl e ↦
           let kind = (and_parts (is_pattern CoverSection p) (is_template l && is_second_template a) e).0 in
-          let jobless = (and_parts (is_jobless p.items) (is_distinct p.items) kind).0 in
+          let jobless = (and_parts (is_jobless p.items) (is_distinct p.items && has_its_extent CoverSection p.extent) kind).0 in
           placed reads p (template_of p.items l) (second_template p.items a) (formed_pattern 0 p (patterned_root ps p one) (never p.items jobless))
           (λ t is. rooted l t (places_of p.items l.items) (spelled_root ls l two) is) (second_rooted p.items a roots) (rw e at i)
     ]
@@ -195,7 +195,7 @@ pattern_formed section n jobs k d p h = at (text_key section (codes "global") (a
       | inr e ↦ cc (rw e at i)
       | inl e ↦
           let same = same_Ok (pattern s) p (rw e at i) in
-          let own = (and_parts (has_its_job section s.items) (is_distinct s.items) e).0 in
+          let own = (and_parts (has_its_job section s.items) (is_distinct s.items && has_its_extent section s.extent) e).0 in
           subst (λ q. sound.is_sound_pattern n q ≡ true) same (formed_pattern n s (patterned_root text s is) (jobs s.items own))
     ]
 
@@ -206,18 +206,24 @@ pattern_formed section n jobs k d p h = at (text_key section (codes "global") (a
       | inr e ↦ of_kind text (pattern_of text) refl (rw e at i)
     ]
 
--- if all five lists were read, so were the first four
-four_read : (a : Answer (List Family)) (b : Answer (List Cover)) (c d : Answer (List Pattern)) (e : Answer (List (List ℕ))) (r : RuleLists)
-    → next a (λ x. next b (λ y. next c (λ z. next d (λ u. next e (λ v. lists x y z u v))))) ≡ Ok r
-    → (a ≡ Ok r.families) × (b ≡ Ok r.covers) × (c ≡ Ok r.private) × (d ≡ Ok r.readonly)
-four_read (Ok x) (Ok y) (Ok z) (Ok u) (Ok v) r h =
-    let is = same_Ok _ r h in
-    (ap (λ (q : RuleLists). Ok q.families) is, ap (λ (q : RuleLists). Ok q.covers) is, ap (λ (q : RuleLists). Ok q.private) is, ap (λ (q : RuleLists). Ok q.readonly) is)
-four_read (Err o) b c d e r h = cc h
-four_read (Ok x) (Err o) c d e r h = cc h
-four_read (Ok x) (Ok y) (Err o) d e r h = cc h
-four_read (Ok x) (Ok y) (Ok z) (Err o) e r h = cc h
-four_read (Ok x) (Ok y) (Ok z) (Ok u) (Err o) r h = cc h
+-- if all six lists were read, so were the first five
+first_read : (a : Answer (List Family)) (b : Answer (List Cover)) (c d e : Answer (List Pattern)) (f : Answer (List (List ℕ))) (r : RuleLists)
+    → next a (λ x. next b (λ y. next c (λ z. next d (λ u. next e (λ v. next f (λ w. lists x y z u v w)))))) ≡ Ok r
+    → (a ≡ Ok r.families) × (b ≡ Ok r.covers) × (c ≡ Ok r.private) × (d ≡ Ok r.readonly) × (e ≡ Ok r.atomic)
+first_read (Ok x) (Ok y) (Ok z) (Ok u) (Ok v) (Ok w) r h =
+    let is = same_Ok _ r h in (
+      ap (λ (q : RuleLists). Ok q.families) is,
+      ap (λ (q : RuleLists). Ok q.covers) is,
+      ap (λ (q : RuleLists). Ok q.private) is,
+      ap (λ (q : RuleLists). Ok q.readonly) is,
+      ap (λ (q : RuleLists). Ok q.atomic) is,
+    )
+first_read (Err o) b c d e f r h = cc h
+first_read (Ok x) (Err o) c d e f r h = cc h
+first_read (Ok x) (Ok y) (Err o) d e f r h = cc h
+first_read (Ok x) (Ok y) (Ok z) (Err o) e f r h = cc h
+first_read (Ok x) (Ok y) (Ok z) (Ok u) (Err o) f r h = cc h
+first_read (Ok x) (Ok y) (Ok z) (Ok u) (Ok v) (Err o) r h = cc h
 
 -- each element of a section is well formed
 section_formed : {A : Type 0} (read : ℕ → Data → Answer A) (s : Section) (ms : Members) (f : A → Bool) → ((k : ℕ) (d : Data) (x : A) → read k d ≡ Ok x → f x ≡ true)
@@ -231,13 +237,14 @@ unfolding lists_of
 formed ms r h = elim (cases_Bool (has_only File ms)) [
   | inr e ↦ cc (rw e at h)
   | inl e ↦
-      let four = four_read (all_of family_of Lock ms) (all_of cover_of CoverSection ms) (all_of (rule_pattern_of Private) Private ms) (all_of (rule_pattern_of Readonly) Readonly ms)
-      (all_of entry_of Entry ms) r (rw e at h) in
-      let families = section_formed family_of Lock ms sound.is_family family_formed r.families four.0 in
-      let covers = section_formed cover_of CoverSection ms sound.is_cover cover_formed r.covers four.1 in
-      let private = section_formed (rule_pattern_of Private) Private ms (sound.is_sound_pattern 1) (pattern_formed Private 1 once) r.private four.2 in
-      let readonly = section_formed (rule_pattern_of Readonly) Readonly ms (sound.is_sound_pattern 0) (pattern_formed Readonly 0 never) r.readonly four.3 in
-      rw (families, covers, private, readonly) refl
+      let read = first_read (all_of family_of Lock ms) (all_of cover_of CoverSection ms) (all_of (rule_pattern_of Private) Private ms) (all_of (rule_pattern_of Readonly) Readonly ms)
+      (all_of (rule_pattern_of Atomic) Atomic ms) (all_of entry_of Entry ms) r (rw e at h) in
+      let families = section_formed family_of Lock ms sound.is_family family_formed r.families read.0 in
+      let covers = section_formed cover_of CoverSection ms sound.is_cover cover_formed r.covers read.1 in
+      let private = section_formed (rule_pattern_of Private) Private ms (sound.is_sound_pattern 1) (pattern_formed Private 1 once) r.private read.2 in
+      let readonly = section_formed (rule_pattern_of Readonly) Readonly ms (sound.is_sound_pattern 0) (pattern_formed Readonly 0 never) r.readonly read.3 in
+      let atomic = section_formed (rule_pattern_of Atomic) Atomic ms (sound.is_sound_pattern 0) (pattern_formed Atomic 0 never) r.atomic read.4 in
+      rw (families, covers, private, readonly, atomic) refl
 ]
 
 pub lists_sound : (ms : Members) (r : RuleLists) → lists_of ms ≡ Ok r → FamiliesApart r.families → sound.IsSound r

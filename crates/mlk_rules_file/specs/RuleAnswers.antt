@@ -2,7 +2,7 @@
 use Rattle.std.specs.Prelude.{ℕ, List, codes, Result, Ok, Err}
 use Rattle.mlk_text.specs.declared.code.Code.{Code}
 use Rattle.mlk_rules_file.specs.declared.read.fault.Section.{Section}
-use Rattle.mlk_rules_file.specs.declared.read.fault.Section.TheVariants.{File, Lock, Cover, Private, Readonly, Entry}
+use Rattle.mlk_rules_file.specs.declared.read.fault.Section.TheVariants.{File, Lock, Cover, Private, Readonly, Atomic, Entry}
 use Rattle.mlk_rules_file.specs.declared.read.fault.RulesFault.{RulesFault}
 
 -- the word of a section: as it is printed, and its key at the top of the file
@@ -12,6 +12,7 @@ section_word Lock = codes "lock"
 section_word Cover = codes "cover"
 section_word Private = codes "private"
 section_word Readonly = codes "readonly"
+section_word Atomic = codes "atomic"
 section_word Entry = codes "entry"
 
 -- something was read, or it is refused

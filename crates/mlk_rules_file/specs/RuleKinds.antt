@@ -14,7 +14,7 @@ use Rattle.mlk_rules.specs.declared.template.TemplatePart.{TemplatePart}
 use Rattle.mlk_rules.specs.declared.template.TemplatePart.TheVariants as part
 use Rattle.mlk_rules.specs.declared.template.Template.{Template}
 use Rattle.mlk_rules_file.specs.declared.read.fault.Section.{Section}
-use Rattle.mlk_rules_file.specs.declared.read.fault.Section.TheVariants.{File, Lock, Cover, Private, Readonly, Entry}
+use Rattle.mlk_rules_file.specs.declared.read.fault.Section.TheVariants.{File, Lock, Cover, Private, Readonly, Atomic, Entry}
 use Rattle.mlk_rules_file.specs.declared.read.kinds.SpelledItem.{SpelledItem}
 use Rattle.mlk_rules_file.specs.declared.read.kinds.SpelledItem.TheVariants.{Literal, Variable, Job}
 use Rattle.mlk_rules_file.specs.declared.read.kinds.Spelling.{Spelling}
@@ -93,11 +93,22 @@ has_its_job File items = is_jobless items
 has_its_job Lock items = is_jobless items
 has_its_job Cover items = is_jobless items
 has_its_job Readonly items = is_jobless items
+has_its_job Atomic items = is_jobless items
 has_its_job Entry items = is_jobless items
 
--- a pattern of a section: it has its `$J`, and each variable once
+-- an atomic pattern has no `...`
+abbrev pub has_its_extent : Section → Extent → Bool
+has_its_extent Atomic extent = is_node extent
+has_its_extent File extent = true
+has_its_extent Lock extent = true
+has_its_extent Cover extent = true
+has_its_extent Private extent = true
+has_its_extent Readonly extent = true
+has_its_extent Entry extent = true
+
+-- a pattern of a section: it has its `$J`, each variable once, and `...` only where the section allows it
 unfoldable pub is_pattern : Section → Spelling → Bool
-is_pattern section s = has_its_job section s.items && is_distinct s.items
+is_pattern section s = has_its_job section s.items && (is_distinct s.items && has_its_extent section s.extent)
 
 -- the elements of items
 abbrev pub elements_of : List SpelledItem → List Element

@@ -14,7 +14,7 @@ use Rattle.mlk_rules.specs.declared.pattern.Pattern.{Pattern}
 use Rattle.mlk_rules.specs.declared.template.Template.{Template}
 use Rattle.mlk_rules.specs.declared.rules.RuleLists.{RuleLists}
 use Rattle.mlk_rules_file.specs.declared.read.fault.Section.{Section}
-use Rattle.mlk_rules_file.specs.declared.read.fault.Section.TheVariants.{File, Lock, Cover as CoverSection, Private, Readonly, Entry}
+use Rattle.mlk_rules_file.specs.declared.read.fault.Section.TheVariants.{File, Lock, Cover as CoverSection, Private, Readonly, Atomic, Entry}
 use Rattle.mlk_rules_file.specs.declared.read.fault.RulesFault.{RulesFault}
 use Rattle.mlk_text.specs.declared.failure.Failure.{Failure}
 use Rattle.mlk_text.specs.declared.failure.Failure.TheVariants.{OutOfMemory, Refused}
@@ -29,12 +29,14 @@ use Rattle.mlk_rules_file.specs.RuleKinds.{is_second_template, is_long_second, t
 abbrev pub is_key : Section → List ℕ → Bool
 is_key File key =
     bytes_eq key (codes "lock") || bytes_eq key (codes "cover")
-    || bytes_eq key (codes "private") || bytes_eq key (codes "readonly") || bytes_eq key (codes "entry")
+    || bytes_eq key (codes "private") || bytes_eq key (codes "readonly") || bytes_eq key (codes "atomic")
+    || bytes_eq key (codes "entry")
 is_key Lock key = bytes_eq key (codes "name") || bytes_eq key (codes "rank")
 is_key CoverSection key =
     bytes_eq key (codes "global") || bytes_eq key (codes "lock") || bytes_eq key (codes "also") || bytes_eq key (codes "reads")
 is_key Private key = bytes_eq key (codes "global")
 is_key Readonly key = bytes_eq key (codes "global")
+is_key Atomic key = bytes_eq key (codes "global")
 is_key Entry key = bytes_eq key (codes "label")
 
 -- no other keys
@@ -173,7 +175,7 @@ abbrev pub pattern_at : Section → ℕ → Option (List ℕ) → Answer Pattern
 pattern_at s k None = refused code.Key s k
 pattern_at s k (Some text) = pattern_by s k (pattern_of text)
 
--- the private or readonly pattern of the element with the given index
+-- the private, readonly or atomic pattern of the element with the given index
 unfoldable pub rule_pattern_of : Section → ℕ → Data → Answer Pattern
 rule_pattern_of s k d = pattern_at s k (text_key s (codes "global") (as_table d))
 
@@ -225,9 +227,16 @@ section_of s ms = limited s (elements_in (get_member (section_word s) ms))
 abbrev pub all_of : {A : Type 0} → (ℕ → Data → Answer A) → Section → Members → Answer (List A)
 all_of read s ms = next (section_of s ms) (each read 1)
 
-abbrev pub lists : List Family → List Cover → List Pattern → List Pattern → List (List ℕ) → Answer RuleLists
-lists families covers private readonly entries =
-    Ok (record { families = families; covers = covers; private = private; readonly = readonly; entries = entries })
+abbrev pub lists : List Family → List Cover → List Pattern → List Pattern → List Pattern → List (List ℕ) → Answer RuleLists
+lists families covers private readonly atomic entries =
+    Ok (record {
+      families = families;
+      covers = covers;
+      private = private;
+      readonly = readonly;
+      atomic = atomic;
+      entries = entries;
+    })
 
 -- The lists of a top table; if it has several faults, the first one is returned, in the order of the sections.
 unfoldable pub lists_of : Members → Answer RuleLists
@@ -237,8 +246,9 @@ lists_of ms =
     next (all_of cover_of CoverSection ms) (λ covers.
     next (all_of (rule_pattern_of Private) Private ms) (λ private.
     next (all_of (rule_pattern_of Readonly) Readonly ms) (λ readonly.
+    next (all_of (rule_pattern_of Atomic) Atomic ms) (λ atomic.
     next (all_of entry_of Entry ms) (λ entries.
-    lists families covers private readonly entries))))))
+    lists families covers private readonly atomic entries)))))))
     else refused code.Key File 0
 
 -- 405: the sections are right, except that two families meet

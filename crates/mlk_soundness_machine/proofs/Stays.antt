@@ -4,7 +4,7 @@ use Rattle.std.specs.Prelude.{◌&&◌, ◌==◌}
 use Rattle.std.specs.List.{list_all}
 use Rattle.mlk_names.specs.declared.lock_name.LockName.{LockName}
 use Rattle.mlk_names.specs.declared.reference.Access.{Access}
-use Rattle.mlk_names.specs.declared.reference.Access.TheVariants.{Reads, Writes}
+use Rattle.mlk_names.specs.declared.reference.Access.TheVariants.{Reads, Writes, Increments}
 use Rattle.mlk_machine_locks.specs.Counts.{has_room}
 use Rattle.mlk_machine_locks.specs.declared.refusal.Refusal.TheVariants.{NotEnabled}
 use Rattle.mlk_syntax.specs.ExprTrees.{Tree, Choices, no_choices, choice as condition}
@@ -108,6 +108,7 @@ module _ (us : List Task) where
     of_touch : (c : Choice) (a : Access) → Comes Has (touched c a j us)
     of_touch c Reads = of_value Has c _ (λ v. with_tasks _ refl)
     of_touch c Writes = unasked Has c _ (with_tasks _ refl)
+    of_touch c Increments = unasked Has c _ (with_tasks _ refl)
 
     of_select : (cs : Choices) → Comes Has (selected cs us j)
     of_select no_choices = refused Has NotEnabled

@@ -5,7 +5,7 @@ use Rattle.mlk_names.specs.declared.symbol.Sym.{Sym}
 use Rattle.mlk_names.specs.declared.reference.Reference.{Reference}
 use Rattle.mlk_names.specs.declared.reference.Extent.{Extent}
 use Rattle.mlk_names.specs.declared.reference.Access.{Access}
-use Rattle.mlk_names.specs.declared.reference.Access.TheVariants.{Reads, Writes}
+use Rattle.mlk_names.specs.declared.reference.Access.TheVariants.{Reads, Writes, Increments}
 use Rattle.mlk_names.specs.Symbols.{StandsFor}
 use Rattle.mlk_rules.specs.declared.rules.RuleLists.{RuleLists}
 use Rattle.mlk_rules.specs.Coverage.{IsAnswer}
@@ -83,6 +83,7 @@ module _ (routines : List RoutineTree) (sc : Scope) (w : World) (b : Level) (slo
   abbrev pub FitsAfter : Access → Type 0
   FitsAfter Reads = FitsAny
   FitsAfter Writes = Fits routines sc w b slots n ts s
+  FitsAfter Increments = Fits routines sc w b slots n ts s
 
   -- a touch that is covered
   pub touch : (e : Extent) (a : Access) (name : List ℕ) (subs : List Sym) (vals : List (List ℕ)) → answer sc.rules s.case.held (referring e a name subs) ≡ None → FitsAfter a
@@ -96,6 +97,7 @@ module _ (routines : List RoutineTree) (sc : Scope) (w : World) (b : Level) (slo
       by Reads k c = of_value (Safe routines sc w b n) c _ (λ v. done (Safe routines sc w b n) (doing ts (pushed v j))
           (k (doing ts (pushed v j)) v (push_law sc w b slots s (idle j) d v) refl refl))
       by Writes k c = unasked (Safe routines sc w b n) c _ (done (Safe routines sc w b n) (doing ts j) (k (doing ts j) d refl))
+      by Increments k c = unasked (Safe routines sc w b n) c _ (done (Safe routines sc w b n) (doing ts j) (k (doing ts j) d refl))
 
 -- a reference whose subscripts were captured last
 pub form : (routines : List RoutineTree) (sc : Scope) (w : World) (b : Level) (slots : List Slot) (n : ℕ) (ts : List Task) (s : State)

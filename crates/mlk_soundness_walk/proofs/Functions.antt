@@ -3,7 +3,7 @@ use Rattle.std.proofs.Common.{◌≡◌, ℕ, suc, ◌+◌, ◌-◌, true, false
 use Rattle.mlk_names.specs.declared.symbol.Sym.{Sym}
 use Rattle.mlk_names.specs.declared.reference.Extent.{Extent}
 use Rattle.mlk_names.specs.declared.reference.Extent.TheVariants as extent
-use Rattle.mlk_names.specs.declared.reference.Access.TheVariants.{Reads, Writes}
+use Rattle.mlk_names.specs.declared.reference.Access.TheVariants.{Reads, Increments}
 use Rattle.mlk_rules.specs.Computed.{answer}
 use Rattle.mlk_syntax.specs.declared.expr.Function.{Function}
 use Rattle.mlk_syntax.specs.declared.expr.Function.TheVariants as function
@@ -163,17 +163,17 @@ module _ (routines : List RoutineTree) (p : Spot) (w : World) (b : Level) (S : C
           form routines p.scope w b slots n later u name (count_subs subs) e Reads (sym (same (last_captured (count_subs subs) u) u) ∙ r.0)
           (unused_fit (without_last (count_subs subs) u) r.1)))
 
-      -- the node is written
+      -- the node is incremented
       increment_fits : (s : State) → Leads (evaluate_all p Incremented (tree (GlobalName column name subs) more)) s A S Q
-          → Fit slots n (((each_sub subs ++ task.FormReference name (count_subs subs) extent.Node Writes ∷ []) ++ (each_tree more ++ task.AskValue (run.count_trees more) ∷ [])) ++ ts) s
+          → Fit slots n (((each_sub subs ++ task.FormReference name (count_subs subs) extent.Node Increments ∷ []) ++ (each_tree more ++ task.AskValue (run.count_trees more) ∷ [])) ++ ts) s
       increment_fits s l =
           let asked : List Task = each_tree more ++ (task.AskValue (run.count_trees more) ∷ ts) in
           subst (λ z. Fit slots n z s)
-          (sym (then_unused (each_sub subs) (task.FormReference name (count_subs subs) extent.Node Writes) (task.AskValue (run.count_trees more)) (each_tree more) ts))
-          (opened Incremented (task.FormReference name (count_subs subs) extent.Node Writes ∷ asked) s l
+          (sym (then_unused (each_sub subs) (task.FormReference name (count_subs subs) extent.Node Increments) (task.AskValue (run.count_trees more)) (each_tree more) ts))
+          (opened Incremented (task.FormReference name (count_subs subs) extent.Node Increments ∷ asked) s l
           (λ u q.
           let r = allowed Incremented u q in
-          form routines p.scope w b slots n asked u name (count_subs subs) extent.Node Writes r.0
+          form routines p.scope w b slots n asked u name (count_subs subs) extent.Node Increments r.0
           (asked_fit (without_last (count_subs subs) u) r.1)))
 
       -- all of the global is read

@@ -2,7 +2,7 @@
 use Rattle.std.proofs.Common.{◌≡◌, refl}
 use Rattle.std.specs.Prelude.{Bool, false, true, not, ◌↔◌, List, None, Some, Result, Ok, Err, IsTrue, OnOk, IfErr, is_ok}
 use Rattle.mlk_text.specs.declared.code.Code.{Code}
-use Rattle.mlk_text.specs.declared.code.Code.TheVariants.{Unruled, Uncovered, ReadOnly, NotPrivate}
+use Rattle.mlk_text.specs.declared.code.Code.TheVariants.{Unruled, Uncovered, ReadOnly, NotPrivate, NotAtomic}
 use Rattle.mlk_names.specs.declared.term.LockTerm.{LockTerm}
 use Rattle.mlk_names.specs.declared.reference.Reference.{Reference}
 use Rattle.mlk_rules.specs.declared.rules.RuleLists.{RuleLists}
@@ -12,8 +12,9 @@ pub not_covered : (rules : RuleLists) (held : List LockTerm) (r : Reference) (co
     → IsAnswer rules held r (Some code) → ¬ IsCovered rules held r
 not_covered rules held r Unruled wrong = λ covered. wrong covered.ruled
 not_covered rules held r ReadOnly wrong = λ covered. wrong.1 covered.readonly
-not_covered rules held r NotPrivate wrong = λ covered. wrong.2 covered.private
-not_covered rules held r Uncovered wrong = λ covered. wrong.3 covered.covers
+not_covered rules held r NotAtomic wrong = λ covered. wrong.2 covered.atomic
+not_covered rules held r NotPrivate wrong = λ covered. wrong.3 covered.private
+not_covered rules held r Uncovered wrong = λ covered. wrong.4 covered.covers
 not_covered rules held r _ wrong = λ covered. absurd wrong
 
 pub covered_if_ok : (rules : RuleLists) (held : List LockTerm) (r : Reference) (answer : Result (Unit {0}) Code)

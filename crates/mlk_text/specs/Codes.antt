@@ -11,7 +11,7 @@ use Rattle.mlk_text.specs.declared.code.Code.TheVariants.{CertLimit, NoEnd, Case
 use Rattle.mlk_text.specs.declared.code.Code.TheVariants.{NotPrivate, Pinned, NotHeld, Unranked, RankOrder, HeldAtEnd}
 use Rattle.mlk_text.specs.declared.code.Code.TheVariants.{CaseNotListed, NeedMissing, SummaryShort, NoCertificate, SharedName}
 use Rattle.mlk_text.specs.declared.code.Code.TheVariants.{UnknownSubscript, FallsIntoFormals, TooManyCases}
-use Rattle.mlk_text.specs.declared.code.Code.TheVariants.{NameEscapes, DropsFrame, GaveUp, EntryMissing, Workers, GateShut}
+use Rattle.mlk_text.specs.declared.code.Code.TheVariants.{NameEscapes, DropsFrame, NotAtomic, GaveUp, EntryMissing, Workers, GateShut}
 
 abbrev pub number_of : Code → ℕ
 number_of ExprForm = 101
@@ -69,6 +69,7 @@ number_of FallsIntoFormals = 716
 number_of TooManyCases = 717
 number_of NameEscapes = 718
 number_of DropsFrame = 719
+number_of NotAtomic = 720
 number_of GaveUp = 801
 number_of EntryMissing = 901
 number_of Workers = 902
@@ -134,6 +135,7 @@ word_of FallsIntoFormals = codes "FallsIntoFormals"
 word_of TooManyCases = codes "TooManyCases"
 word_of NameEscapes = codes "NameEscapes"
 word_of DropsFrame = codes "DropsFrame"
+word_of NotAtomic = codes "NotAtomic"
 word_of GaveUp = codes "GaveUp"
 word_of EntryMissing = codes "EntryMissing"
 word_of Workers = codes "Workers"

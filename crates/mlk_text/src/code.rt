@@ -119,6 +119,8 @@ pub enum Code {
     NameEscapes = 718,
     /// 719: a callee that may release all locks is called while some are set aside
     DropsFrame = 719,
+    /// 720: a touch that may meet an atomic rule and is no `$INCREMENT`
+    NotAtomic = 720,
     /// 801: the maker found no certificate
     GaveUp = 801,
     /// 901: a declared or certified entry that is not in the routines
@@ -197,6 +199,7 @@ impl Code {
             Code::TooManyCases => b"TooManyCases",
             Code::NameEscapes => b"NameEscapes",
             Code::DropsFrame => b"DropsFrame",
+            Code::NotAtomic => b"NotAtomic",
             Code::GaveUp => b"GaveUp",
             Code::EntryMissing => b"EntryMissing",
             Code::Workers => b"Workers",

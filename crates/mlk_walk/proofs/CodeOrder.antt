@@ -10,7 +10,7 @@ use denote.Enum.Declared.{tag_of}
 use Rattle.mlk_text.specs.contracts.code.Code.{the_type}
 use Rattle.mlk_text.specs.contracts.code.CodeOrd.TheImpl.{ghosts}
 use Rattle.mlk_text.specs.declared.code.Code.{Code}
-use Rattle.mlk_text.specs.declared.code.Code.TheVariants.{ExprForm, ExprLeftOut, ExprDeep, NameLong, Byte, LineForm, LabelTwice, LevelJump, UnknownCommand, CommandLeftOut, ArgumentForm, Spacing, BlockUnreached, TooLarge, RoutineName, RoutineTwice, UnknownLabel, Arity, TooMany, Toml, Key, Pattern, TemplateVariable, FamiliesMeet, RulesLimit, NotEnabled, BadChoice, UnknownJob, EventForm, Head, Form, Order, EntryTwice, CertLimit, NoEnd, CaseUnused, Unruled, Uncovered, ReadOnly, NotPrivate, Pinned, NotHeld, Unranked, RankOrder, HeldAtEnd, CaseNotListed, NeedMissing, SummaryShort, NoCertificate, SharedName, UnknownSubscript, FallsIntoFormals, TooManyCases, NameEscapes, DropsFrame, GaveUp, EntryMissing, Workers, GateShut}
+use Rattle.mlk_text.specs.declared.code.Code.TheVariants.{ExprForm, ExprLeftOut, ExprDeep, NameLong, Byte, LineForm, LabelTwice, LevelJump, UnknownCommand, CommandLeftOut, ArgumentForm, Spacing, BlockUnreached, TooLarge, RoutineName, RoutineTwice, UnknownLabel, Arity, TooMany, Toml, Key, Pattern, TemplateVariable, FamiliesMeet, RulesLimit, NotEnabled, BadChoice, UnknownJob, EventForm, Head, Form, Order, EntryTwice, CertLimit, NoEnd, CaseUnused, Unruled, Uncovered, ReadOnly, NotPrivate, Pinned, NotHeld, Unranked, RankOrder, HeldAtEnd, CaseNotListed, NeedMissing, SummaryShort, NoCertificate, SharedName, UnknownSubscript, FallsIntoFormals, TooManyCases, NameEscapes, DropsFrame, NotAtomic, GaveUp, EntryMissing, Workers, GateShut}
 use Rattle.mlk_text.specs.Codes.{number_of}
 
 -- the numbers of the codes, in their order
@@ -20,7 +20,7 @@ numbers = pos 101 ∷ pos 102 ∷ pos 103 ∷ pos 104 ∷ pos 201 ∷ pos 202 �
     pos 404 ∷ pos 405 ∷ pos 406 ∷ pos 501 ∷ pos 502 ∷ pos 503 ∷ pos 504 ∷ pos 601 ∷ pos 602 ∷ pos 603 ∷ pos 604 ∷
     pos 605 ∷ pos 606 ∷ pos 607 ∷ pos 701 ∷ pos 702 ∷ pos 703 ∷ pos 704 ∷ pos 705 ∷ pos 706 ∷ pos 707 ∷ pos 708 ∷
     pos 709 ∷ pos 710 ∷ pos 711 ∷ pos 712 ∷ pos 713 ∷ pos 714 ∷ pos 715 ∷ pos 716 ∷ pos 717 ∷ pos 718 ∷ pos 719 ∷
-    pos 801 ∷ pos 901 ∷ pos 902 ∷ pos 903 ∷ []
+    pos 720 ∷ pos 801 ∷ pos 901 ∷ pos 902 ∷ pos 903 ∷ []
 
 numbered : (c : Code) → get_or numbers (tag_of the_type c) (pos 0) ≡ pos (number_of c)
 numbered ExprForm = refl
@@ -78,6 +78,7 @@ numbered FallsIntoFormals = refl
 numbered TooManyCases = refl
 numbered NameEscapes = refl
 numbered DropsFrame = refl
+numbered NotAtomic = refl
 numbered GaveUp = refl
 numbered EntryMissing = refl
 numbered Workers = refl

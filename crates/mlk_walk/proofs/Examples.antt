@@ -96,7 +96,7 @@ cover pattern lock = record { pattern = pattern; lock = lock; also = None; reads
 
 abbrev pub rules_of : List Family → List Cover → List Pattern → List Pattern → List (List ℕ) → RuleLists
 rules_of families covers private readonly entries =
-    record { families = families; covers = covers; private = private; readonly = readonly; entries = entries }
+    record { families = families; covers = covers; private = private; readonly = readonly; atomic = []; entries = entries }
 
 abbrev row : ℕ → ℕ → ℕ → ℕ → Code → Row
 row routine entry number column code = record {

@@ -79,6 +79,7 @@ scope mods low drops = record {
     } ∷ [];
     private = [];
     readonly = record { global = codes "CODE"; elements = []; extent = extent.Tree } ∷ [];
+    atomic = [];
     entries = [];
   };
   blocks = (entry, record { entry = []; summary = summary_of_f; points = [] }) ∷ [];

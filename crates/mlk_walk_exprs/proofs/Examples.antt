@@ -46,6 +46,7 @@ scope = record {
     } ∷ [];
     private = [];
     readonly = [];
+    atomic = [];
     entries = [];
   };
   blocks = [];

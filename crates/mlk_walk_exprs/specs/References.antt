@@ -9,7 +9,7 @@ use Rattle.mlk_syntax.specs.declared.expr.Function.TheVariants as function
 use Rattle.mlk_names.specs.declared.symbol.Sym.{Sym}
 use Rattle.mlk_names.specs.declared.reference.Access.{Access}
 use Rattle.mlk_names.specs.declared.reference.Reference.{Reference}
-use Rattle.mlk_names.specs.declared.reference.Access.TheVariants.{Reads, Writes}
+use Rattle.mlk_names.specs.declared.reference.Access.TheVariants.{Reads, Increments}
 use Rattle.mlk_names.specs.declared.reference.Extent.{Extent}
 use Rattle.mlk_names.specs.declared.reference.Extent.TheVariants.{Node, Tree}
 use Rattle.mlk_rules.specs.Computed.{answer}
@@ -54,7 +54,7 @@ read_fault p ItsValue name subs s = checked p Node Reads name subs s
 read_fault p Below name subs s = checked p Tree Reads name subs s
 read_fault p Beside name subs s = checked p Tree Reads name (all_but_last subs) s
 read_fault p AllOfIt name subs s = checked p Tree Reads name [] s
-read_fault p Incremented name subs s = checked p Node Writes name subs s
+read_fault p Incremented name subs s = checked p Node Increments name subs s
 read_fault p Spelled name subs s = None
 
 -- A use or a touch with the subscripts that were captured last, which are removed.

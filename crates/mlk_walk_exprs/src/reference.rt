@@ -246,13 +246,13 @@ impl<'a> ReadLast<'a> {
         let subs = last_of(state, self.count);
         let node = self.touch(Extent::Node, Access::Reads);
         let tree = self.touch(Extent::Tree, Access::Reads);
-        let written = self.touch(Extent::Node, Access::Writes);
+        let incremented = self.touch(Extent::Node, Access::Increments);
         match self.how {
             Use::ItsValue => node.is_covered(self.spot, subs, state),
             Use::Below => tree.is_covered(self.spot, subs, state),
             Use::Beside => tree.is_covered(self.spot, all_but_last(subs), state),
             Use::AllOfIt => tree.is_covered(self.spot, &[], state),
-            Use::Incremented => written.is_covered(self.spot, subs, state),
+            Use::Incremented => incremented.is_covered(self.spot, subs, state),
             Use::Spelled => true,
         }
     }
@@ -264,13 +264,13 @@ impl<'a> ReadLast<'a> {
         let subs = last_of(state, self.count);
         let node = self.touch(Extent::Node, Access::Reads);
         let tree = self.touch(Extent::Tree, Access::Reads);
-        let written = self.touch(Extent::Node, Access::Writes);
+        let incremented = self.touch(Extent::Node, Access::Increments);
         match self.how {
             Use::ItsValue => node.fault(self.spot, subs, state),
             Use::Below => tree.fault(self.spot, subs, state),
             Use::Beside => tree.fault(self.spot, all_but_last(subs), state),
             Use::AllOfIt => tree.fault(self.spot, &[], state),
-            Use::Incremented => written.fault(self.spot, subs, state),
+            Use::Incremented => incremented.fault(self.spot, subs, state),
             Use::Spelled => Ok(None),
         }
     }

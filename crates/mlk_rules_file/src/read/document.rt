@@ -75,12 +75,14 @@ fn lists_of(alloc: Global, table: &Table) -> Result<RuleLists, Failure<RulesFaul
     let covers = covers_in(alloc, table)?;
     let private = patterns_in(alloc, Section::Private, table)?;
     let readonly = patterns_in(alloc, Section::Readonly, table)?;
+    let atomic = patterns_in(alloc, Section::Atomic, table)?;
     let entries = entries_in(alloc, table)?;
     Ok(RuleLists {
         families,
         covers,
         private,
         readonly,
+        atomic,
         entries,
     })
 }

@@ -17,6 +17,7 @@ pub enum Section {
     Cover,
     Private,
     Readonly,
+    Atomic,
     Entry,
 }
 
@@ -31,6 +32,7 @@ impl Section {
             Section::Cover => "cover",
             Section::Private => "private",
             Section::Readonly => "readonly",
+            Section::Atomic => "atomic",
             Section::Entry => "entry",
         }
     }

@@ -2,7 +2,7 @@
 
 ghost use Rattle.std.specs.Prelude.{◌≡◌};
 ghost use Rattle.mlk_rules_file.specs.RuleKinds.{is_long, is_long_second, is_node, is_literals, is_jobless};
-ghost use Rattle.mlk_rules_file.specs.RuleKinds.{has_one_job, is_item, has_variable, is_new, is_distinct, has_its_job};
+ghost use Rattle.mlk_rules_file.specs.RuleKinds.{has_one_job, is_item, has_variable, is_new, is_distinct, has_its_job, has_its_extent};
 ghost use Rattle.mlk_rules_file.specs.RuleKinds.{is_family_name, is_pattern, is_template, is_second_template};
 
 use crate::read::fault::Section;
@@ -131,6 +131,15 @@ fn has_its_job(section: Section, items: &[SpelledItem]) -> bool
     }
 }
 
+fn has_its_extent(section: Section, extent: Extent) -> bool
+    ensures { result ≡ has_its_extent section extent }
+{
+    match section {
+        Section::Atomic => is_node(extent),
+        _ => true,
+    }
+}
+
 /// Whether `s` is allowed as the name of a family.
 #[tactic(auto, unfolding(crate::specs::RuleKinds::is_family_name))]
 pub fn is_family_name(s: &Spelling) -> bool
@@ -144,7 +153,8 @@ pub fn is_family_name(s: &Spelling) -> bool
 pub fn is_pattern(section: Section, s: &Spelling) -> bool
     ensures { result ≡ is_pattern section s.now }
 {
-    has_its_job(section, s.items.as_slice()) && is_distinct(s.items.as_slice())
+    has_its_job(section, s.items.as_slice())
+        && (is_distinct(s.items.as_slice()) && has_its_extent(section, s.extent))
 }
 
 /// Whether `s` is allowed as the lock of a cover.

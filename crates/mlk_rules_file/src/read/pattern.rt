@@ -70,7 +70,7 @@ fn pattern_by(
     Ok(pattern(alloc, &s)?)
 }
 
-/// Reads the private or readonly pattern `element`, which has the index `index`.
+/// Reads the private, readonly or atomic pattern `element`, which has the index `index`.
 #[tactic(auto, unfolding(crate::specs::RuleSections::rule_pattern_of))]
 pub fn rule_pattern(
     alloc: Global,

@@ -94,7 +94,7 @@ pub fn covers(alloc: Global, values: &[Value]) -> Result<List<Cover>, Failure<Ru
     Ok(List::of(found))
 }
 
-/// Reads the private or readonly patterns of the section's elements.
+/// Reads the private, readonly or atomic patterns of the section's elements.
 pub fn patterns(
     alloc: Global,
     section: Section,

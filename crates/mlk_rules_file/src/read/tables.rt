@@ -19,12 +19,14 @@ fn is_key(section: Section, key: &str) -> bool
                 || key == "cover"
                 || key == "private"
                 || key == "readonly"
+                || key == "atomic"
                 || key == "entry"
         }
         Section::Lock => key == "name" || key == "rank",
         Section::Cover => key == "global" || key == "lock" || key == "also" || key == "reads",
         Section::Private => key == "global",
         Section::Readonly => key == "global",
+        Section::Atomic => key == "global",
         Section::Entry => key == "label",
     }
 }
