@@ -29,6 +29,7 @@ LOCKS = 'mlk_walk_commands/specs/Locks.antt'
 COMMANDS, ENDS, LOOPS = (f'mlk_walk_lines/specs/{name}.antt' for name in ('Commands', 'Endings', 'Loops'))
 VERDICTS = 'mlk_walk/specs/Verdicts.antt'
 LAWS_OF_RUNS = 'mlk_machine_laws/specs/Laws.antt'
+SEEN = 'mlk_machine_jobs/specs/Seen.antt'
 GRAMMAR = 'mlk_routine_arguments/specs/CommandGrammar.antt'
 WORDS, PLAIN = (f'{DIALECT}/specs/{name}.antt' for name in ('Words', 'Plain'))
 
@@ -57,6 +58,9 @@ CHANGED = {
     'order-reads-the-node-alone': (REFERENCES, 'use_of function.Order = Beside', 'use_of function.Order = ItsValue'),
     'query-reads-the-node-alone': (REFERENCES, 'use_of function.Query = AllOfIt', 'use_of function.Query = ItsValue'),
     'an-increment-reads-its-node': (REFERENCES, 'use_of function.Increment = Incremented', 'use_of function.Increment = ItsValue'),
+    'a-read-passes-as-an-increment': (
+        REFERENCES, 'read_fault p ItsValue name subs s = checked p Node Reads name subs s',
+        'read_fault p ItsValue name subs s = checked p Node Increments name subs s'),
     'merge-reads-nothing': (
         ARGUMENTS, 'touch_last p extent.Tree Reads caret name (count_subs subs) s', 'Goes (without_last (count_subs subs) s) ∷ []'),
     # Calls
@@ -96,6 +100,8 @@ CHANGED = {
     # The theorem
     'no-clash-though-rules-free-reads': (
         LAWS_OF_RUNS, '(clash : Clash i j) → OneReadsFreely rules clash.one clash.other', 'Clash i j → ⊥'),
+    'accesses-of-one-kind-clash': (
+        SEEN, 'pub incompatible : are_compatible one.access other.access ≡ false', 'pub incompatible : one.access ≡ other.access'),
     # Words beyond the subset
     'text-of-a-line-runs-into-the-next-line': (
         WORDS, 'is_line_byte b = is_name_byte b || (b == 37)', 'is_line_byte b = is_name_byte b || (b == 10) || (b == 37)'),

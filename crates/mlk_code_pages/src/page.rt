@@ -5,7 +5,7 @@ use crate::events::{BAD_CHOICE, EVENT_FORM, NOT_ENABLED, UNKNOWN_JOB};
 use crate::expressions::{EXPR_DEEP, EXPR_FORM, EXPR_LEFT_OUT, NAME_LONG};
 use crate::faults::{
     CASE_NOT_LISTED, DROPS_FRAME, FALLS_INTO_FORMALS, HELD_AT_END, NAME_ESCAPES, NEED_MISSING,
-    NO_CERTIFICATE, NOT_HELD, NOT_PRIVATE, PINNED, RANK_ORDER, READ_ONLY, SHARED_NAME,
+    NO_CERTIFICATE, NOT_ATOMIC, NOT_HELD, NOT_PRIVATE, PINNED, RANK_ORDER, READ_ONLY, SHARED_NAME,
     SUMMARY_SHORT, TOO_MANY_CASES, UNCOVERED, UNKNOWN_SUBSCRIPT, UNRANKED, UNRULED,
 };
 use crate::linking::{ARITY, ROUTINE_TWICE, TOO_MANY, UNKNOWN_LABEL};
@@ -36,7 +36,7 @@ pub struct Page {
 }
 
 /// All codes, in the order of their numbers.
-pub const CODES: [Code; 59] = [
+pub const CODES: [Code; 60] = [
     Code::ExprForm,
     Code::ExprLeftOut,
     Code::ExprDeep,

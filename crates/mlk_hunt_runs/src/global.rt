@@ -81,7 +81,7 @@ impl<'a> Interpreter<'a> {
         let place = Place::of(moment.alloc, root, touch.subs.as_slice())?;
         match touch.access {
             Access::Reads => Ok(Choice::Value(self.read_global(moment, place, globals)?)),
-            Access::Writes => {
+            Access::Writes | Access::Increments => {
                 self.write_global(moment, place, globals)?;
                 Ok(Choice::None)
             }

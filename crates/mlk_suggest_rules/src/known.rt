@@ -49,6 +49,7 @@ impl<'k> KnownRules<'k> {
         };
         have_global(lists.private.as_slice(), name)
             || have_global(lists.readonly.as_slice(), name)
+            || have_global(lists.atomic.as_slice(), name)
             || lists
                 .covers
                 .as_slice()

@@ -81,7 +81,7 @@ impl<'v> View<'v> {
     // Appends what a place does, and which lock is missing.
     fn push_missing_lock(&self, text: &mut Vec<u8>, suspect: &Suspect) -> Result<(), AllocError> {
         let does = match suspect.access {
-            Access::Writes => " writes ",
+            Access::Writes | Access::Increments => " writes ",
             Access::Reads => " reads ",
         };
         let Some(cover) = self.guess.covers.get(suspect.cover) else {

@@ -1,0 +1,4 @@
+DRAW(DESK) ; draws the next ticket of a desk
+ NEW N SET N=$INCREMENT(^TICKET(DESK))
+ IF N>999 SET ^TICKET(DESK)=0
+ SET ^CALL($JOB)=N QUIT
