@@ -215,11 +215,8 @@ pub fn origin_act_of(place: &FaultPlace<'_>) -> Phrase {
 /// What was about to happen at `place`.
 pub fn act_of(place: &FaultPlace<'_>) -> Phrase {
     match place.fault.code {
-        Code::Unruled
-        | Code::Uncovered
-        | Code::ReadOnly
-        | Code::NotPrivate
-        | Code::NotAtomic => touch_act(place),
+        Code::Unruled | Code::Uncovered | Code::ReadOnly | Code::NotPrivate | Code::NotAtomic =>
+            touch_act(place),
         Code::Pinned => change_act(place),
         Code::RankOrder => claim_act(place),
         Code::HeldAtEnd => end_act(place),

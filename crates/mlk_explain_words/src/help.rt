@@ -325,9 +325,9 @@ pub fn help_of(place: &FaultPlace<'_>, has_rule: bool) -> Phrase {
         Code::UnknownSubscript => unknown_help(place),
         Code::ReadOnly => &[Words("take the write away, or write elsewhere")],
         Code::NotPrivate => &[Words("name the job's own part, with $JOB at the place of $J")],
-        Code::NotAtomic => &[
-            Words("touch the counter by $INCREMENT alone, or protect it by a cover rule"),
-        ],
+        Code::NotAtomic => &[Words(
+            "touch the counter by $INCREMENT alone, or protect it by a cover rule",
+        )],
         Code::Unranked if place.is_ranked_by_constants() => {
             &[Words("write the lock's first subscripts as constants, as the lock rules have them")]
         }
