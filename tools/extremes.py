@@ -203,7 +203,8 @@ def rules(said, text, wanted=YES):
 
 def rule_files():
     for section, element in (('lock', 'name = "^A{}"\nrank = 1'), ('cover', 'global = "^A{}"\nlock = "^L"'),
-                             ('private', 'global = "^A{}($J)"'), ('readonly', 'global = "^A{}"'), ('entry', 'label = "^R"')):
+                             ('private', 'global = "^A{}($J)"'), ('readonly', 'global = "^A{}"'),
+                             ('atomic', 'global = "^A{}"'), ('entry', 'label = "^R"')):
         for count in 1024, 1025:
             text = ''.join(f'[[{section}]]\n{element.format(n)}\n' for n in range(count)).encode()
             wanted = YES if count == 1024 else refused(f'rules {section} 0 406 Limit')

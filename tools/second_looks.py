@@ -15,7 +15,7 @@ ENTRY = rf'(?:(?:{NAME}|[0-9]+)?\^{NAME})'
 CODED = r'(?P<code>\d{3}) (?P<name>\w+)'
 REFUSED = [re.compile(it) for it in (
     rf'refused \S* \d+:\d+ {CODED}(?: [A-Z]+)?\n',
-    rf'refused rules (?:file|lock|cover|private|readonly|entry) \d+ {CODED}\n',
+    rf'refused rules (?:file|lock|cover|private|readonly|atomic|entry) \d+ {CODED}\n',
     rf'refused (?:cert|line) \d+ {CODED}\n',
     rf'refused entry {ENTRY} {CODED}\n',
     rf'refused workers {CODED}\n',

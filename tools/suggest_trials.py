@@ -51,7 +51,7 @@ def pattern_shape(text):
 
 
 def rules_of(text):
-    """The rules of a file, without names of variables: covers, private, readonly."""
+    """The rules of a file, without names of variables: covers, private, readonly, atomic."""
     lists = tomllib.loads(text)
     found = set()
     for cover in lists.get('cover', []):
@@ -64,7 +64,7 @@ def rules_of(text):
                 locks.append(head + ('(' + re.sub(r'"(?:[^"]|"")*"|[A-Za-z%][A-Za-z0-9]*',
                                                   lambda it: it[0] if it[0].startswith('"') else names.get(it[0], it[0]), rest) if rest else ''))
         found.add(('cover', shape, *locks))
-    for key in ('private', 'readonly'):
+    for key in ('private', 'readonly', 'atomic'):
         for rule in lists.get(key, []):
             found.add((key, pattern_shape(rule['global'])[0]))
     return found, {it['name'] for it in lists.get('lock', [])}, {entry_name(it['label']) for it in lists.get('entry', [])}

@@ -18,9 +18,9 @@ use Rattle.mlk_walk_state.specs.Scope.{certified, declared, is_declared}
 use Rattle.mlk_soundness_machine.specs.Listed.{FactsSince}
 use Rattle.mlk_soundness_machine.specs.Moments.{AtEachMomentSince}
 
--- Jobs that run side by side are safe: if two of them are ready to touch references that overlap, one of which writes, the other
--- one reads, and each cover rule in which they meet frees reads; so if no rule frees reads, there are no such two. None that has
--- ended by itself holds a lock; and no set of them waits for each other's locks in a ring.
+-- Jobs that run side by side are safe: if two of them clash, that is, are ready to touch references that overlap and are not
+-- compatible, then one of them reads, and each cover rule in which they meet frees reads; so if no rule frees reads, there are no
+-- such two. None that has ended by itself holds a lock; and no set of them waits for each other's locks in a ring.
 pub record AreSafe (rules : RuleLists) (jobs : List Job) : Type 0 where
   pub clashes : (i j : Job) → Among i jobs → Among j jobs → (clash : Clash i j) → OneReadsFreely rules clash.one clash.other
   pub no_clash : FreesNoReads rules → (i j : Job) → Among i jobs → Among j jobs → Clash i j → ⊥

@@ -4,14 +4,14 @@ ghost use Rattle.mlk_machine_laws.specs.Laws.{ClashesAreFree, NoClash, NoRing, A
 ghost use Rattle.mlk_machine_laws.specs.Laws.{EachIsTidy, NewIsNew, KillIsExact, SharedByReference, OutsideIsKept};
 
 /// If each job by itself always holds locks that cover the reference at which it stands ready, then two jobs of a run stand ready
-/// at overlapping references, one of which is a write, only if the other is a read and each cover rule in which they meet makes
-/// reads free.
+/// at overlapping references that are not compatible only if one is a read and each cover rule in which they meet makes reads
+/// free.
 pub fn clashes_are_free()
     ensures { ClashesAreFree }
 {}
 
 /// If each job by itself always holds locks that cover the reference at which it stands ready, and no rule makes reads free, then
-/// no two jobs of a run ever stand ready at overlapping references, one of which is a write.
+/// no two jobs of a run ever stand ready at overlapping references that are not compatible.
 pub fn no_clash()
     ensures { NoClash }
 {}
