@@ -29,10 +29,11 @@ impl Access {
     pub fn is_compatible_with(self, other: Access) -> bool
         ensures { result ≡ are_compatible self other }
     {
-        matches!(
-            (self, other),
-            (Access::Reads, Access::Reads) | (Access::Increments, Access::Increments)
-        )
+        match self {
+            Access::Reads => matches!(other, Access::Reads),
+            Access::Writes => false,
+            Access::Increments => matches!(other, Access::Increments),
+        }
     }
 }
 

@@ -44,9 +44,9 @@ fn is_ruled(rules: &RuleLists, reference: &Lent<'_>) -> bool
     ensures { IsTrue result ↔ IsRuled rules.now reference.now }
 {
     some_cover_rules(rules.covers.as_slice(), reference)
-        || some_pattern_rules(rules.private.as_slice(), reference)
-        || some_pattern_rules(rules.readonly.as_slice(), reference)
-        || some_pattern_rules(rules.atomic.as_slice(), reference)
+        || (some_pattern_rules(rules.private.as_slice(), reference)
+            || (some_pattern_rules(rules.readonly.as_slice(), reference)
+                || some_pattern_rules(rules.atomic.as_slice(), reference)))
 }
 
 fn some_may_be_met(patterns: &[Pattern], reference: &Lent<'_>) -> bool
