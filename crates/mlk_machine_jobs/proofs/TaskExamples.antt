@@ -5,7 +5,7 @@ use Rattle.std.specs.Prelude.{codes, true, false}
 use Rattle.mlk_names.specs.References.{Touch}
 use Rattle.mlk_names.specs.declared.reference.Extent.{Extent}
 use Rattle.mlk_names.specs.declared.reference.Extent.TheVariants as extent
-use Rattle.mlk_names.specs.declared.reference.Access.TheVariants.{Reads}
+use Rattle.mlk_names.specs.declared.reference.Access.TheVariants.{Reads, Increments}
 use Rattle.mlk_machine_locks.specs.NameTests.{same_name, is_above}
 use Rattle.mlk_syntax.specs.declared.expr.Function.{Function}
 use Rattle.mlk_syntax.specs.declared.expr.Function.TheVariants as function
@@ -173,10 +173,11 @@ pub get_gives : played (asked_of function.Get a1) (chosen.Value (codes "9") ∷ 
 unfolding settled
 get_gives = refl
 
--- `$INCREMENT` writes it.
-pub increment_writes : played (asked_of function.Increment a1) [] ≡ writes_at (codes "1" ∷ [])
+-- `$INCREMENT` increments it.
+pub increment_touches : played (asked_of function.Increment a1) []
+    ≡ Ready (record { region = record { node = record { root = codes "A"; subs = codes "1" ∷ [] }; extent = extent.Node }; access = Increments })
 unfolding settled
-increment_writes = refl
+increment_touches = refl
 
 -- `$DATA` reads all below the node, `$QUERY` the whole global, `$NAME` nothing.
 pub data_reads : played (asked_of function.Data a1) [] ≡ reads (codes "1" ∷ []) extent.Tree

@@ -4,7 +4,7 @@ use Rattle.std.proofs.Common.{◌≡◌, List, [], ◌∷◌, ◌++◌, inl, inr
 use Rattle.std.specs.Prelude.{Some, None, codes, Contains}
 use Rattle.std.specs.List.{AllZip}
 use Rattle.std.proofs.lemmas.List.Elements.{Contains-push, Contains-push_cases}
-use Rattle.mlk_text.specs.declared.code.Code.TheVariants.{Uncovered}
+use Rattle.mlk_text.specs.declared.code.Code.TheVariants.{Uncovered, NotAtomic}
 use Rattle.mlk_text.specs.declared.root.Root.TheVariants.{Global}
 use Rattle.mlk_names.specs.declared.symbol.Sym.{Sym}
 use Rattle.mlk_names.specs.declared.symbol.Sym.TheVariants.{Const, Local, Unknown}
@@ -12,7 +12,7 @@ use Rattle.mlk_names.specs.declared.known_symbol.KnownSym.{KnownSym}
 use Rattle.mlk_names.specs.declared.known_symbol.KnownSym.TheVariants as known
 use Rattle.mlk_names.specs.declared.term.LockTerm.{LockTerm}
 use Rattle.mlk_names.specs.declared.reference.Extent.TheVariants.{Node, Tree}
-use Rattle.mlk_names.specs.declared.reference.Access.TheVariants.{Reads, Writes}
+use Rattle.mlk_names.specs.declared.reference.Access.TheVariants.{Reads, Writes, Increments}
 use Rattle.mlk_names.specs.declared.reference.Reference.{Reference}
 use Rattle.mlk_names.specs.Lists.{Begins}
 use Rattle.mlk_names.proofs.ListLemmas.{begins_past}
@@ -84,7 +84,7 @@ abbrev accounts : ReadPolicy → Cover
 accounts policy = record { pattern = below_an_account; lock = by_account; also = None; reads = policy }
 
 abbrev covered_by : List Cover → RuleLists
-covered_by covers = record { families = []; covers = covers; private = []; readonly = []; entries = [] }
+covered_by covers = record { families = []; covers = covers; private = []; readonly = []; atomic = []; entries = [] }
 
 abbrev read : List Sym → Reference
 read subs = record { root = codes "ACCT"; subs = subs; extent = Node; access = Reads }
@@ -102,6 +102,37 @@ no_free_write = refl
 pub locked_beside_free : answer (covered_by (accounts Free ∷ accounts Locked ∷ [])) [] (read (Local (codes "ID") ∷ [])) ≡ Some Uncovered
 unfolding answer
 locked_beside_free = refl
+
+-- a counter `^ACCT(id)`: an increment needs no lock, and a read is refused, as is a write under the lock that a cover asks for
+abbrev counted : List Cover → RuleLists
+counted covers = record {
+  families = [];
+  covers = covers;
+  private = [];
+  readonly = [];
+  atomic = record { global = codes "ACCT"; elements = Variable ∷ []; extent = Node } ∷ [];
+  entries = [];
+}
+
+abbrev incremented : List Sym → Reference
+incremented subs = record { root = codes "ACCT"; subs = subs; extent = Node; access = Increments }
+
+pub free_increment : answer (counted []) [] (incremented (Local (codes "ID") ∷ [])) ≡ None
+unfolding answer
+free_increment = refl
+
+pub no_read_of_a_counter : answer (counted []) [] (read (Local (codes "ID") ∷ [])) ≡ Some NotAtomic
+unfolding answer
+no_read_of_a_counter = refl
+
+pub no_write_of_a_counter : answer (counted (accounts Locked ∷ [])) (acct [] ∷ []) (written (Local (codes "ID") ∷ [])) ≡ Some NotAtomic
+unfolding answer
+no_write_of_a_counter = refl
+
+-- an increment needs the lock of a cover, also if that frees reads
+pub no_free_increment : answer (covered_by (accounts Free ∷ [])) [] (incremented (Local (codes "ID") ∷ [])) ≡ Some Uncovered
+unfolding answer
+no_free_increment = refl
 
 -- the tree of `^CONF` is surely above `^CONF(...)`
 pub conf_above : SurelyAbove (record { global = codes "CONF"; elements = []; extent = Tree }) (record { root = codes "CONF"; subs = []; extent = Tree; access = Reads })
