@@ -268,10 +268,10 @@ pub(crate) static NOT_ATOMIC: Page = Page {
     why: "The reference may meet an atomic rule: a counter that `$INCREMENT` alone \
         touches, without a lock. Any other touch may come between two increments, so a \
         SET or a KILL may lose one, and a value that is read may be out of date.",
-    mend: "Read the counter by `$INCREMENT(^SEQ(C),0)`, and change it by `$INCREMENT` \
-        with an amount. A KILL, MERGE, `$ORDER` or `$DATA` of a node above it meets it \
-        too. If it has to be reset, put a cover rule in place of the atomic one, and \
-        claim its lock for each touch, `$INCREMENT` too.",
-    before: " SET N=$GET(^SEQ(C))+1,^SEQ(C)=N",
-    after: " SET N=$INCREMENT(^SEQ(C))",
+    mend: "Read a counter by `$INCREMENT` with the amount 0, and change it by other \
+        amounts. A KILL, MERGE, `$ORDER` or `$DATA` of a node above it meets it too. If \
+        it has to be reset, put a cover rule in place of the atomic one, and claim its \
+        lock for each touch, `$INCREMENT` too.",
+    before: " IF N>999 SET ^TICKET(DESK)=0\n SET ^CALL($JOB)=N QUIT",
+    after: " SET ^CALL($JOB)=N#1000 QUIT",
 };
