@@ -29,7 +29,7 @@ pub enum Use {
     Beside,
     /// all of its global
     AllOfIt,
-    /// its node is written
+    /// its node is incremented
     Incremented,
     /// only its spelling
     Spelled,
