@@ -13,7 +13,7 @@ use Rattle.mlk_rules.specs.declared.template.Template.{Template}
 use Rattle.mlk_rules.specs.declared.cover.Cover.{Cover}
 use Rattle.mlk_rules.specs.declared.rules.RuleLists.{RuleLists}
 use Rattle.mlk_rules.specs.Patterns.{MayMeet, SurelyLies, SurelyAbove}
-use Rattle.mlk_rules.specs.Coverage.{OfCover, OfPrivate, IsRuled, cut_template, HoldsLock, second_of, locks_of, HoldLocks, Lacks, asked, AreMissing, AreLackingOf, AreLacking}
+use Rattle.mlk_rules.specs.Coverage.{OfCover, OfPrivate, OfReadonly, OfAtomic, IsRuled, cut_template, HoldsLock, second_of, locks_of, HoldLocks, Lacks, asked, AreMissing, AreLackingOf, AreLacking}
 use Rattle.mlk_rules.specs.Fronts.{Gained}
 use Rattle.mlk_rules.proofs.Computing.{in_front, in_rest, in_list}
 
@@ -49,6 +49,21 @@ module _ (rules : RuleLists) (r : Reference) where
 
   pub ruled_by_private : (p : Pattern) × Contains rules.private p × IsFor p → IsRuled rules r
   ruled_by_private (p, is, h) = (p, OfPrivate is, h)
+
+  pub ruled_by_readonly : (p : Pattern) × Contains rules.readonly p × IsFor p → IsRuled rules r
+  ruled_by_readonly (p, is, h) = (p, OfReadonly is, h)
+
+  pub ruled_by_atomic : (p : Pattern) × Contains rules.atomic p × IsFor p → IsRuled rules r
+  ruled_by_atomic (p, is, h) = (p, OfAtomic is, h)
+
+  -- if no other pattern is a rule for it, that of a counter is
+  pub ruled_at_last : ((c : Cover) × Contains rules.covers c × IsFor c.pattern → ⊥)
+      → ((p : Pattern) × Contains rules.private p × IsFor p → ⊥) → ((p : Pattern) × Contains rules.readonly p × IsFor p → ⊥)
+      → IsRuled rules r → (p : Pattern) × Contains rules.atomic p × IsFor p
+  ruled_at_last a b c (p, OfCover d is e, h) = let P : Pattern → Type 0 = λ q. IsFor q in absurd (a (d, is, subst P (sym e) h))
+  ruled_at_last a b c (p, OfPrivate is, h) = absurd (b (p, is, h))
+  ruled_at_last a b c (p, OfReadonly is, h) = absurd (c (p, is, h))
+  ruled_at_last a b c (p, OfAtomic is, h) = (p, is, h)
 
 -- an access that is not the one that patterns allow keeps them if it meets none
 pub keeps_only : (r : Reference) (a : Access) (patterns : List Pattern) (b : Bool) → (r.access ≡ a → ⊥)

@@ -40,6 +40,7 @@ fn some_pattern_rules(patterns: &[Pattern], reference: &Lent<'_>) -> bool
     false
 }
 
+#[tactic(auto, using(crate::proofs::CheckLemmas::ruled_by_cover, crate::proofs::CheckLemmas::ruled_by_private, crate::proofs::CheckLemmas::ruled_by_readonly, crate::proofs::CheckLemmas::ruled_by_atomic, crate::proofs::CheckLemmas::ruled_at_last))]
 fn is_ruled(rules: &RuleLists, reference: &Lent<'_>) -> bool
     ensures { IsTrue result ↔ IsRuled rules.now reference.now }
 {
