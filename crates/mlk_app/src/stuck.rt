@@ -84,8 +84,8 @@ fn explain_by_rules<R: Threads + Wait + Sync, W: Watch>(
     }
 }
 
-// The faults of these routines, in the `form` that is asked for.
-fn explain_routines<R: Threads + Wait + Sync, W: Watch>(
+// Links these routines, and explains the faults of the program.
+fn explain_linked<R: Threads + Wait + Sync, W: Watch>(
     runner: &Runner<'_, R, W>,
     routines: &[Routine],
     sources: &Sources<'_>,
@@ -94,6 +94,19 @@ fn explain_routines<R: Threads + Wait + Sync, W: Watch>(
     match none_if_refused(link(runner.alloc, routines))? {
         Some(program) => explain_by_rules(runner, &program, sources, form),
         None => Ok(None),
+    }
+}
+
+// The faults of these routines, in the `form` that is asked for. None are found if something is refused.
+fn explain_routines<R: Threads + Wait + Sync, W: Watch>(
+    runner: &Runner<'_, R, W>,
+    routines: &[Routine],
+    sources: &Sources<'_>,
+    form: ExplainedAs,
+) -> Result<ExplainedFaults, AllocError> {
+    match explain_linked(runner, routines, sources, form)? {
+        Some(faults) => Ok(faults),
+        None => Ok(ExplainedFaults::new(runner.alloc, form)),
     }
 }
 
@@ -109,9 +122,7 @@ pub(crate) fn push_faults<R: Threads + Wait + Sync, W: Watch>(
         return Ok(());
     };
     let form = ExplainedAs::Text;
-    let Some(faults) = explain_routines(runner, routines.as_slice(), sources, form)? else {
-        return Ok(());
-    };
+    let faults = explain_routines(runner, routines.as_slice(), sources, form)?;
     if !faults.rows().is_empty() {
         text.extend_from_slice(NOTE)?;
         text.extend_from_slice(faults.text())?;
@@ -147,11 +158,7 @@ fn render_despite<R: Threads + Wait + Sync, W: Watch>(
         return render_notice(alloc, notice, output);
     };
     let trees = routines.as_slice();
-    let form = ExplainedAs::Stories;
-    let faults = match explain_routines(runner, trees, sources, form)? {
-        Some(faults) => faults,
-        None => ExplainedFaults::new(alloc, form),
-    };
+    let faults = explain_routines(runner, trees, sources, ExplainedAs::Stories)?;
     let inputs = inputs_of(program, trees);
     render_given_up(alloc, notice, &inputs, &faults, output)
 }
